@@ -1,0 +1,61 @@
+-- Plain words that the other files use: some, all and how many of the numbers below n or of a list, the lowest one,
+-- and a set whose members are worked out once.
+use mathlib.Core.Bool.{Bool, true, false, _&&_, _||_, cond}
+use mathlib.Core.List.{List, [], _∷_}
+use Prim.Native.Nat.{ℕ, zero, suc, _+_}
+use lib.Dec.{eqb}
+use lib.ListN.{getD}
+
+-- a set of vertices: which numbers it holds
+abbrev pub Set : Type 0
+Set = ℕ → Bool
+
+-- some number below n passes the test
+unfoldable pub some : ℕ → (ℕ → Bool) → Bool
+some zero test = false
+some (suc n) test = some n test || test n
+
+-- every number below n passes the test
+unfoldable pub every : ℕ → (ℕ → Bool) → Bool
+every zero test = true
+every (suc n) test = every n test && test n
+
+-- how many numbers below n pass the test
+unfoldable pub count : ℕ → (ℕ → Bool) → ℕ
+count zero test = 0
+count (suc n) test = count n test + cond (test n) 1 0
+
+-- some entry of a list passes the test
+unfoldable pub someOf : List ℕ → (ℕ → Bool) → Bool
+someOf [] test = false
+someOf (x ∷ xs) test = test x || someOf xs test
+
+-- every entry of a list passes the test
+unfoldable pub everyOf : List ℕ → (ℕ → Bool) → Bool
+everyOf [] test = true
+everyOf (x ∷ xs) test = test x && everyOf xs test
+
+-- how often x stands in a list
+unfoldable pub times : ℕ → List ℕ → ℕ
+times x [] = 0
+times x (y ∷ ys) = cond (eqb x y) 1 0 + times x ys
+
+-- the lowest number below n that passes the test, or n where none does
+unfoldable pub lowest : ℕ → (ℕ → Bool) → ℕ
+lowest zero test = 0
+lowest (suc n) test = cond (some n test) (lowest n test) (cond (test n) n (suc n))
+
+-- the highest number below n that passes the test, or 0 where none does
+unfoldable pub highest : ℕ → (ℕ → Bool) → ℕ
+highest zero test = 0
+highest (suc n) test = cond (test n) n (highest n test)
+
+-- the tests of 0 to n - 1, written down in order
+unfoldable pub listed : ℕ → Set → List Bool
+listed zero S = []
+listed (suc n) S = S 0 ∷ listed n (λ k. S (suc k))
+
+-- the members of S below n, each worked out once: the same set where S has no member at n or above
+unfoldable pub within : ℕ → Set → Set
+unfolding listed
+within n S = let written = listed n S in λ v. getD written v false
