@@ -10,20 +10,20 @@ use Rattle.rules.specs.Counting.{times}
 pub data Player : Type 0 where
   Even Odd : Player
 
-unfoldable pub opponent : Player → Player
+abbrev pub opponent : Player → Player
 opponent Even = Odd
 opponent Odd = Even
 
 -- 0 is Even, anything else Odd
-unfoldable pub playerOf : ℕ → Player
+abbrev pub playerOf : ℕ → Player
 playerOf zero = Even
 playerOf (suc n) = Odd
 
 -- the player whose parity a priority has
-unfoldable pub parity : ℕ → Player
+abbrev pub parity : ℕ → Player
 parity p = playerOf (p % 2)
 
-unfoldable pub same : Player → Player → Bool
+abbrev pub same : Player → Player → Bool
 same Even Even = true
 same Even Odd = false
 same Odd Even = false

@@ -11,7 +11,7 @@ pub record Outcome : Type 0 where
   pub count : ℕ
 
 -- an answer has number 0 and place 0
-unfoldable pub answered : ℕ → Outcome
+abbrev pub answered : ℕ → Outcome
 answered k = record { number = 0; place = 0; count = k }
 
 -- a check that does not apply, or the number and place that it gives
@@ -21,12 +21,12 @@ pub data Verdict : Type 0 where
 
 infixr 20 _then_
 -- the first of the two that applies
-unfoldable pub _then_ : Verdict → Verdict → Verdict
+abbrev pub _then_ : Verdict → Verdict → Verdict
 _then_ none v = v
 _then_ (refused k p) v = refused k p
 
 -- number k at place p, given when the test holds
-unfoldable pub given : ℕ → ℕ → Bool → Verdict
+abbrev pub given : ℕ → ℕ → Bool → Verdict
 given k p test = cond test (refused k p) none
 
 -- number k at the lowest place below n where the test holds
@@ -34,6 +34,6 @@ unfoldable pub givenAt : ℕ → ℕ → (ℕ → Bool) → Verdict
 givenAt k n test = given k (lowest n test) (some n test)
 
 -- what a function gives: a refusal with count 0, or else its own outcome
-unfoldable pub outcome : Verdict → Outcome → Outcome
+abbrev pub outcome : Verdict → Outcome → Outcome
 outcome none o = o
 outcome (refused k p) o = record { number = k; place = p; count = 0 }
