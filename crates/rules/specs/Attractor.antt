@@ -1,13 +1,15 @@
 -- The attractor of T in V for player a: as the smallest set, by rounds that compute it, and by steps with their looks.
-use mathlib.Core.Bool.{Bool, true, false, _&&_, _||_, not, cond}
+use mathlib.Core.Bool.{true, false, _&&_, _||_, not, cond}
 use mathlib.Core.List.{List}
 use mathlib.Core.Path.{_≡_}
-use Prim.Native.Nat.{ℕ, zero, suc, _+_, _<_}
-use lib.Dec.{eqb}
-use lib.ListN.{length, getD}
-use Rattle.rules.specs.Counting.{Set, some, someOf, everyOf, times, count, within}
+use Prim.Native.Nat.{ℕ, zero, suc, _+_, _*_, _<_}
+use lib.Dec.{eqb, ltb}
+use lib.ListN.{length}
+use Rattle.rules.specs.Counting.{Set, someOf, everyOf, times, within}
 use Rattle.rules.specs.Game.{Player, Game, Edge, edges, same}
-use Rattle.rules.specs.Words.{noEntry, entry}
+use Rattle.rules.specs.Outcome.{Verdict, givenAt}
+use Rattle.rules.specs.Tables.{words}
+use Rattle.rules.specs.Words.{setOf, noEntry, entry}
 
 -- v may be drawn into S: an a-vertex of V with an edge into S, or another vertex of V that has an edge inside V and all such
 -- edges into S
@@ -115,3 +117,9 @@ pub record AttractorEntries (g : Game) (a : Player) (V' T S : Set) (strategy : L
       Edge g v (entry strategy v) × (S (entry strategy v) ≡ true)
   pub absent : (v : ℕ) → v < g .size → (S v ≡ true → T v ≡ false → g .owner v ≡ a → ⊥) → entry strategy v ≡ noEntry
   pub arrives : (v : ℕ) → v < g .size → S v ≡ true → Avoids g a V' T strategy (g .size) v → ⊥
+
+-- 12: a bit at n or above in V or target, or a target bit not in V, at the lowest such bit
+unfoldable pub check12 : ℕ → List ℕ → List ℕ → Verdict
+check12 n V' T =
+    givenAt 12 (64 * words n)
+    (λ b. cond (ltb b n) (setOf T b && not (setOf V' b)) (setOf V' b || setOf T b))

@@ -2,7 +2,7 @@
 -- and a set whose members are worked out once.
 use mathlib.Core.Bool.{Bool, true, false, _&&_, _||_, cond}
 use mathlib.Core.List.{List, [], _∷_}
-use Prim.Native.Nat.{ℕ, zero, suc, _+_}
+use Prim.Native.Nat.{ℕ, zero, suc, _+_, max}
 use lib.Dec.{eqb}
 use lib.ListN.{getD}
 
@@ -50,12 +50,22 @@ unfoldable pub highest : ℕ → (ℕ → Bool) → ℕ
 highest zero test = 0
 highest (suc n) test = cond (test n) n (highest n test)
 
--- the tests of 0 to n - 1, written down in order
-unfoldable pub listed : ℕ → Set → List Bool
-listed zero S = []
-listed (suc n) S = S 0 ∷ listed n (λ k. S (suc k))
+-- what f gives at 0 to n - 1, written down in order
+unfoldable pub listed : {A : Type 0} → ℕ → (ℕ → A) → List A
+listed zero f = []
+listed (suc n) f = f 0 ∷ listed n (λ k. f (suc k))
 
 -- the members of S below n, each worked out once: the same set where S has no member at n or above
 unfoldable pub within : ℕ → Set → Set
 unfolding listed
 within n S = let written = listed n S in λ v. getD written v false
+
+-- the numbers that f gives below n, each worked out once, and `otherwise` at n and above
+unfoldable pub noted : ℕ → ℕ → (ℕ → ℕ) → ℕ → ℕ
+unfolding listed
+noted otherwise n f = let written = listed n f in λ v. getD written v otherwise
+
+-- the greatest number that f gives to a member of S below n, or 0 where there is none
+unfoldable pub greatest : ℕ → Set → (ℕ → ℕ) → ℕ
+greatest zero S f = 0
+greatest (suc n) S f = max (greatest n S f) (cond (S n) (f n) 0)

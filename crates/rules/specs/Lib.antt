@@ -1,9 +1,14 @@
 -- The rules, a file for each section of document 01, in its order. A reader who believes these definitions
 -- can trust the rest to the prover.
 pub mod Counting
+pub mod Outcome
 pub mod Game
 pub mod Tables
 pub mod Words
-pub mod Outcome
 pub mod Winning
 pub mod Attractor
+pub mod Zielonka
+pub mod Promotion
+pub mod Solitaire
+pub mod Checker
+pub mod Compaction

@@ -1,8 +1,7 @@
 -- "Numbers given back": what every public function gives, and how refusals follow one another: the first that applies is given.
-use mathlib.Core.Bool.{Bool, true, false}
-use Prim.Native.Nat.{ℕ, _<_}
-use lib.Dec.{eqb}
-use mathlib.Core.Bool.{cond}
+use mathlib.Core.Bool.{Bool, cond}
+use Prim.Native.Nat.{ℕ}
+use lib.Dec.{ltb}
 use Rattle.rules.specs.Counting.{some, lowest}
 
 pub record Outcome : Type 0 where
@@ -37,3 +36,7 @@ givenAt k n test = given k (lowest n test) (some n test)
 abbrev pub outcome : Verdict → Outcome → Outcome
 outcome none o = o
 outcome (refused k p) o = record { number = k; place = p; count = 0 }
+
+-- 13: what the rules need is more than the budget; the count given is the budget. Else the answer's count is what was needed
+abbrev pub budgeted : ℕ → ℕ → Outcome
+budgeted budget needed = cond (ltb budget needed) (record { number = 13; place = 0; count = budget }) (answered needed)

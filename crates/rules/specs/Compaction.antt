@@ -1,0 +1,32 @@
+-- Compaction: the lowest priority used becomes 0 or 1 by its parity; each next different one becomes the last new number plus 1
+-- if parity differs, plus 2 if not.
+use mathlib.Core.Bool.{Bool, true, false, cond}
+use mathlib.Core.List.{List}
+use Prim.Native.Nat.{ℕ, zero, suc, _+_, _%_}
+use lib.Dec.{eqb}
+use lib.ListN.{length, getD}
+use Rattle.rules.specs.Counting.{Set, some}
+
+-- some vertex has this priority
+abbrev pub used : List ℕ → Set
+used priorities p = some (length priorities) (λ v. eqb (getD priorities v 0) p)
+
+-- the new number of the highest used priority so far, if there is one
+pub data Last : Type 0 where
+  nothing : Last
+  last : ℕ → Last
+
+-- the new number of priority p after that
+unfoldable pub nextNumber : Last → ℕ → ℕ
+nextNumber nothing p = p % 2
+nextNumber (last q) p = q + cond (eqb (q % 2) (p % 2)) 2 1
+
+-- the last new number given to a used priority below p
+unfoldable pub lastBelow : Set → ℕ → Last
+lastBelow isUsed zero = nothing
+lastBelow isUsed (suc p) =
+    let before = lastBelow isUsed p in cond (isUsed p) (last (nextNumber before p)) before
+
+-- the new number of a used priority
+unfoldable pub compacted : List ℕ → ℕ → ℕ
+compacted priorities p = nextNumber (lastBelow (used priorities) p) p

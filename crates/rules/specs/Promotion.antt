@@ -1,0 +1,118 @@
+-- Priority promotion: the round on regions, and how many rounds are needed.
+use mathlib.Core.Bool.{Bool, true, false, _&&_, _||_, not, cond}
+use Prim.Native.Nat.{ℕ, zero, suc}
+use lib.Dec.{eqb, ltb, leb}
+use Rattle.rules.specs.Counting.{Set, some, someOf, lowest, highest, greatest, within, noted}
+use Rattle.rules.specs.Game.{Player, Game, opponent, parity, same}
+use Rattle.rules.specs.Attractor.{attractor}
+use Rattle.rules.specs.Zielonka.{joined, nobody}
+
+-- the region of a solved vertex, outside 0..255
+abbrev pub solvedRegion : ℕ
+solvedRegion = 256
+
+pub record Regions : Type 0 where
+  pub region : ℕ → ℕ
+  -- p, the current priority
+  pub current : ℕ
+  pub won : Player → Set
+
+-- the vertices that are not solved
+abbrev pub unsolved : Game → (ℕ → ℕ) → Set
+unsolved g region v = ltb v (g .size) && ltb (region v) solvedRegion
+
+-- the highest region
+abbrev pub highestRegion : Game → (ℕ → ℕ) → ℕ
+highestRegion g region = greatest (g .size) (unsolved g region) region
+
+-- at first each vertex has its priority as region; p is the highest
+unfoldable pub atStart : Game → Regions
+atStart g =
+    record {
+      region = noted solvedRegion (g .size) (g .priority);
+      current = highestRegion g (noted solvedRegion (g .size) (g .priority));
+      won = λ a. nobody;
+    }
+
+-- R: the attractor, for p's player, of region p among unsolved vertices of region at most p
+unfoldable pub regionSet : Game → Regions → Set
+regionSet g s =
+    attractor g (parity (s .current))
+    (λ v. unsolved g (s .region) v && leb (s .region v) (s .current))
+    (λ v. unsolved g (s .region) v && eqb (s .region v) (s .current))
+
+-- an opponent vertex of R has an unsolved successor of region below p, or an own vertex none in R
+unfoldable pub isOpen : Game → Regions → Set → Bool
+isOpen g s R =
+    some (g .size)
+    (λ v.
+    R v &&
+    cond (same (g .owner v) (parity (s .current)))
+    (not (someOf (g .targets v) R))
+    (someOf (g .targets v) (λ w. unsolved g (s .region) w && not (R w) && ltb (s .region w) (s .current))))
+
+-- w is an unsolved successor, outside R, of an opponent vertex of R
+unfoldable pub wayOut : Game → Regions → Set → Set
+wayOut g s R w =
+    unsolved g (s .region) w &&
+    not (R w) &&
+    some (g .size) (λ v. R v && not (same (g .owner v) (parity (s .current))) && someOf (g .targets v) (eqb w))
+
+-- open: R gets region p, and p becomes the highest region present below p; if there is none, p stays
+unfoldable pub movedDown : Game → Regions → Set → Regions
+movedDown g s R =
+    let region = noted solvedRegion (g .size) (λ v. cond (R v) (s .current) (s .region v)) in
+    let below : Set = λ v. unsolved g region v && ltb (region v) (s .current) in
+    record {
+      region = region;
+      current = cond (some (g .size) below) (greatest (g .size) below region) (s .current);
+      won = s .won;
+    }
+
+-- a dominion: the attractor of R among all unsolved is won and solved; the others get their own priorities back; p is the
+-- highest region
+unfoldable pub dominionSolved : Game → Regions → Set → Regions
+dominionSolved g s R =
+    let a = parity (s .current) in
+    let D = attractor g a (unsolved g (s .region)) R in
+    let region = noted solvedRegion (g .size) (λ v. cond (unsolved g (s .region) v && not (D v)) (g .priority v) solvedRegion) in
+    record {
+      region = region;
+      current = highestRegion g region;
+      won = λ b. cond (same a b) (within (g .size) (joined (s .won b) D)) (s .won b);
+    }
+
+-- a promotion: q is the lowest region above p among the ways out. R gets region q, other regions below q go back to own
+-- priorities, p becomes q
+unfoldable pub promoted : Game → Regions → Set → Regions
+promoted g s R =
+    let q =
+    lowest solvedRegion (λ q. ltb (s .current) q && some (g .size) (λ w. wayOut g s R w && eqb (s .region w) q)) in
+    record {
+      region =
+          noted solvedRegion (g .size)
+          (λ v. cond (R v) q (cond (unsolved g (s .region) v && ltb (s .region v) q) (g .priority v) (s .region v)));
+      current = q;
+      won = s .won;
+    }
+
+-- one round
+unfoldable pub roundOf : Game → Regions → Regions
+roundOf g s =
+    let R = regionSet g s in
+    elim (isOpen g s R) [
+      | true ↦ movedDown g s R
+      | false ↦ elim (some (g .size) (wayOut g s R)) [ false ↦ dominionSolved g s R | true ↦ promoted g s R ]
+    ]
+
+-- the state after k rounds
+unfoldable pub afterRounds : Game → ℕ → Regions
+afterRounds g zero = atStart g
+afterRounds g (suc k) = roundOf g (afterRounds g k)
+
+unfoldable pub allSolved : Game → Regions → Bool
+allSolved g s = not (some (g .size) (unsolved g (s .region)))
+
+-- the rounds needed until all are solved, or one more than the budget where they are more than the budget
+unfoldable pub roundsNeeded : Game → ℕ → ℕ
+roundsNeeded g budget = lowest (suc budget) (λ k. allSolved g (afterRounds g k))
