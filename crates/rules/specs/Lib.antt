@@ -8,6 +8,7 @@ pub mod Words
 pub mod Winning
 pub mod Attractor
 pub mod Zielonka
+pub mod Budget
 pub mod Promotion
 pub mod Solitaire
 pub mod Checker
