@@ -4,11 +4,11 @@ use mathlib.Core.List.{List}
 use Prim.Native.Nat.{ℕ, suc, _*_}
 use lib.Dec.{eqb, ltb, leb}
 use Rattle.rules.specs.Counting.{Set, some, someOf, everyOf}
-use Rattle.rules.specs.Game.{Player, Even, Odd, Game, parity, same}
+use Rattle.rules.specs.Game.{Player, Even, Odd, Game, everywhere, parity, same}
 use Rattle.rules.specs.Outcome.{Verdict, givenAt, _then_}
 use Rattle.rules.specs.Tables.{words}
 use Rattle.rules.specs.Words.{setOf, noEntry, entry}
-use Rattle.rules.specs.Zielonka.{everywhere, highestIn}
+use Rattle.rules.specs.Zielonka.{highestIn}
 use Rattle.rules.specs.Solitaire.{Links, samePart, reached}
 
 -- 21: a vertex in both sets or neither, or a bit at n or above, at the lowest bit

@@ -1,6 +1,6 @@
 -- Plain words that the other files use: some, all and how many of the numbers below n or of a list, the lowest one,
 -- and a set whose members are worked out once.
-use mathlib.Core.Bool.{Bool, true, false, _&&_, _||_, cond}
+use mathlib.Core.Bool.{Bool, true, false, _&&_, _||_, not, cond}
 use mathlib.Core.List.{List, [], _∷_}
 use Prim.Native.Nat.{ℕ, zero, suc, _+_, max}
 use lib.Dec.{eqb}
@@ -9,6 +9,17 @@ use lib.ListN.{getD}
 -- a set of vertices: which numbers it holds
 abbrev pub Set : Type 0
 Set = ℕ → Bool
+
+abbrev pub nobody : Set
+nobody v = false
+
+-- the members of S that are not in T
+abbrev pub without : Set → Set → Set
+without S T v = S v && not (T v)
+
+-- the members of S and those of T
+abbrev pub union : Set → Set → Set
+union S T v = S v || T v
 
 -- some number below n passes the test
 unfoldable pub some : ℕ → (ℕ → Bool) → Bool

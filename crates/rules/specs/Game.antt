@@ -3,9 +3,9 @@
 use mathlib.Core.Bool.{Bool, true, false}
 use mathlib.Core.Path.{_≡_}
 use mathlib.Core.List.{List, List·Memᴰ}
-use Prim.Native.Nat.{ℕ, zero, suc, _+_, _%_, _<_}
-use lib.ListN.{length}
-use Rattle.rules.specs.Counting.{times}
+use Prim.Native.Nat.{ℕ, zero, suc, _%_, _<_}
+use lib.Dec.{ltb}
+use Rattle.rules.specs.Counting.{Set, times}
 
 pub data Player : Type 0 where
   Even Odd : Player
@@ -35,6 +35,10 @@ pub record Game : Type 0 where
   pub priority : ℕ → ℕ
   -- the targets of a vertex's edges, in order, one for each edge
   pub targets : ℕ → List ℕ
+
+-- all vertices of the game
+abbrev pub everywhere : Game → Set
+everywhere g v = ltb v (g .size)
 
 -- there is an edge from v to w
 abbrev pub Edge : Game → ℕ → ℕ → Type 0

@@ -2,10 +2,9 @@
 use mathlib.Core.Bool.{Bool, true, false, _&&_, _||_, not, cond}
 use Prim.Native.Nat.{ℕ, zero, suc}
 use lib.Dec.{eqb, ltb, leb}
-use Rattle.rules.specs.Counting.{Set, some, someOf, lowest, highest, greatest, within, noted}
-use Rattle.rules.specs.Game.{Player, Game, opponent, parity, same}
+use Rattle.rules.specs.Counting.{Set, nobody, union, some, someOf, lowest, greatest, within, noted}
+use Rattle.rules.specs.Game.{Player, Game, parity, same}
 use Rattle.rules.specs.Attractor.{attractor}
-use Rattle.rules.specs.Zielonka.{joined, nobody}
 
 -- the region of a solved vertex, outside 0..255
 abbrev pub solvedRegion : ℕ
@@ -79,7 +78,7 @@ dominionSolved g s R =
     record {
       region = region;
       current = highestRegion g region;
-      won = λ b. cond (same a b) (within (g .size) (joined (s .won b) D)) (s .won b);
+      won = λ b. cond (same a b) (within (g .size) (union (s .won b) D)) (s .won b);
     }
 
 -- a promotion: q is the lowest region above p among the ways out. R gets region q, other regions below q go back to own

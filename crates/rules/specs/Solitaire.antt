@@ -5,9 +5,9 @@ use Prim.Native.Nat.{ℕ, zero, suc}
 use lib.Dec.{eqb, ltb, leb}
 use lib.ListN.{getD}
 use Rattle.rules.specs.Counting.{Set, some, someOf, within}
-use Rattle.rules.specs.Game.{Player, Game, parity, same}
+use Rattle.rules.specs.Game.{Player, Game, everywhere, parity, same}
 use Rattle.rules.specs.Outcome.{Verdict, given}
-use Rattle.rules.specs.Zielonka.{everywhere, highestIn}
+use Rattle.rules.specs.Zielonka.{highestIn}
 
 -- 11: two owners differ
 unfoldable pub check11 : ℕ → List ℕ → Verdict

@@ -1,23 +1,10 @@
 -- Zielonka on V: the recursion on sets, with its calls, on empty sets as well.
-use mathlib.Core.Bool.{true, false, _&&_, _||_, not, cond}
+use mathlib.Core.Bool.{true, false, _&&_}
 use Prim.Native.Nat.{ℕ, zero, suc, _+_}
-use lib.Dec.{eqb, ltb}
-use Rattle.rules.specs.Counting.{Set, some, count, within, greatest}
-use Rattle.rules.specs.Game.{Player, Even, Odd, Game, opponent, parity}
+use lib.Dec.{eqb}
+use Rattle.rules.specs.Counting.{Set, nobody, without, union, some, count, within, greatest}
+use Rattle.rules.specs.Game.{Player, Even, Odd, Game, everywhere, opponent, parity}
 use Rattle.rules.specs.Attractor.{attractor}
-
--- all vertices of the game
-abbrev pub everywhere : Game → Set
-everywhere g v = ltb v (g .size)
-
-abbrev pub nobody : Set
-nobody v = false
-
-abbrev pub without : Set → Set → Set
-without S T v = S v && not (T v)
-
-abbrev pub joined : Set → Set → Set
-joined S T v = S v || T v
 
 -- the highest priority in V
 abbrev pub highestIn : Game → Set → ℕ
@@ -54,7 +41,7 @@ oneCall solve g V' =
           let B = attractor g b V' (first .won b) in
           let second = solve (within (g .size) (without V' B)) in
           record {
-            won = wonBy a (second .won a) (within (g .size) (joined B (second .won b)));
+            won = wonBy a (second .won a) (within (g .size) (union B (second .won b)));
             calls = 1 + first .calls + second .calls;
           }
     ]

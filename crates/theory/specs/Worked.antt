@@ -6,14 +6,14 @@ use mathlib.Core.Path.{_≡_, refl, subst}
 use Prim.Native.Nat.{ℕ, zero, suc, _+_, _≤_}
 use lib.Dec.{lit≤}
 use Rattle.rules.specs.Counting.{some, every, count, someOf, everyOf, times, lowest, highest, listed, within, noted, greatest}
-use Rattle.rules.specs.Game.{Player, Even, Odd, Game, edges, parity}
+use Rattle.rules.specs.Game.{Player, Even, Odd, Game, everywhere, edges, parity}
 use Rattle.rules.specs.Outcome.{none, givenAt}
-use Rattle.rules.specs.Tables.{Tables, gameOf, degree, targetsOf, Accepted, tableChecks, vertices}
+use Rattle.rules.specs.Tables.{Tables, gameOf, degree, targetsOf, Accepted, tableChecks}
 use Rattle.rules.specs.Tables.{check1, check2, check3, check4, check5, check6, check7, check8}
 use Rattle.rules.specs.Winning.{WinningEntries}
 use Rattle.rules.specs.Words.{noEntry, entry}
 use Rattle.rules.specs.Attractor.{drawn, grown, attractor, indegree, looksOf}
-use Rattle.rules.specs.Zielonka.{everywhere, withPriority, highestIn, oneCall, callOn, zielonkaOn, zielonka}
+use Rattle.rules.specs.Zielonka.{withPriority, highestIn, oneCall, callOn, zielonkaOn, zielonka}
 use Rattle.rules.specs.Budget.{choose, chooseUpTo, callBound, differentPriorities}
 use Rattle.rules.specs.Promotion.{atStart, regionSet, isOpen, wayOut, movedDown, dominionSolved, promoted}
 use Rattle.rules.specs.Promotion.{roundOf, afterRounds, allSolved, roundsNeeded}

@@ -1,0 +1,180 @@
+// The checks 1 to 10 in document 01's order, each its own function. None writes anything.
+use crate::answer::Answer;
+use crate::player::VertexIndex;
+ghost use mathlib.Core.Path.{_≡_};
+ghost use mathlib.Core.List.{_∷_, []};
+ghost use Prim.Native.Nat.{_+_, _≤_};
+ghost use lib.ListN.{length};
+ghost use Rattle.rules.specs.Tables.{words, workWords, check1, check2, check3, check4, check5, check6, check7, check8, check9, check10, tableChecks};
+ghost use Rattle.rules.specs.Outcome.{outcome, answered, _then_};
+ghost use Rattle.parity_game.specs.Said.{said};
+
+// 1 to 3: the sizes.
+fn check_lengths(n: usize, priorities: usize, offsets: usize, m: usize) -> Answer
+    ensures { λ r. ⌜ said r ≡ outcome (check1 n then check2 n priorities offsets then check3 m) (answered 0) ⌝ }
+{
+    if 4096 < n {
+        return Answer::TooManyVertices;
+    }
+    if priorities != n || offsets != n + 1 {
+        return Answer::WrongLengths;
+    }
+    if 16384 < m {
+        return Answer::TooManyEdges;
+    }
+    Answer::Answered(0)
+}
+
+// 4: every owner is 0 or 1.
+fn check_owners(owners: &[u8]) -> Answer
+    ensures { λ r. ⌜ said r ≡ outcome (check4 (length (now (owners .entry))) (now (owners .entry))) (answered 0) ⌝ }
+{
+    for v in 0..owners.len() {
+        if 1 < owners[v] {
+            return Answer::NoOwner(VertexIndex(v));
+        }
+    }
+    Answer::Answered(0)
+}
+
+// 5: no priority is above 255.
+fn check_priorities(priorities: &[u16]) -> Answer
+    ensures { λ r. ⌜ said r ≡ outcome (check5 (length (now (priorities .entry))) (now (priorities .entry))) (answered 0) ⌝ }
+{
+    for v in 0..priorities.len() {
+        if 255 < priorities[v] {
+            return Answer::PriorityTooHigh(VertexIndex(v));
+        }
+    }
+    Answer::Answered(0)
+}
+
+// 6: the offsets begin at 0, never fall and end at m.
+fn check_offsets(offsets: &[u16], n: usize, m: usize) -> Answer
+    requires { ⌜ length (now offsets) ≡ n + 1 ⌝ }
+    ensures { λ r. ⌜ said r ≡ outcome (check6 n m (now (offsets .entry))) (answered 0) ⌝ }
+{
+    if offsets[0] != 0 {
+        return Answer::WrongOffset(0);
+    }
+    for i in 0..n {
+        if offsets[i + 1] < offsets[i] {
+            return Answer::WrongOffset(i);
+        }
+    }
+    if offsets[n] as usize != m {
+        return Answer::WrongOffset(n);
+    }
+    Answer::Answered(0)
+}
+
+// 7: every target is a vertex.
+fn check_targets(targets: &[u16], n: usize) -> Answer
+    ensures { λ r. ⌜ said r ≡ outcome (check7 n (length (now (targets .entry))) (now (targets .entry))) (answered 0) ⌝ }
+{
+    for e in 0..targets.len() {
+        if n <= targets[e] as usize {
+            return Answer::NoTarget(e);
+        }
+    }
+    Answer::Answered(0)
+}
+
+// 8: every vertex has an edge. The first edge of a vertex decides.
+fn is_total(offsets: &[u16], n: usize) -> Answer
+    requires { ⌜ length (now offsets) ≡ n + 1 ⌝ }
+    ensures { λ r. ⌜ said r ≡ outcome (check8 n (now (offsets .entry))) (answered 0) ⌝ }
+{
+    'vertices: for v in 0..n {
+        for _e in offsets[v]..offsets[v + 1] {
+            continue 'vertices;
+        }
+        return Answer::DeadEnd(VertexIndex(v));
+    }
+    Answer::Answered(0)
+}
+
+// 1 to 8, for any four slices whatever they hold.
+pub fn check_tables(owners: &[u8], priorities: &[u16], offsets: &[u16], targets: &[u16]) -> Answer
+    ensures { λ r.
+        ⌜ said r
+        ≡ outcome
+        (tableChecks
+        (record {
+          owners = now (owners .entry);
+          priorities = now (priorities .entry);
+          offsets = now (offsets .entry);
+          targets = now (targets .entry);
+        }))
+        (answered 0) ⌝ }
+{
+    let n = owners.len();
+    let m = targets.len();
+    let r = check_lengths(n, priorities.len(), offsets.len(), m);
+    let Answer::Answered(_) = r else {
+        return r;
+    };
+    let r = check_owners(owners);
+    let Answer::Answered(_) = r else {
+        return r;
+    };
+    let r = check_priorities(priorities);
+    let Answer::Answered(_) = r else {
+        return r;
+    };
+    let r = check_offsets(offsets, n, m);
+    let Answer::Answered(_) = r else {
+        return r;
+    };
+    let r = check_targets(targets, n);
+    let Answer::Answered(_) = r else {
+        return r;
+    };
+    is_total(offsets, n)
+}
+
+// s: the words of a set of n vertices.
+pub fn set_words(n: usize) -> usize
+    ensures { λ r. ⌜ r ≡ words n ⌝ }
+{
+    n / 64 + (n % 64 + 63) / 64
+}
+
+// W: the words of the work area.
+pub fn work_words(n: usize, m: usize) -> usize
+    requires { ⌜ (n ≤ 4096) × (m ≤ 16384) ⌝ }
+    ensures { λ r. ⌜ r ≡ workWords n m ⌝ }
+{
+    8 * (n + 2) * set_words(n) + 4 * n + 2 * m + 272
+}
+
+// 9 for one set.
+pub fn check_set(n: usize, set: usize) -> Answer
+    ensures { λ r. ⌜ said r ≡ outcome (check9 n (set ∷ []) []) (answered 0) ⌝ }
+{
+    if set != set_words(n) {
+        return Answer::WrongSizes;
+    }
+    Answer::Answered(0)
+}
+
+// 9 for one strategy or new priority table.
+pub fn check_table(n: usize, table: usize) -> Answer
+    ensures { λ r. ⌜ said r ≡ outcome (check9 n [] (table ∷ [])) (answered 0) ⌝ }
+{
+    if table != n {
+        return Answer::WrongSizes;
+    }
+    Answer::Answered(0)
+}
+
+// 10.
+pub fn check_work(n: usize, m: usize, work: usize) -> Answer
+    requires { ⌜ (n ≤ 4096) × (m ≤ 16384) ⌝ }
+    ensures { λ r. ⌜ said r ≡ outcome (check10 n m work) (answered 0) ⌝ }
+{
+    if work < work_words(n, m) {
+        return Answer::ShortWork;
+    }
+    Answer::Answered(0)
+}

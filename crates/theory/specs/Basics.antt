@@ -1,0 +1,584 @@
+-- Laws of the plain words of the rules, each once: tests and players, some, every and count below n, some, every and times in a
+-- list, lowest and highest, a set worked out once, and the pigeonhole.
+use mathlib.Core.Bool.{Bool, true, false, _&&_, _||_, not, cond, true≢false, and-true}
+use mathlib.Core.List.{List, [], _∷_, List·Memᴰ, List·Memᴰ·head, List·Memᴰ·tail, Memᴰ·cast}
+use mathlib.Core.Logic.{_⊎_, inl, inr, ⊎-elim}
+use mathlib.Core.Path.{_≡_, refl, sym, ap, ap₂, _∙_}
+use Prim.Native.Nat.{ℕ, zero, suc, _+_, _≤_, _<_, zero-le, suc-le-suc}
+use native.Mathlib.Nat.{not-suc-le-zero, le-of-suc-le-suc, eq-or-lt-of-le, le-refl, le-step, lt-irrefl, eq-zero-or-pos}
+use native.Mathlib.Nat.{add-le-add, add-lt-add-of-lt-of-le, le-of-lt, le-of-eq, le-antisymm, not-le-of-lt}
+use native.Mathlib.Omega.{arith}
+use borrow.Author.Tests.{eqb-true, eqb-false, eq-eqb, ltb-true, ltb-false, not-true}
+use lib.Dec.{eqb, ltb}
+use lib.ListN.{getD, length, List·getD-eq-default}
+use Rattle.rules.specs.Counting.{Set, some, every, count, someOf, everyOf, times, lowest, highest, listed, within, without, union}
+use Rattle.rules.specs.Game.{Player, Even, Odd, opponent, same}
+
+-- a test is true or false, with its equation
+pub bool-cases : (b : Bool) → (b ≡ true) ⊎ (b ≡ false)
+bool-cases true = inl refl
+bool-cases false = inr refl
+
+-- a test is not both true and false
+pub clash : {b : Bool} → b ≡ true → b ≡ false → ⊥
+clash t f = true≢false (sym t ∙ f)
+
+pub not-true-is-false : (b : Bool) → (b ≡ true → ⊥) → b ≡ false
+not-true-is-false true n = absurd (n refl)
+not-true-is-false false n = refl
+
+pub not-false-is-true : (b : Bool) → (b ≡ false → ⊥) → b ≡ true
+not-false-is-true true n = refl
+not-false-is-true false n = absurd (n refl)
+
+-- two tests that follow from one another are the same
+pub bool-ext : (b c : Bool) → (b ≡ true → c ≡ true) → (c ≡ true → b ≡ true) → b ≡ c
+bool-ext true c to from = sym (to refl)
+bool-ext false true to from = from refl
+bool-ext false false to from = refl
+
+-- b && c is true when both are
+pub and-intro : {b c : Bool} → b ≡ true → c ≡ true → (b && c) ≡ true
+and-intro {b} {c} p q = rw (p, q)
+
+pub and-left : (b c : Bool) → (b && c) ≡ true → b ≡ true
+and-left true c h = refl
+and-left false c h = h
+
+pub and-right : (b c : Bool) → (b && c) ≡ true → c ≡ true
+and-right true c h = h
+and-right false c h = absurd (true≢false (sym h))
+
+-- b || c is true when one is
+pub or-left : (b c : Bool) → b ≡ true → (b || c) ≡ true
+or-left b c p = rw p
+
+pub or-right : (b c : Bool) → c ≡ true → (b || c) ≡ true
+or-right true c p = refl
+or-right false c p = p
+
+-- a && that fails, and a || that fails
+pub and-false-cases : (b c : Bool) → (b && c) ≡ false → (b ≡ false) ⊎ (c ≡ false)
+and-false-cases true c h = inr h
+and-false-cases false c h = inl refl
+
+pub or-false-both : (b c : Bool) → (b || c) ≡ false → (b ≡ false) × (c ≡ false)
+or-false-both true c h = absurd (true≢false h)
+or-false-both false c h = (refl, h)
+
+pub or-cases : (b c : Bool) → (b || c) ≡ true → (b ≡ true) ⊎ (c ≡ true)
+or-cases true c h = inl refl
+or-cases false c h = inr h
+
+-- sets
+
+-- S is a part of T
+abbrev pub Subset : Set → Set → Type 0
+Subset S T = (v : ℕ) → S v ≡ true → T v ≡ true
+
+pub without-intro : (S X : Set) (v : ℕ) → S v ≡ true → X v ≡ false → without S X v ≡ true
+without-intro S X v p q = rw (p, q)
+
+pub without-left : (S X : Set) (v : ℕ) → without S X v ≡ true → S v ≡ true
+without-left S X v p = and-left (S v) (not (X v)) p
+
+pub without-right : (S X : Set) (v : ℕ) → without S X v ≡ true → X v ≡ false
+without-right S X v p = not-true (X v) (and-right (S v) (not (X v)) p)
+
+pub union-left : (S T : Set) → Subset S (union S T)
+union-left S T v p = or-left (S v) (T v) p
+
+pub union-right : (S T : Set) → Subset T (union S T)
+union-right S T v p = or-right (S v) (T v) p
+
+pub union-cases : (S T : Set) (v : ℕ) → union S T v ≡ true → (S v ≡ true) ⊎ (T v ≡ true)
+union-cases S T v p = or-cases (S v) (T v) p
+
+-- a member of one or the other that is not in the first is in the second
+pub union-rest : (S T : Set) (v : ℕ) → union S T v ≡ true → S v ≡ false → T v ≡ true
+union-rest S T v p out = rw out at p
+
+pub union-without : (S T : Set) (v : ℕ) → union S (without T S) v ≡ union S T v
+union-without S T v = ⊎-elim (λ p. rw p) (λ p. rw p (and-true (T v))) (bool-cases (S v))
+
+-- a set adds nothing to a larger one
+pub union-absorbs : (S T : Set) → Subset S T → (v : ℕ) → union S T v ≡ T v
+union-absorbs S T sub v = ⊎-elim (λ p. rw p (sym (sub v p))) (λ p. rw p) (bool-cases (S v))
+
+-- players
+
+pub opponent-twice : (a : Player) → opponent (opponent a) ≡ a
+opponent-twice Even = refl
+opponent-twice Odd = refl
+
+pub opponent-differs : (a : Player) → a ≡ opponent a → ⊥
+opponent-differs Even e = let z : _≡_ {A = ℕ} 0 1 = cc in omega arith
+opponent-differs Odd e = let z : _≡_ {A = ℕ} 0 1 = cc in omega arith
+
+-- a player is a or a's opponent
+pub player-cases : (a b : Player) → (b ≡ a) ⊎ (b ≡ opponent a)
+player-cases Even Even = inl refl
+player-cases Even Odd = inr refl
+player-cases Odd Even = inr refl
+player-cases Odd Odd = inl refl
+
+-- a player who is not a is a's opponent, and the other way
+pub other-player : (a b : Player) → (b ≡ a → ⊥) → b ≡ opponent a
+other-player Even Even n = absurd (n refl)
+other-player Even Odd n = refl
+other-player Odd Even n = refl
+other-player Odd Odd n = absurd (n refl)
+
+pub opponent-is-other : {a b : Player} → b ≡ opponent a → b ≡ a → ⊥
+opponent-is-other {a} {b} p q = opponent-differs a (sym q ∙ p)
+
+pub player-decided : (a b : Player) → Dec (a ≡ b)
+player-decided Even Even = yes refl
+player-decided Even Odd = no (λ e. opponent-differs Even e)
+player-decided Odd Even = no (λ e. opponent-differs Odd e)
+player-decided Odd Odd = yes refl
+
+pub same-true : (a b : Player) → same a b ≡ true → a ≡ b
+same-true Even Even h = refl
+same-true Even Odd h = absurd (true≢false (sym h))
+same-true Odd Even h = absurd (true≢false (sym h))
+same-true Odd Odd h = refl
+
+pub true-same : (a b : Player) → a ≡ b → same a b ≡ true
+true-same Even Even e = refl
+true-same Even Odd e = absurd (opponent-differs Even e)
+true-same Odd Even e = absurd (opponent-differs Odd e)
+true-same Odd Odd e = refl
+
+pub same-false : (a b : Player) → same a b ≡ false → a ≡ b → ⊥
+same-false a b h e = clash (true-same a b e) h
+
+pub false-same : (a b : Player) → (a ≡ b → ⊥) → same a b ≡ false
+false-same a b n = not-true-is-false (same a b) (λ h. n (same-true a b h))
+
+-- numbers below n
+
+-- a number below n + 1 is n or below n
+pub below-suc : {v n : ℕ} → v < suc n → (v ≡ n) ⊎ (v < n)
+below-suc h = eq-or-lt-of-le (le-of-suc-le-suc h)
+
+-- any two numbers stand in one order or the other
+pub lt-or-ge : (m n : ℕ) → (m < n) ⊎ (n ≤ m)
+lt-or-ge m n = ⊎-elim (λ p. inl (ltb-true m n p)) (λ p. inr (ltb-false m n p)) (bool-cases (ltb m n))
+
+pub le-or-ge : (m n : ℕ) → (m ≤ n) ⊎ (n ≤ m)
+le-or-ge m n = ⊎-elim (λ l. inl (le-of-lt l)) (λ l. inr l) (lt-or-ge m n)
+
+pub le-of-not-lt : {m n : ℕ} → (n < m → ⊥) → m ≤ n
+le-of-not-lt {m} {n} h = ⊎-elim (λ l. absurd (h l)) (λ l. l) (lt-or-ge n m)
+
+-- some number below n passes the test: one that does
+pub some-intro : (n : ℕ) (test : Set) (v : ℕ) → v < n → test v ≡ true → some n test ≡ true
+unfolding some
+some-intro zero test v h p = absurd (not-suc-le-zero h)
+some-intro (suc n) test v h p =
+    ⊎-elim
+    (λ e. or-right (some n test) (test n) (ap test (sym e) ∙ p))
+    (λ l. or-left (some n test) (test n) (some-intro n test v l p))
+    (below-suc h)
+
+pub some-elim : (n : ℕ) (test : Set) → some n test ≡ true → (v : ℕ) × (v < n) × (test v ≡ true)
+unfolding some
+some-elim zero test p = absurd (true≢false (sym p))
+some-elim (suc n) test p =
+    ⊎-elim
+    (λ q. let (v, l, t) = some-elim n test q in (v, le-step l, t))
+    (λ q. (n, le-refl (suc n), q))
+    (or-cases (some n test) (test n) p)
+
+pub some-false : (n : ℕ) (test : Set) → some n test ≡ false → (v : ℕ) → v < n → test v ≡ false
+some-false n test p v l = not-true-is-false (test v) (λ q. clash (some-intro n test v l q) p)
+
+pub false-some : (n : ℕ) (test : Set) → ((v : ℕ) → v < n → test v ≡ false) → some n test ≡ false
+false-some n test none =
+    not-true-is-false (some n test) (λ p. let (v, l, q) = some-elim n test p in clash q (none v l))
+
+pub some-cong : (n : ℕ) (S T : Set) → ((v : ℕ) → v < n → S v ≡ T v) → some n S ≡ some n T
+unfolding some
+some-cong zero S T same-at = refl
+some-cong (suc n) S T same-at =
+    ap₂ (λ (b c : Bool). b || c) (some-cong n S T (λ v l. same-at v (le-step l))) (same-at n (le-refl (suc n)))
+
+-- every number below n passes the test
+pub every-intro : (n : ℕ) (test : Set) → ((v : ℕ) → v < n → test v ≡ true) → every n test ≡ true
+unfolding every
+every-intro zero test all = refl
+every-intro (suc n) test all = and-intro (every-intro n test (λ v l. all v (le-step l))) (all n (le-refl (suc n)))
+
+pub every-elim : (n : ℕ) (test : Set) → every n test ≡ true → (v : ℕ) → v < n → test v ≡ true
+unfolding every
+every-elim zero test p v l = absurd (not-suc-le-zero l)
+every-elim (suc n) test p v l =
+    ⊎-elim
+    (λ e. ap test e ∙ and-right (every n test) (test n) p)
+    (λ k. every-elim n test (and-left (every n test) (test n) p) v k)
+    (below-suc l)
+
+-- not every number passes: one that does not
+pub every-false : (n : ℕ) (test : Set) → every n test ≡ false → (v : ℕ) × (v < n) × (test v ≡ false)
+unfolding every
+every-false zero test p = absurd (true≢false p)
+every-false (suc n) test p =
+    ⊎-elim
+    (λ q. let (v, l, t) = every-false n test q in (v, le-step l, t))
+    (λ q. (n, le-refl (suc n), q))
+    (and-false-cases (every n test) (test n) p)
+
+pub every-cong : (n : ℕ) (S T : Set) → ((v : ℕ) → v < n → S v ≡ T v) → every n S ≡ every n T
+unfolding every
+every-cong zero S T same-at = refl
+every-cong (suc n) S T same-at =
+    ap₂ (λ (b c : Bool). b && c) (every-cong n S T (λ v l. same-at v (le-step l))) (same-at n (le-refl (suc n)))
+
+-- how many numbers below n pass
+
+pub count-cong : (n : ℕ) (S T : Set) → ((v : ℕ) → v < n → S v ≡ T v) → count n S ≡ count n T
+unfolding count
+count-cong zero S T same-at = refl
+count-cong (suc n) S T same-at =
+    ap₂
+    (λ (k : ℕ) (b : Bool). k + cond b 1 0)
+    (count-cong n S T (λ v l. same-at v (le-step l)))
+    (same-at n (le-refl (suc n)))
+
+-- one for a test that passes, none for one that fails
+one-mono : (b c : Bool) → (b ≡ true → c ≡ true) → cond b 1 0 ≤ cond c 1 0
+one-mono true c to = rw (to refl) (le-refl 1)
+one-mono false c to = zero-le
+
+-- a subset has no more members
+pub count-mono : (n : ℕ) (S T : Set) → ((v : ℕ) → v < n → S v ≡ true → T v ≡ true) → count n S ≤ count n T
+unfolding count
+count-mono zero S T sub = le-refl 0
+count-mono (suc n) S T sub =
+    add-le-add (count-mono n S T (λ v l. sub v (le-step l))) (one-mono (S n) (T n) (sub n (le-refl (suc n))))
+
+-- a subset that lacks a member has fewer
+pub count-strict :
+    (n : ℕ) (S T : Set) →
+    ((v : ℕ) → v < n → S v ≡ true → T v ≡ true) →
+    (v : ℕ) → v < n → S v ≡ false → T v ≡ true → count n S < count n T
+unfolding count
+count-strict zero S T sub v l out within-T = absurd (not-suc-le-zero l)
+count-strict (suc n) S T sub v l out within-T =
+    ⊎-elim
+    (λ e.
+    let less : count n S ≤ count n T = count-mono n S T (λ u k. sub u (le-step k)) in
+    let none : S n ≡ false = ap S (sym e) ∙ out in
+    let here : T n ≡ true = ap T (sym e) ∙ within-T in
+    rw (none, here) (omega arith))
+    (λ k.
+    add-lt-add-of-lt-of-le
+    (count-strict n S T (λ u j. sub u (le-step j)) v k out within-T)
+    (one-mono (S n) (T n) (sub n (le-refl (suc n)))))
+    (below-suc l)
+
+pub count-le : (n : ℕ) (S : Set) → count n S ≤ n
+unfolding count
+count-le zero S = le-refl 0
+count-le (suc n) S =
+    let more : cond (S n) 1 0 ≤ 1 = one-mono (S n) true (λ p. refl) in let rest = count-le n S in omega arith
+
+-- no number passes exactly when the count is 0
+pub count-none : (n : ℕ) (S : Set) → ((v : ℕ) → v < n → S v ≡ false) → count n S ≡ 0
+unfolding count
+count-none zero S none = refl
+count-none (suc n) S none = rw (none n (le-refl (suc n)), count-none n S (λ v l. none v (le-step l)))
+
+pub count-pos : (n : ℕ) (S : Set) (v : ℕ) → v < n → S v ≡ true → 0 < count n S
+count-pos n S v l p =
+    rw (count-none n (λ u. false) (λ u k. refl)) at
+    (count-strict n (λ u. false) S (λ u k e. absurd (true≢false (sym e))) v l refl p)
+
+pub count-zero : (n : ℕ) (S : Set) → count n S ≡ 0 → (v : ℕ) → v < n → S v ≡ false
+count-zero n S z v l = not-true-is-false (S v) (λ p. let some-one = count-pos n S v l p in omega arith)
+
+pub count-some : (n : ℕ) (S : Set) → 0 < count n S → (v : ℕ) × (v < n) × (S v ≡ true)
+count-some n S h =
+    some-elim n S (not-false-is-true (some n S) (λ none. let z = count-none n S (some-false n S none) in omega arith))
+
+-- entries of a list
+
+-- some entry passes the test: a member that does
+pub someOf-intro : (xs : List ℕ) (test : Set) (w : ℕ) → List·Memᴰ w xs → test w ≡ true → someOf xs test ≡ true
+unfolding someOf
+someOf-intro (x ∷ xs) test w (List·Memᴰ·head e) p = or-left (test x) (someOf xs test) (ap test (sym e) ∙ p)
+someOf-intro (x ∷ xs) test w (List·Memᴰ·tail m) p = or-right (test x) (someOf xs test) (someOf-intro xs test w m p)
+
+pub someOf-elim : (xs : List ℕ) (test : Set) → someOf xs test ≡ true → (w : ℕ) × List·Memᴰ w xs × (test w ≡ true)
+unfolding someOf
+someOf-elim [] test p = absurd (true≢false (sym p))
+someOf-elim (x ∷ xs) test p =
+    ⊎-elim
+    (λ q. (x, List·Memᴰ·head refl, q))
+    (λ q. let (w, m, t) = someOf-elim xs test q in (w, List·Memᴰ·tail m, t))
+    (or-cases (test x) (someOf xs test) p)
+
+pub someOf-false : (xs : List ℕ) (test : Set) → someOf xs test ≡ false → (w : ℕ) → List·Memᴰ w xs → test w ≡ false
+someOf-false xs test p w m = not-true-is-false (test w) (λ q. clash (someOf-intro xs test w m q) p)
+
+pub false-someOf : (xs : List ℕ) (test : Set) → ((w : ℕ) → List·Memᴰ w xs → test w ≡ false) → someOf xs test ≡ false
+false-someOf xs test none =
+    not-true-is-false (someOf xs test) (λ p. let (w, m, q) = someOf-elim xs test p in clash q (none w m))
+
+pub someOf-cong :
+    (xs : List ℕ) (S T : Set) → ((w : ℕ) → List·Memᴰ w xs → S w ≡ T w) → someOf xs S ≡ someOf xs T
+unfolding someOf
+someOf-cong [] S T same-at = refl
+someOf-cong (x ∷ xs) S T same-at =
+    ap₂
+    (λ (b c : Bool). b || c)
+    (same-at x (List·Memᴰ·head refl))
+    (someOf-cong xs S T (λ w m. same-at w (List·Memᴰ·tail m)))
+
+-- every entry passes the test: all members do
+pub everyOf-intro : (xs : List ℕ) (test : Set) → ((w : ℕ) → List·Memᴰ w xs → test w ≡ true) → everyOf xs test ≡ true
+unfolding everyOf
+everyOf-intro [] test all = refl
+everyOf-intro (x ∷ xs) test all =
+    and-intro (all x (List·Memᴰ·head refl)) (everyOf-intro xs test (λ w m. all w (List·Memᴰ·tail m)))
+
+pub everyOf-elim : (xs : List ℕ) (test : Set) → everyOf xs test ≡ true → (w : ℕ) → List·Memᴰ w xs → test w ≡ true
+unfolding everyOf
+everyOf-elim (x ∷ xs) test p w (List·Memᴰ·head e) = ap test e ∙ and-left (test x) (everyOf xs test) p
+everyOf-elim (x ∷ xs) test p w (List·Memᴰ·tail m) = everyOf-elim xs test (and-right (test x) (everyOf xs test) p) w m
+
+-- not every entry passes: a member that does not
+pub everyOf-false : (xs : List ℕ) (test : Set) → everyOf xs test ≡ false → (w : ℕ) × List·Memᴰ w xs × (test w ≡ false)
+unfolding everyOf
+everyOf-false [] test p = absurd (true≢false p)
+everyOf-false (x ∷ xs) test p =
+    ⊎-elim
+    (λ q. (x, List·Memᴰ·head refl, q))
+    (λ q. let (w, m, t) = everyOf-false xs test q in (w, List·Memᴰ·tail m, t))
+    (and-false-cases (test x) (everyOf xs test) p)
+
+pub everyOf-cong :
+    (xs : List ℕ) (S T : Set) → ((w : ℕ) → List·Memᴰ w xs → S w ≡ T w) → everyOf xs S ≡ everyOf xs T
+unfolding everyOf
+everyOf-cong [] S T same-at = refl
+everyOf-cong (x ∷ xs) S T same-at =
+    ap₂
+    (λ (b c : Bool). b && c)
+    (same-at x (List·Memᴰ·head refl))
+    (everyOf-cong xs S T (λ w m. same-at w (List·Memᴰ·tail m)))
+
+-- membership in a list is decided
+pub member-cases : (w : ℕ) (xs : List ℕ) → List·Memᴰ w xs ⊎ (List·Memᴰ w xs → ⊥)
+member-cases w xs =
+    ⊎-elim
+    (λ p. let (u, m, e) = someOf-elim xs (eqb w) p in inl (Memᴰ·cast (eqb-true w u e) m))
+    (λ p. inr (λ m. clash (eq-eqb w w refl) (someOf-false xs (eqb w) p w m)))
+    (bool-cases (someOf xs (eqb w)))
+
+-- a member stands at some place, and what stands at a place is a member
+pub member-place : {w : ℕ} (xs : List ℕ) → List·Memᴰ w xs → (i : ℕ) × (i < length xs) × (getD xs i 0 ≡ w)
+member-place (x ∷ xs) (List·Memᴰ·head e) = (0, suc-le-suc zero-le, sym e)
+member-place (x ∷ xs) (List·Memᴰ·tail m) = let (i, l, e) = member-place xs m in (suc i, suc-le-suc l, e)
+
+pub place-member : (xs : List ℕ) (i : ℕ) → i < length xs → List·Memᴰ (getD xs i 0) xs
+place-member [] i l = absurd (not-suc-le-zero l)
+place-member (x ∷ xs) zero l = List·Memᴰ·head refl
+place-member (x ∷ xs) (suc i) l = List·Memᴰ·tail (place-member xs i (le-of-suc-le-suc l))
+
+-- x stands in a list exactly when it stands there once or more
+pub times-pos : (x : ℕ) (xs : List ℕ) → List·Memᴰ x xs → 0 < times x xs
+unfolding times
+times-pos x (y ∷ ys) (List·Memᴰ·head e) = rw (eq-eqb x y e) (omega arith)
+times-pos x (y ∷ ys) (List·Memᴰ·tail m) = let h = times-pos x ys m in omega arith
+
+pub times-member : (x : ℕ) (xs : List ℕ) → 0 < times x xs → List·Memᴰ x xs
+unfolding times
+times-member x [] h = absurd (lt-irrefl 0 h)
+times-member x (y ∷ ys) h =
+    ⊎-elim
+    (λ e. List·Memᴰ·head (eqb-true x y e))
+    (λ e.
+    let here : _≡_ {A = ℕ} (cond (eqb x y) 1 0) 0 = ap (λ (b : Bool). cond b 1 0) e in
+    List·Memᴰ·tail (times-member x ys (omega arith)))
+    (bool-cases (eqb x y))
+
+pub times-none : (x : ℕ) (xs : List ℕ) → (List·Memᴰ x xs → ⊥) → times x xs ≡ 0
+times-none x xs n = ⊎-elim (λ z. z) (λ h. absurd (n (times-member x xs h))) (eq-zero-or-pos (times x xs))
+
+-- the lowest number below n that passes, and the highest
+
+-- k is a number below n that passes, and none below it does
+pub record IsLowest (n : ℕ) (test : Set) (k : ℕ) : Type 0 where
+  pub below : k < n
+  pub passes : test k ≡ true
+  pub first : (v : ℕ) → v < k → test v ≡ false
+
+pub lowest-none : (n : ℕ) (test : Set) → some n test ≡ false → lowest n test ≡ n
+unfolding lowest some
+lowest-none zero test p = refl
+lowest-none (suc n) test p = let (q, r) = or-false-both (some n test) (test n) p in rw q (rw r refl)
+
+-- where some number passes, lowest gives the lowest that does
+pub lowest-found : (n : ℕ) (test : Set) → some n test ≡ true → IsLowest n test (lowest n test)
+unfolding lowest some
+lowest-found zero test p = absurd (true≢false (sym p))
+lowest-found (suc n) test p =
+    ⊎-elim
+    (λ q.
+    let old = lowest-found n test q in
+    rw q (record { below = le-step (old .below); passes = old .passes; first = old .first }))
+    (λ q.
+    let r : test n ≡ true = rw q at p in
+    rw q (rw r (record { below = le-refl (suc n); passes = r; first = some-false n test q })))
+    (bool-cases (some n test))
+
+pub lowest-le : (n : ℕ) (test : Set) → lowest n test ≤ n
+lowest-le n test =
+    ⊎-elim
+    (λ p. le-of-lt (lowest-found n test p .below))
+    (λ p. le-of-eq (lowest-none n test p))
+    (bool-cases (some n test))
+
+-- no number below the lowest passes, also where none below n passes
+pub below-lowest : (n : ℕ) (test : Set) (v : ℕ) → v < lowest n test → test v ≡ false
+below-lowest n test v l =
+    ⊎-elim
+    (λ p. lowest-found n test p .first v l)
+    (λ p. some-false n test p v (rw (lowest-none n test p) at l))
+    (bool-cases (some n test))
+
+-- there is one lowest number
+pub lowest-unique : (n : ℕ) (test : Set) (k : ℕ) → IsLowest n test k → lowest n test ≡ k
+lowest-unique n test k low =
+    let found = lowest-found n test (some-intro n test k (low .below) (low .passes)) in
+    le-antisymm
+    (le-of-not-lt (λ less. clash (low .passes) (found .first k less)))
+    (le-of-not-lt (λ less. clash (found .passes) (low .first (lowest n test) less)))
+
+-- k is a number below n that passes, and none above it does
+pub record IsHighest (n : ℕ) (test : Set) (k : ℕ) : Type 0 where
+  pub below : k < n
+  pub passes : test k ≡ true
+  pub last : (v : ℕ) → v < n → test v ≡ true → v ≤ k
+
+-- where some number passes, highest gives the highest that does
+pub highest-found : (n : ℕ) (test : Set) → some n test ≡ true → IsHighest n test (highest n test)
+unfolding highest some
+highest-found zero test p = absurd (true≢false (sym p))
+highest-found (suc n) test p =
+    ⊎-elim
+    (λ r. rw r (record { below = le-refl (suc n); passes = r; last = λ v l t. le-of-suc-le-suc l }))
+    (λ r.
+    let old =
+    highest-found n test (⊎-elim (λ q. q) (λ q. absurd (clash q r)) (or-cases (some n test) (test n) p)) in
+    rw r
+    (record {
+      below = le-step (old .below);
+      passes = old .passes;
+      last = λ v l t. ⊎-elim (λ e. absurd (clash t (ap test e ∙ r))) (λ k. old .last v k t) (below-suc l);
+    }))
+    (bool-cases (test n))
+
+pub highest-none : (n : ℕ) (test : Set) → some n test ≡ false → highest n test ≡ 0
+unfolding highest some
+highest-none zero test p = refl
+highest-none (suc n) test p = let (q, r) = or-false-both (some n test) (test n) p in rw r (highest-none n test q)
+
+-- there is one highest number
+pub highest-unique : (n : ℕ) (test : Set) (k : ℕ) → IsHighest n test k → highest n test ≡ k
+highest-unique n test k high =
+    let found = highest-found n test (some-intro n test k (high .below) (high .passes)) in
+    le-antisymm
+    (high .last (highest n test) (found .below) (found .passes))
+    (found .last k (high .below) (high .passes))
+
+-- sets written down
+
+pub length-listed : (n : ℕ) (S : Set) → length (listed n S) ≡ n
+unfolding listed
+length-listed zero S = refl
+length-listed (suc n) S = ap suc (length-listed n (λ k. S (suc k)))
+
+pub getD-listed : (n : ℕ) (S : Set) (v : ℕ) (d : Bool) → v < n → getD (listed n S) v d ≡ S v
+unfolding listed
+getD-listed zero S v d l = absurd (not-suc-le-zero l)
+getD-listed (suc n) S zero d l = refl
+getD-listed (suc n) S (suc v) d l = getD-listed n (λ k. S (suc k)) v d (le-of-suc-le-suc l)
+
+-- a set worked out below n is the set below n, and has no member at n or above
+pub within-below : (n : ℕ) (S : Set) (v : ℕ) → v < n → within n S v ≡ S v
+unfolding within
+within-below n S v l = getD-listed n S v false l
+
+pub within-above : (n : ℕ) (S : Set) (v : ℕ) → n ≤ v → within n S v ≡ false
+unfolding within
+within-above n S v l = List·getD-eq-default (listed n S) false (rw length-listed l)
+
+pub within-member : (n : ℕ) (S : Set) (v : ℕ) → within n S v ≡ true → (v < n) × (S v ≡ true)
+within-member n S v p =
+    ⊎-elim
+    (λ l. (l, sym (within-below n S v l) ∙ p))
+    (λ l. absurd (clash p (within-above n S v l)))
+    (lt-or-ge v n)
+
+-- a set that has no member at n or above is worked out as it is
+pub within-all : (n : ℕ) (S : Set) → ((v : ℕ) → S v ≡ true → v < n) → (v : ℕ) → within n S v ≡ S v
+within-all n S small v =
+    ⊎-elim
+    (λ l. within-below n S v l)
+    (λ l. within-above n S v l ∙ sym (not-true-is-false (S v) (λ p. not-le-of-lt (small v p) l)))
+    (lt-or-ge v n)
+
+-- pigeonhole: n + 1 numbers below n are not all different
+pub pigeonhole :
+    (n : ℕ) (f : ℕ → ℕ) → ((i : ℕ) → i ≤ n → f i < n) → (i : ℕ) × (j : ℕ) × (i < j) × (j ≤ n) × (f i ≡ f j)
+pigeonhole zero f small = absurd (not-suc-le-zero (small 0 (le-refl 0)))
+pigeonhole (suc n) f small = ⊎-elim found (λ q. moved-back q (pigeonhole n moved (moved-small q))) (bool-cases (some (suc n) hits))
+  where
+    last : ℕ
+    last = f (suc n)
+
+    hits : Set
+    hits i = eqb (f i) last
+
+    -- the number n is swapped for the last one
+    moved : ℕ → ℕ
+    moved i = cond (eqb (f i) n) last (f i)
+
+    Repeats : ℕ → (ℕ → ℕ) → Type 0
+    Repeats m h = (i : ℕ) × (j : ℕ) × (i < j) × (j ≤ m) × (h i ≡ h j)
+
+    found : some (suc n) hits ≡ true → Repeats (suc n) f
+    found p = let (i, l, e) = some-elim (suc n) hits p in (i, suc n, l, le-refl (suc n), eqb-true (f i) last e)
+
+    fresh : some (suc n) hits ≡ false → (i : ℕ) → i ≤ n → f i ≡ last → ⊥
+    fresh q i l = eqb-false (f i) last (some-false (suc n) hits q i (suc-le-suc l))
+
+    moved-small : some (suc n) hits ≡ false → (i : ℕ) → i ≤ n → moved i < n
+    moved-small q i l =
+        ⊎-elim
+        (λ e.
+        let at-n = eqb-true (f i) n e in
+        let bound = small (suc n) (le-refl (suc n)) in
+        let other : last ≡ n → ⊥ = λ k. fresh q i l (at-n ∙ sym k) in
+        rw e (omega arith))
+        (λ e. let other = eqb-false (f i) n e in let bound = small i (le-step l) in rw e (omega arith))
+        (bool-cases (eqb (f i) n))
+
+    moved-back : some (suc n) hits ≡ false → Repeats n moved → Repeats (suc n) f
+    moved-back q (i, j, less, top, e) =
+        let low : i ≤ n = omega arith in
+        (i, j, less, le-step top, back (bool-cases (eqb (f i) n)) (bool-cases (eqb (f j) n)) (fresh q i low) (fresh q j top) e)
+      where
+        back :
+            (eqb (f i) n ≡ true) ⊎ (eqb (f i) n ≡ false) →
+            (eqb (f j) n ≡ true) ⊎ (eqb (f j) n ≡ false) →
+            (f i ≡ last → ⊥) →
+            (f j ≡ last → ⊥) →
+            moved i ≡ moved j →
+            f i ≡ f j
+        back (inl p) (inl r) x y e = eqb-true (f i) n p ∙ sym (eqb-true (f j) n r)
+        back (inl p) (inr r) x y e = absurd (y (sym (rw (p, r) at e)))
+        back (inr p) (inl r) x y e = absurd (x (rw (p, r) at e))
+        back (inr p) (inr r) x y e = rw (p, r) at e
