@@ -10,6 +10,7 @@ pub mod Attractor
 pub mod Zielonka
 pub mod Budget
 pub mod Promotion
+pub mod Solver
 pub mod Solitaire
 pub mod Checker
 pub mod Compaction

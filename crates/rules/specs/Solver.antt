@@ -1,0 +1,71 @@
+-- What the general solvers give back and leave in what they were lent: "Numbers given back" for Zielonka and priority promotion,
+-- which differ only in what they count.
+use mathlib.Core.Bool.{Bool, true, false, cond}
+use mathlib.Core.List.{List, [], _∷_, _++_}
+use mathlib.Core.Path.{_≡_}
+use Prim.Native.Nat.{ℕ, _<_}
+use lib.Dec.{ltb}
+use lib.ListN.{length, drop, replicate}
+use Rattle.rules.specs.Counting.{Set}
+use Rattle.rules.specs.Game.{Player, Even, Odd}
+use Rattle.rules.specs.Outcome.{Outcome, Verdict, none, refused, outcome, budgeted, _then_}
+use Rattle.rules.specs.Tables.{Tables, gameOf, vertices, edgesIn, workWords, tableChecks, check9, check10}
+use Rattle.rules.specs.Winning.{WinningEntries}
+use Rattle.rules.specs.Words.{Holds, noEntry}
+
+-- the work area after an answer or 13: the first W words zero, the words beyond as they were
+abbrev pub cleared : Tables → List ℕ → List ℕ
+cleared t work = replicate (workWords (vertices t) (edgesIn t)) 0 ++ drop (workWords (vertices t) (edgesIn t)) work
+
+-- what a solver is lent to write in
+pub record Lent : Type 0 where
+  pub even : List ℕ
+  pub odd : List ℕ
+  pub strategy : List ℕ
+  pub work : List ℕ
+
+-- 1 to 10
+abbrev pub solverChecks : Tables → Lent → Verdict
+solverChecks t lent =
+    tableChecks t then
+    check9 (vertices t) (length (lent .even) ∷ length (lent .odd) ∷ []) (length (lent .strategy) ∷ []) then
+    check10 (vertices t) (edgesIn t) (length (lent .work))
+
+-- the entries: a winning choice with the flag, none everywhere without it
+abbrev pub Entries : Bool → Tables → (Player → Set) → List ℕ → Type 0
+Entries true t won strategy = WinningEntries (gameOf t) won strategy
+Entries false t won strategy = strategy ≡ replicate (vertices t) noEntry
+
+-- after an answer
+pub record Answered (flag : Bool) (t : Tables) (won : Player → Set) (before after : Lent) : Type 0 where
+  pub even : Holds (vertices t) (won Even) (after .even)
+  pub odd : Holds (vertices t) (won Odd) (after .odd)
+  pub long : length (after .strategy) ≡ vertices t
+  pub entries : Entries flag t won (after .strategy)
+  pub work : after .work ≡ cleared t (before .work)
+
+-- after 13: sets and strategy as before
+pub record Stopped (t : Tables) (before after : Lent) : Type 0 where
+  pub even : after .even ≡ before .even
+  pub odd : after .odd ≡ before .odd
+  pub strategy : after .strategy ≡ before .strategy
+  pub work : after .work ≡ cleared t (before .work)
+
+-- by cases: a refusal of 1 to 10 writes nothing; then 13 where more is needed than the budget; else an answer
+abbrev pub Leaves : Verdict → Bool → Bool → Tables → (Player → Set) → Lent → Lent → Type 0
+Leaves (refused k p) over flag t won before after = after ≡ before
+Leaves none true flag t won before after = Stopped t before after
+Leaves none false flag t won before after = Answered flag t won before after
+
+-- a solver that needs so many calls or rounds for its sets, under a budget
+pub record Solves
+    (flag : Bool)
+    (budget : ℕ)
+    (t : Tables)
+    (needed : ℕ)
+    (won : Player → Set)
+    (before after : Lent)
+    (o : Outcome)
+    : Type 0 where
+  pub gives : o ≡ outcome (solverChecks t before) (budgeted budget needed)
+  pub leaves : Leaves (solverChecks t before) (ltb budget needed) flag t won before after
