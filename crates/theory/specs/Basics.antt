@@ -6,7 +6,7 @@ use mathlib.Core.Logic.{_⊎_, inl, inr, ⊎-elim}
 use mathlib.Core.Path.{_≡_, refl, sym, ap, ap₂, _∙_}
 use Prim.Native.Nat.{ℕ, zero, suc, _+_, _≤_, _<_, zero-le, suc-le-suc}
 use native.Mathlib.Nat.{not-suc-le-zero, le-of-suc-le-suc, eq-or-lt-of-le, le-refl, le-step, lt-irrefl, eq-zero-or-pos}
-use native.Mathlib.Nat.{add-le-add, add-lt-add-of-lt-of-le, le-of-lt, le-of-eq, le-antisymm, not-le-of-lt}
+use native.Mathlib.Nat.{add-zero, add-suc, add-assoc, add-le-add, add-lt-add-of-lt-of-le, le-of-lt, le-of-eq, le-antisymm, not-le-of-lt}
 use native.Mathlib.Omega.{arith}
 use borrow.Author.Tests.{eqb-true, eqb-false, eq-eqb, ltb-true, ltb-false, not-true}
 use lib.Dec.{eqb, ltb}
@@ -303,6 +303,22 @@ count-some n S h =
     some-elim n S (not-false-is-true (some n S) (λ none. let z = count-none n S (some-false n S none) in omega arith))
 
 -- entries of a list
+
+-- m more numbers past n
+pub count-on : (n m : ℕ) (test : ℕ → Bool) → count (n + m) test ≡ count n test + count m (λ k. test (n + k))
+unfolding count
+count-on n zero test = ap (λ (x : ℕ). count x test) (add-zero n) ∙ sym (add-zero (count n test))
+count-on n (suc m) test =
+    ap (λ (x : ℕ). count x test) (add-suc n m) ∙ ap (λ (x : ℕ). x + cond (test (n + m)) 1 0) (count-on n m test)
+    ∙ add-assoc (count n test) (count m (λ k. test (n + k))) (cond (test (n + m)) 1 0)
+
+-- the first number apart
+pub count-first : (n : ℕ) (test : ℕ → Bool) → count (suc n) test ≡ cond (test 0) 1 0 + count n (λ k. test (suc k))
+unfolding count
+count-first zero test = omega arith
+count-first (suc n) test =
+    ap (λ (x : ℕ). x + cond (test (suc n)) 1 0) (count-first n test)
+    ∙ add-assoc (cond (test 0) 1 0) (count n (λ k. test (suc k))) (cond (test (suc n)) 1 0)
 
 -- some entry passes the test: a member that does
 pub someOf-intro : (xs : List ℕ) (test : Set) (w : ℕ) → List·Memᴰ w xs → test w ≡ true → someOf xs test ≡ true

@@ -1,0 +1,26 @@
+-- What a set's words hold after an operation, bit by bit.
+use mathlib.Core.Bool.{cond}
+use mathlib.Core.List.{List}
+use mathlib.Core.Logic.{_⊎_}
+use mathlib.Core.Path.{_≡_}
+use Prim.Native.Nat.{ℕ, _+_, _*_, _≤_, _<_}
+use lib.Dec.{eqb}
+use lib.ListN.{length, getD, drop}
+use Rattle.rules.specs.Words.{bit}
+
+-- bit v is now d, and every other bit is as it was
+pub record Put (v d : ℕ) (before after : List ℕ) : Type 0 where
+  pub long : length after ≡ length before
+  pub bits : (u : ℕ) → bit after u ≡ cond (eqb u v) d (bit before u)
+
+-- two parts of s words that do not overlap
+pub record Parts (into from s : ℕ) (words : List ℕ) : Type 0 where
+  pub into-fits : into + s ≤ length words
+  pub from-fits : from + s ≤ length words
+  pub apart : (into + s ≤ from) ⊎ (from + s ≤ into)
+
+-- each bit of the part at `into` is now f of its own and the other part's, and every word elsewhere is as it was
+pub record Combined (f : ℕ → ℕ → ℕ) (into from s : ℕ) (before after : List ℕ) : Type 0 where
+  pub long : length after ≡ length before
+  pub bits : (v : ℕ) → v < 64 * s → bit (drop into after) v ≡ f (bit (drop into before) v) (bit (drop from before) v)
+  pub rest : (i : ℕ) → (i < into) ⊎ (into + s ≤ i) → getD after i 0 ≡ getD before i 0

@@ -1,0 +1,29 @@
+// One member: asked for, added, removed.
+ghost use mathlib.Core.Path.{_≡_};
+ghost use Prim.Native.Nat.{_*_, _<_};
+ghost use lib.ListN.{length};
+ghost use Rattle.rules.specs.Words.{setOf};
+ghost use Rattle.sets.specs.After.{Put};
+
+pub fn contains(set: &[u64], v: usize) -> bool
+    requires { ⌜ v < 64 * length (now set) ⌝ }
+    ensures { λ r. ⌜ r ≡ setOf (now (set .entry)) v ⌝ }
+{
+    (set[v / 64] >> (v % 64)) & 1 == 1
+}
+
+pub fn insert(set: &mut [u64], v: usize)
+    requires { ⌜ v < 64 * length (now set) ⌝ }
+    ensures { λ r. ⌜ Put v 1 (now (set .entry)) (now (set .exit)) ⌝ }
+{
+    let i = v / 64;
+    set[i] |= 1u64 << (v % 64);
+}
+
+pub fn remove(set: &mut [u64], v: usize)
+    requires { ⌜ v < 64 * length (now set) ⌝ }
+    ensures { λ r. ⌜ Put v 0 (now (set .entry)) (now (set .exit)) ⌝ }
+{
+    let i = v / 64;
+    set[i] &= !(1u64 << (v % 64));
+}

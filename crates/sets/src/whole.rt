@@ -1,0 +1,74 @@
+// Whole sets, word by word. The binary operations stand on two parts of one slice, `into` and `from`, of `s` words each: the
+// solvers keep all their sets in one work area.
+ghost use mathlib.Core.Path.{_≡_};
+ghost use mathlib.Core.Bool.{not};
+ghost use Prim.Native.Nat.{_+_, _-_, _*_, _≤_, min, max};
+ghost use lib.ListN.{length};
+ghost use lib.Dec.{eqb};
+ghost use Rattle.rules.specs.Counting.{some, every, count};
+ghost use Rattle.rules.specs.Words.{bit, setOf};
+ghost use Rattle.sets.specs.After.{Combined, Parts};
+
+pub fn union_with(words: &mut [u64], into: usize, from: usize, s: usize)
+    requires { ⌜ Parts into from s (now words) ⌝ }
+    ensures { λ r. ⌜ Combined max into from s (now (words .entry)) (now (words .exit)) ⌝ }
+{
+    for i in 0..s {
+        words[into + i] |= words[from + i];
+    }
+}
+
+pub fn intersect_with(words: &mut [u64], into: usize, from: usize, s: usize)
+    requires { ⌜ Parts into from s (now words) ⌝ }
+    ensures { λ r. ⌜ Combined min into from s (now (words .entry)) (now (words .exit)) ⌝ }
+{
+    for i in 0..s {
+        words[into + i] &= words[from + i];
+    }
+}
+
+pub fn difference_with(words: &mut [u64], into: usize, from: usize, s: usize)
+    requires { ⌜ Parts into from s (now words) ⌝ }
+    ensures { λ r. ⌜ Combined _-_ into from s (now (words .entry)) (now (words .exit)) ⌝ }
+{
+    for i in 0..s {
+        words[into + i] &= !words[from + i];
+    }
+}
+
+pub fn is_empty(set: &[u64]) -> bool
+    ensures { λ r. ⌜ r ≡ not (some (64 * length (now (set .entry))) (setOf (now (set .entry)))) ⌝ }
+{
+    for i in 0..set.len() {
+        if set[i] != 0 {
+            return false;
+        }
+    }
+    true
+}
+
+// Whether two sets of as many words are the same, bit by bit.
+pub fn same(a: &[u64], b: &[u64]) -> bool
+    requires { ⌜ length (now a) ≡ length (now b) ⌝ }
+    ensures { λ r.
+        ⌜ r ≡ every (64 * length (now (a .entry))) (λ v. eqb (bit (now (a .entry)) v) (bit (now (b .entry)) v)) ⌝ }
+{
+    for i in 0..a.len() {
+        if a[i] != b[i] {
+            return false;
+        }
+    }
+    true
+}
+
+// The number of members.
+pub fn size(set: &[u64]) -> usize
+    requires { ⌜ length (now set) ≤ 64 ⌝ }
+    ensures { λ r. ⌜ r ≡ count (64 * length (now (set .entry))) (setOf (now (set .entry))) ⌝ }
+{
+    let mut n: usize = 0;
+    for i in 0..set.len() {
+        n += u64::count_ones(set[i]) as usize;
+    }
+    n
+}
