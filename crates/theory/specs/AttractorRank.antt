@@ -44,11 +44,11 @@ pub record Certificate (g : Game) (a : Player) (V' T S : Set) : Type 0 where
   pub leads : (v : ℕ) → S v ≡ true → T v ≡ false → (g .owner v ≡ a → ⊥) → (w : ℕ) × Edge g v w × (V' w ≡ true)
 
 -- the first entry of a list that passes the test, or 0 where none does
-pick : List ℕ → Set → ℕ
+pub pick : List ℕ → Set → ℕ
 pick [] test = 0
 pick (x ∷ xs) test = cond (test x) x (pick xs test)
 
-pick-passes : (xs : List ℕ) (test : Set) → someOf xs test ≡ true → List·Memᴰ (pick xs test) xs × (test (pick xs test) ≡ true)
+pub pick-passes : (xs : List ℕ) (test : Set) → someOf xs test ≡ true → List·Memᴰ (pick xs test) xs × (test (pick xs test) ≡ true)
 unfolding pick someOf
 pick-passes [] test p = absurd (clash p refl)
 pick-passes (x ∷ xs) test p =

@@ -11,4 +11,10 @@ pub mod AttractorEntries
 pub mod AttractorComplement
 pub mod AttractorLooks
 pub mod AttractorSteps
+pub mod Greatest
+pub mod Run
+pub mod RunSound
+pub mod RunSame
+pub mod Zielonka
+pub mod Bound
 pub mod Worked
