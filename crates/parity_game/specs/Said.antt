@@ -3,10 +3,9 @@
 use mathlib.Core.Path.{_≡_, refl}
 use Prim.Native.Nat.{ℕ, zero, suc}
 use Rattle.rules.specs.Game as Game
-use Rattle.rules.specs.Outcome.{Outcome, answered}
+use Rattle.rules.specs.Outcome.{Outcome}
 use Rattle.parity_game.specs.declared.player.Player.{Player}
 use Rattle.parity_game.specs.declared.player.Player.the-variants.{Even, Odd}
-use Rattle.parity_game.specs.declared.player.VertexIndex.{VertexIndex}
 use Rattle.parity_game.specs.declared.answer.Answer.{Answer}
 use Rattle.parity_game.specs.declared.answer.Answer.the-variants.{Answered, TooManyVertices, WrongLengths, TooManyEdges, NoOwner}
 use Rattle.parity_game.specs.declared.answer.Answer.the-variants.{PriorityTooHigh, WrongOffset, NoTarget, DeadEnd, WrongSizes}

@@ -3,11 +3,11 @@
 use mathlib.Core.Bool.{Bool, true, false, true≢false, _||_, cond}
 use mathlib.Core.Logic.{_⊎_, inl, inr}
 use mathlib.Core.Path.{_≡_, refl, sym, _∙_, ap}
-use Prim.Native.Nat.{ℕ, zero, suc, _<_, _≤_}
+use Prim.Native.Nat.{ℕ, zero, suc, _<_}
 use native.Mathlib.Decide.{decLt}
 use native.Mathlib.Omega.{arith}
 use Rattle.rules.specs.Counting.{some, lowest}
-use Rattle.rules.specs.Outcome.{Outcome, Verdict, none, refused, givenAt, outcome}
+use Rattle.rules.specs.Outcome.{Outcome, none, refused, givenAt, outcome}
 use Rattle.parity_game.specs.Said.{refusal}
 
 -- the test fails at every number below n

@@ -8,7 +8,7 @@ use borrow.Author.Count.{below-none, below-more}
 use borrow.Author.Needs.{needs}
 use borrow.Author.Tests.{lt-ltb, le-ltb, eq-eqb, ne-eqb}
 use lib.Dec.{ltb}
-use lib.ListN.{length, getD}
+use lib.ListN.{getD}
 use Rattle.rules.specs.Outcome.{givenAt, none}
 use Rattle.rules.specs.Tables.{check6}
 use Rattle.parity_game.specs.Search.{FailsBelow, found-at, none-found}

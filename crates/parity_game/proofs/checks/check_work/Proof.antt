@@ -1,6 +1,4 @@
 -- `check_work` meets its contract.
-use mathlib.Core.Path.{subst}
-use native.Mathlib.Omega.{arith}
 use borrow.Author.Needs.{needs}
 use borrow.Author.Tests.{lt-ltb, le-ltb}
 use Rattle.rules.specs.Tables.{check10}

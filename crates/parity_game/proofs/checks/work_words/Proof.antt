@@ -1,8 +1,7 @@
 -- `work_words` meets its contract. The one product of two variables is below 2 ^ 22, so nothing wraps.
-use Prim.Native.Nat.{_+_, _*_, _≤_, _/_}
+use Prim.Native.Nat.{_+_, _*_, _≤_}
 use native.Mathlib.Nat.{mul-le-mul}
 use native.Mathlib.Omega.{arith}
-use mathlib.Core.Path.{_≡_, ap}
 use borrow.Author.Needs.{needs}
 use Rattle.rules.specs.Tables.{words, workWords}
 use Rattle.parity_game.proofs.checks.work_words.Statement.{statement}
