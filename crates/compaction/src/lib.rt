@@ -59,7 +59,7 @@ fn write(priorities: &[u16], numbers: [u16; 256], new_priorities: &mut [u16])
     requires { ⌜ Small (now priorities) × (length (now «new_priorities») ≡ length (now priorities)) ⌝ }
     ensures { λ _. ⌜ now («new_priorities» .exit) ≡ map (λ p. getD numbers p 0) (now (priorities .entry)) ⌝ }
 {
-    for v in 0..priorities.len() {
+    for v in 0..new_priorities.len() {
         let p = priorities[v] as usize;
         new_priorities[v] = numbers[p];
     }
@@ -89,9 +89,9 @@ pub fn compact(
     let Answer::Answered(_) = r else {
         return r;
     };
-    let r = parity_game::check_table(owners.len(), new_priorities.len());
-    let Answer::Answered(_) = r else {
-        return r;
+    let sized = parity_game::check_table(owners.len(), new_priorities.len());
+    let Answer::Answered(_) = sized else {
+        return sized;
     };
     let numbers = number(mark(priorities));
     write(priorities, numbers, new_priorities);
