@@ -11,7 +11,7 @@ use borrow.Author.Tests.{eqb-true, eqb-false, eq-eqb, le-ltb}
 use lib.Dec.{eqb, ltb}
 use lib.ListN.{length, getD, length-map}
 use Rattle.rules.specs.Compaction.{used, Last, nothing, last, nextNumber, lastBelow, compacted}
-use Rattle.rules.specs.Counting.{Set}
+use Rattle.rules.specs.Counting.{Set, some}
 use Rattle.rules.specs.Game.{Player, parity, playerOf}
 use Rattle.rules.specs.Outcome.{none, givenAt}
 use Rattle.rules.specs.Tables.{Tables, vertices, gameOf, tableChecks, check5, Accepted}
@@ -225,3 +225,8 @@ module _ (t : Tables) (ok : Accepted t) where
       (won : Player → Set) → WinningSets (gameOf t) won ↔ WinningSets (gameOf (compactedTables t)) won
   compaction-keeps-winning-sets won =
       (alike-winning-sets compacted-alike, alike-winning-sets (alike-sym compacted-alike))
+
+-- 3, 7, 4 becomes 1, 3, 2
+pub worked-compaction : map (compacted (3 ∷ 7 ∷ 4 ∷ [])) (3 ∷ 7 ∷ 4 ∷ []) ≡ 1 ∷ 3 ∷ 2 ∷ []
+unfolding compacted nextNumber lastBelow some
+worked-compaction = refl
