@@ -1,9 +1,11 @@
--- Theorems about the rules alone: one winner, dominions, attractors, Zielonka's recursion and its bound, the worked games.
+-- Theorems about the rules alone: one winner, dominions, attractors, relabelled priorities, Zielonka's recursion and its bound, the worked games.
 pub mod Basics
 pub mod Walks
 pub mod OneWinner
 pub mod Dominion
 pub mod Tables
+pub mod Relabelling
+pub mod Compaction
 pub mod AttractorBasics
 pub mod Attractor
 pub mod AttractorRank

@@ -1,0 +1,47 @@
+-- What compaction promises, for every input: the outcome by the checks, and the new table, which is the rule's or untouched. And
+-- what its steps promise one another.
+use mathlib.Core.Bool.{Bool, true, false}
+use mathlib.Core.List.{List, [], _∷_, map}
+use mathlib.Core.Path.{_≡_}
+use Prim.Native.Nat.{ℕ, _≤_, _<_}
+use lib.Dec.{eqb}
+use lib.ListN.{length, getD}
+use Rattle.rules.specs.Compaction.{Last, nothing, last, used, nextNumber, lastBelow, compacted}
+use Rattle.rules.specs.Counting.{Set}
+use Rattle.rules.specs.Outcome.{Outcome, Verdict, none, refused, outcome, answered, _then_}
+use Rattle.rules.specs.Tables.{Tables, vertices, tableChecks, check9}
+
+-- 1 to 9, for tables and a new priority table of some length
+abbrev pub compactionChecks : Tables → ℕ → Verdict
+compactionChecks t newLength = tableChecks t then check9 (vertices t) [] (newLength ∷ [])
+
+-- the new table that a verdict leaves: as it was after a refusal, else the rule's
+abbrev pub newTable : Verdict → Tables → List ℕ → List ℕ
+newTable none t before = map (compacted (t .priorities)) (t .priorities)
+newTable (refused k p) t before = before
+
+pub record Compacts (t : Tables) (before after : List ℕ) (o : Outcome) : Type 0 where
+  pub gives : o ≡ outcome (compactionChecks t (length before)) (answered 0)
+  pub table : after ≡ newTable (compactionChecks t (length before)) t before
+
+-- every entry has a place in a table of 256
+abbrev pub Small : List ℕ → Type 0
+Small priorities = (v : ℕ) → v < length priorities → getD priorities v 0 ≤ 255
+
+-- the priorities that are marked with 1
+abbrev pub marked : List ℕ → Set
+marked marks p = eqb (getD marks p 0) 1
+
+-- the marks tell which priorities are used
+abbrev pub Marks : List ℕ → List ℕ → Type 0
+Marks priorities marks = (p : ℕ) → p < 256 → marked marks p ≡ used priorities p
+
+-- the last new number given, if any was
+abbrev pub lastGiven : Bool → ℕ → Last
+lastGiven true q = last q
+lastGiven false q = nothing
+
+-- each marked priority below k has its new number
+abbrev pub Numbers : ℕ → List ℕ → List ℕ → Type 0
+Numbers k marks numbers =
+    (p : ℕ) → p < k → marked marks p ≡ true → getD numbers p 0 ≡ nextNumber (lastBelow (marked marks) p) p

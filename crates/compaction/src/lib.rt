@@ -1,0 +1,99 @@
+// Priority compaction by document 01's rule: the priorities that are used, in order, get the lowest numbers that keep order and
+// parity. The rule itself is in `next_number` alone.
+use parity_game::Answer;
+ghost use mathlib.Core.List.{map};
+ghost use mathlib.Core.Path.{_≡_};
+ghost use Prim.Native.Nat.{_≤_};
+ghost use lib.ListN.{length, getD};
+ghost use Rattle.rules.specs.Compaction.{nextNumber};
+ghost use Rattle.parity_game.specs.Said.{said};
+ghost use Rattle.compaction.specs.Compacts.{Small, Marks, Numbers, lastGiven, Compacts};
+
+// Which priorities are used: 1 at each.
+fn mark(priorities: &[u16]) -> [u8; 256]
+    requires { ⌜ Small (now priorities) ⌝ }
+    ensures { λ r. ⌜ Marks (now (priorities .entry)) r ⌝ }
+{
+    let mut used = [0u8; 256];
+    for v in 0..priorities.len() {
+        let p = priorities[v] as usize;
+        used[p] = 1;
+    }
+    used
+}
+
+// The new number after `last`, the last new number given, or a first one.
+fn next_number(any: bool, last: u16, p: u16) -> u16
+    requires { ⌜ last ≤ 255 ⌝ }
+    ensures { λ r. ⌜ r ≡ nextNumber (lastGiven any last) p ⌝ }
+{
+    if !any {
+        return p % 2;
+    }
+    if last % 2 == p % 2 {
+        last + 2
+    } else {
+        last + 1
+    }
+}
+
+// The new number of each used priority.
+fn number(used: [u8; 256]) -> [u16; 256]
+    ensures { λ r. ⌜ Numbers 256 used r ⌝ }
+{
+    let mut numbers = [0u16; 256];
+    let mut any = false;
+    let mut last = 0;
+    for p in 0..256 {
+        if used[p] == 1 {
+            last = next_number(any, last, p as u16);
+            any = true;
+            numbers[p] = last;
+        }
+    }
+    numbers
+}
+
+// The new table, entry by entry.
+fn write(priorities: &[u16], numbers: [u16; 256], new_priorities: &mut [u16])
+    requires { ⌜ Small (now priorities) × (length (now «new_priorities») ≡ length (now priorities)) ⌝ }
+    ensures { λ _. ⌜ now («new_priorities» .exit) ≡ map (λ p. getD numbers p 0) (now (priorities .entry)) ⌝ }
+{
+    for v in 0..new_priorities.len() {
+        let p = priorities[v] as usize;
+        new_priorities[v] = numbers[p];
+    }
+}
+
+// Writes the new priority of each vertex, for every input.
+pub fn compact(
+    owners: &[u8],
+    priorities: &[u16],
+    offsets: &[u16],
+    targets: &[u16],
+    new_priorities: &mut [u16],
+) -> Answer
+    ensures { λ r.
+        ⌜ Compacts
+        (record {
+          owners = now (owners .entry);
+          priorities = now (priorities .entry);
+          offsets = now (offsets .entry);
+          targets = now (targets .entry);
+        })
+        (now («new_priorities» .entry))
+        (now («new_priorities» .exit))
+        (said r) ⌝ }
+{
+    let r = parity_game::check_tables(owners, priorities, offsets, targets);
+    let Answer::Answered(_) = r else {
+        return r;
+    };
+    let sized = parity_game::check_table(owners.len(), new_priorities.len());
+    let Answer::Answered(_) = sized else {
+        return sized;
+    };
+    let numbers = number(mark(priorities));
+    write(priorities, numbers, new_priorities);
+    Answer::Answered(0)
+}
