@@ -5,6 +5,7 @@ pub mod OneWinner
 pub mod Dominion
 pub mod Tables
 pub mod AttractorBasics
+pub mod Rounds
 pub mod Attractor
 pub mod AttractorRank
 pub mod AttractorEntries
@@ -12,3 +13,4 @@ pub mod AttractorComplement
 pub mod AttractorLooks
 pub mod AttractorSteps
 pub mod Worked
+pub mod Links
