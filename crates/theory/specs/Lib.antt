@@ -1,6 +1,7 @@
 -- Theorems about the rules alone: one winner, dominions, attractors, Zielonka's recursion and its bound, the worked games.
 pub mod Basics
 pub mod Walks
+pub mod Orbit
 pub mod OneWinner
 pub mod Dominion
 pub mod Tables
@@ -14,3 +15,4 @@ pub mod AttractorLooks
 pub mod AttractorSteps
 pub mod Worked
 pub mod Links
+pub mod Solitaire
