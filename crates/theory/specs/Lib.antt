@@ -16,3 +16,4 @@ pub mod AttractorSteps
 pub mod Worked
 pub mod Links
 pub mod Solitaire
+pub mod Checker
