@@ -17,3 +17,5 @@ pub mod Worked
 pub mod Links
 pub mod Solitaire
 pub mod Checker
+pub mod DepthFirst
+pub mod Kosaraju
