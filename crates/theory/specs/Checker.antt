@@ -154,7 +154,7 @@ module _ (g : Game) (even strategy : List ℕ) where
       (not (someOf (g .targets v) (eqb (entry strategy v))))
       (not (eqb (entry strategy v) noEntry))
 
-  after22 :
+  pub after22 :
       check22 g even strategy ≡ none →
       ((v : ℕ) → v < g .size → g .owner v ≡ winnerOf even v → Edge g v (entry strategy v)) ×
       ((v : ℕ) → v < g .size → (g .owner v ≡ winnerOf even v → ⊥) → entry strategy v ≡ noEntry)
@@ -198,7 +198,7 @@ module _ (g : Game) (even strategy : List ℕ) where
       (not (sameSide even v (entry strategy v)))
       (not (everyOf (g .targets v) (sameSide even v)))
 
-  after23 :
+  pub after23 :
       check23 g even strategy ≡ none →
       ((v : ℕ) → v < g .size → g .owner v ≡ winnerOf even v → winnerOf even v ≡ winnerOf even (entry strategy v)) ×
       ((v w : ℕ) → v < g .size → (g .owner v ≡ winnerOf even v → ⊥) → Edge g v w → winnerOf even v ≡ winnerOf even w)
@@ -249,14 +249,14 @@ module _ (g : Game) (even strategy : List ℕ) where
   -- 24
 
   -- an edge that is kept: between priorities of at most p on one side, the entry of a winner and any edge of a loser
-  record KeptEdge (p v w : ℕ) : Type 0 where
-    low : g .priority v ≤ p
-    low-end : g .priority w ≤ p
-    side : winnerOf even v ≡ winnerOf even w
-    chosen : g .owner v ≡ winnerOf even v → w ≡ entry strategy v
-    edge : (g .owner v ≡ winnerOf even v → ⊥) → Edge g v w
+  pub record KeptEdge (p v w : ℕ) : Type 0 where
+    pub low : g .priority v ≤ p
+    pub low-end : g .priority w ≤ p
+    pub side : winnerOf even v ≡ winnerOf even w
+    pub chosen : g .owner v ≡ winnerOf even v → w ≡ entry strategy v
+    pub edge : (g .owner v ≡ winnerOf even v → ⊥) → Edge g v w
 
-  kept-elim : (p v w : ℕ) → keptEdges g even strategy p v w ≡ true → KeptEdge p v w
+  pub kept-elim : (p v w : ℕ) → keptEdges g even strategy p v w ≡ true → KeptEdge p v w
   kept-elim p v w q =
       let a = leb (g .priority v) p in
       let b = leb (g .priority w) p in
@@ -273,7 +273,7 @@ module _ (g : Game) (even strategy : List ℕ) where
         edge = λ theirs. test-edge g v w (rw (false-same (g .owner v) (winnerOf even v) theirs) at last);
       }
 
-  kept-intro : (p v w : ℕ) → KeptEdge p v w → keptEdges g even strategy p v w ≡ true
+  pub kept-intro : (p v w : ℕ) → KeptEdge p v w → keptEdges g even strategy p v w ≡ true
   kept-intro p v w k =
       and-intro
       (and-intro
@@ -285,7 +285,7 @@ module _ (g : Game) (even strategy : List ℕ) where
       (bool-cases (ownWinner g even v)))
 
   -- the test of 24 at v and p
-  abbrev badCycle : ℕ → Set
+  abbrev pub badCycle : ℕ → Set
   badCycle v p =
       not (same (parity p) (winnerOf even v)) && leb (g .priority v) p && onCycle g (keptEdges g even strategy p) p v
 
@@ -499,6 +499,21 @@ pub accepted-certificate-yes :
     certificateChecks (gameOf t) even odd strategy ≡ none →
     Certified (gameOf t) even odd strategy
 accepted-certificate-yes t ok = certificate-yes (gameOf t) (accepted-total t ok)
+
+-- where one pair of winning sets covers the vertices, every pair does
+pub winning-sets-cover :
+    (g : Game) (won won' : Player → Set) →
+    WinningSets g won →
+    WinningSets g won' →
+    ((v : ℕ) → v < g .size → (won Even v ≡ true) ⊎ (won Odd v ≡ true)) →
+    (v : ℕ) →
+    v < g .size →
+    (won' Even v ≡ true) ⊎ (won' Odd v ≡ true)
+winning-sets-cover g won won' sets sets' cover v l =
+    ⊎-elim
+    (λ p. inl (sets' Even v l .1 (sets Even v l .0 p)))
+    (λ p. inr (sets' Odd v l .1 (sets Odd v l .0 p)))
+    (cover v l)
 
 module _
     (g : Game)

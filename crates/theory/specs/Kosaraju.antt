@@ -5,8 +5,8 @@ use mathlib.Core.List.{List, _∷_, _++_, List·Memᴰ, List·Memᴰ·cases-cons
 use mathlib.Core.Logic.{_⊎_, inl, inr, ⊎-elim}
 use mathlib.Core.Path.{_≡_, sym, ap, ap₂, _∙_}
 use Prim.Native.Nat.{ℕ, suc, _<_}
-use borrow.Author.Tests.{eqb-true, eq-eqb}
-use lib.Dec.{eqb}
+use borrow.Author.Tests.{eqb-true, eq-eqb, lt-ltb}
+use lib.Dec.{eqb, ltb}
 use native.Mathlib.Nat.{le-refl}
 use lib.ListN.{length, getD, take, drop, drop-of-length-le}
 use lib.Seq.{split-at, drop-cons}
@@ -14,7 +14,7 @@ use Rattle.rules.specs.Counting.{Set, some}
 use Rattle.rules.specs.Game.{Game}
 use Rattle.rules.specs.Winning.{Reach, here, step}
 use Rattle.rules.specs.Solitaire.{Links, samePart, goodPart}
-use Rattle.theory.specs.Basics.{bool-cases, clash, bool-ext, not-true-is-false, some-cong}
+use Rattle.theory.specs.Basics.{bool-cases, clash, bool-ext, and-intro, and-left, and-right, not-true-is-false, some-cong}
 use Rattle.theory.specs.Walks.{Relation, Among, reach-step, reach-map}
 use Rattle.theory.specs.Links.{Linked, Together, together-sym, together-trans, same-part-together, together-same-part}
 use Rattle.theory.specs.DepthFirst.{FinishingOrder, Marks, marks-cases, marks-keeps, arrives}
@@ -312,34 +312,47 @@ labels-exact parts u w p q = (
   λ both. sym (parts .whole u w p both .1),
 )
 
--- what the rules' tests say, by labels
-module _ (n : ℕ) (links : Links) (assigned : Set) (label : ℕ → ℕ) (parts : Assigned (Linked n links) assigned label) (all : (v : ℕ) → v < n → assigned v ≡ true) where
-  -- the test samePart compares labels
-  pub labels-same-part : (v u : ℕ) → v < n → u < n → samePart n links v u ≡ eqb (label v) (label u)
-  labels-same-part v u l m =
-      let (to, from) = labels-exact parts v u (all v l) (all u m) in
-      bool-ext
-      (samePart n links v u)
-      (eqb (label v) (label u))
-      (λ p. eq-eqb (label v) (label u) (from (same-part-together n links p)))
-      (λ p. together-same-part n links l m (to (eqb-true (label v) (label u) p)))
+-- links below n run among the numbers below n
+pub linked-ends : (n : ℕ) (links : Links) (v w : ℕ) → Linked n links v w → (ltb v n ≡ true) × (ltb w n ≡ true)
+linked-ends n links v w e = (lt-ltb v n (e .start), lt-ltb w n (e .end))
 
--- and so does goodPart: some vertex of the same label has priority p, and there is a self loop or another vertex of that label
+-- The test samePart, from an assigned vertex, compares labels.
+pub labels-same-part :
+    (n : ℕ) (links : Links) {assigned : Set} {label : ℕ → ℕ} →
+    Assigned (Linked n links) assigned label →
+    (v u : ℕ) →
+    v < n →
+    u < n →
+    assigned v ≡ true →
+    samePart n links v u ≡ (assigned u && eqb (label v) (label u))
+labels-same-part n links {assigned} {label} parts v u l m p =
+    bool-ext
+    (samePart n links v u)
+    (assigned u && eqb (label v) (label u))
+    (λ q.
+    let (there, e) = parts .whole v u p (same-part-together n links q) in
+    and-intro there (eq-eqb (label v) (label u) (sym e)))
+    (λ q.
+    let there = and-left (assigned u) (eqb (label v) (label u)) q in
+    let e = eqb-true (label v) (label u) (and-right (assigned u) (eqb (label v) (label u)) q) in
+    together-same-part n links l m (labels-exact parts v u p there .0 e))
+
+-- So goodPart asks for a vertex of the same label that has priority p, and for a self loop or another vertex of that label.
 pub labels-good-part :
-    (g : Game) (links : Links) (assigned : Set) (label : ℕ → ℕ) →
+    (g : Game) (links : Links) {assigned : Set} {label : ℕ → ℕ} →
     Assigned (Linked (g .size) links) assigned label →
-    ((v : ℕ) → v < g .size → assigned v ≡ true) →
     (p v : ℕ) →
     v < g .size →
+    assigned v ≡ true →
     goodPart g links p v ≡
-    (some (g .size) (λ u. eqb (label v) (label u) && eqb (g .priority u) p) &&
-    (links v v || some (g .size) (λ u. not (eqb u v) && eqb (label v) (label u))))
+    (some (g .size) (λ u. assigned u && eqb (label v) (label u) && eqb (g .priority u) p) &&
+    (links v v || some (g .size) (λ u. not (eqb u v) && (assigned u && eqb (label v) (label u)))))
 unfolding goodPart
-labels-good-part g links assigned label parts all p v l =
+labels-good-part g links parts p v l at-v =
     let n = g .size in
     ap₂
     (λ (b c : Bool). b && (links v v || c))
     (some-cong n _ _
-    (λ u m. ap (λ (b : Bool). b && eqb (g .priority u) p) (labels-same-part n links assigned label parts all v u l m)))
+    (λ u m. ap (λ (b : Bool). b && eqb (g .priority u) p) (labels-same-part n links parts v u l m at-v)))
     (some-cong n _ _
-    (λ u m. ap (λ (b : Bool). not (eqb u v) && b) (labels-same-part n links assigned label parts all v u l m)))
+    (λ u m. ap (λ (b : Bool). not (eqb u v) && b) (labels-same-part n links parts v u l m at-v)))

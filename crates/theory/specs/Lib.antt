@@ -17,5 +17,7 @@ pub mod Worked
 pub mod Links
 pub mod Solitaire
 pub mod Checker
+pub mod Chosen
+pub mod SolitaireAttractor
 pub mod DepthFirst
 pub mod Kosaraju

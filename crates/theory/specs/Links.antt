@@ -2,7 +2,7 @@
 -- the cycles that goodPart and onCycle look for, and distances.
 use mathlib.Core.Bool.{true, _&&_, _||_, not}
 use mathlib.Core.Logic.{_⊎_, inl, inr, ⊎-elim}
-use mathlib.Core.Path.{_≡_, refl, _∙_}
+use mathlib.Core.Path.{_≡_, refl, sym, _∙_}
 use Prim.Native.Nat.{ℕ, zero, suc, _+_, max, _≤_, _<_}
 use native.Mathlib.Nat.{le-refl, le-trans, le-antisymm, le-of-suc-le-suc}
 use native.Mathlib.Omega.{arith}
@@ -15,7 +15,7 @@ use Rattle.rules.specs.Solitaire.{Links, spread, reached, samePart, goodPart}
 use Rattle.rules.specs.Checker.{onCycle}
 use Rattle.theory.specs.Basics.{bool-cases, clash, bool-ext, and-intro, and-left, and-right, or-left, or-right, or-cases}
 use Rattle.theory.specs.Basics.{some-intro, some-elim, within-below, within-member, lowest-found, lowest-none, below-lowest, le-of-not-lt}
-use Rattle.theory.specs.Walks.{Relation, Carries, Among, reach-append, reach-map, reach-stays, walk-reach}
+use Rattle.theory.specs.Walks.{Relation, Carries, Among, reach-append, reach-map, reach-stays, walk-map, walk-reach}
 use Rattle.theory.specs.Walks.{reach-walk, leaves-start, highest-bounds, highest-attained, highest-le, left-reach}
 use Rattle.theory.specs.Rounds.{Settled, rounds-settle}
 
@@ -389,6 +389,37 @@ module _ (g : Game) (links : Links) (p v : ℕ) where
 
   pub cycle-on-cycle-of : Cycle (g .priority) (Linked (g .size) links) v p → onCycle g links p v ≡ true
   cycle-on-cycle-of c = on-cycle-intro (cycle-on-cycle c)
+
+-- a walk along a relation is one along any that it is carried to
+pub on-cycle-map : {priority : ℕ → ℕ} {R Q : Relation} {p v : ℕ} → Carries R Q → OnCycle priority R p v → OnCycle priority Q p v
+on-cycle-map f on =
+    record {
+      highest = on .highest;
+      cycle = walk-map f (on .cycle);
+      vertex = on .vertex;
+      part = (reach-map f (on .part .0), reach-map f (on .part .1));
+      exactly = on .exactly;
+    }
+
+-- Links that agree below the size have the same good parts.
+pub good-part-agrees :
+    (g : Game) (links links' : Links) →
+    ((x y : ℕ) → x < g .size → y < g .size → links x y ≡ links' x y) →
+    (p v : ℕ) →
+    goodPart g links p v ≡ goodPart g links' p v
+good-part-agrees g links links' agree p v =
+    bool-ext
+    (goodPart g links p v)
+    (goodPart g links' p v)
+    (λ q. good-part-intro g links' p v (on-cycle-map to (good-part-elim g links p v q)))
+    (λ q. good-part-intro g links p v (on-cycle-map from (good-part-elim g links' p v q)))
+  where
+    to : Carries (Linked (g .size) links) (Linked (g .size) links')
+    to x y e =
+        record { edge = sym (agree x y (e .start) (e .end)) ∙ e .edge; start = e .start; end = e .end }
+
+    from : Carries (Linked (g .size) links') (Linked (g .size) links)
+    from x y e = record { edge = agree x y (e .start) (e .end) ∙ e .edge; start = e .start; end = e .end }
 
 -- how many steps v is from u along the links, and n + 1 where u cannot be reached
 unfoldable pub distance : ℕ → Links → ℕ → ℕ → ℕ

@@ -48,6 +48,11 @@ le-greatest (suc n) S f v l p =
     (λ k. le-trans (le-greatest n S f v k p) (le-max-left (greatest n S f) _))
     (below-suc l)
 
+-- the vertices in a good part for some priority of a's parity
+unfoldable pub partsFor : Game → Player → Set
+partsFor g a =
+    within (g .size) (λ v. some (suc (highestIn g (everywhere g))) (λ p. same (parity p) a && onPart g p v))
+
 module _ (g : Game) where
   -- a link inside X is an edge between members of X
   pub inside-elim : (X : Set) (v w : ℕ) → inside g X v w ≡ true → (X v ≡ true) × (X w ≡ true) × Edge g v w
@@ -104,9 +109,10 @@ module _ (g : Game) where
       let (w, e, r) = first-step d in
       and-intro (inside-elim (atMost g p) v w (e .edge) .0) (cycle-good-part g (inside g (atMost g p)) p v d)
 
-  -- the vertices on a cycle of edges of a's parity
-  parts : Player → Set
-  parts a = within (g .size) (λ v. some (suc (highestIn g (everywhere g))) (λ p. same (parity p) a && onPart g p v))
+  -- a vertex in a good part for p has priority p at most, and some vertex has p
+  pub on-part-highest : (p v : ℕ) → onPart g p v ≡ true → p ≤ highestIn g (everywhere g)
+  on-part-highest p v q =
+      highest-le (highestIn g (everywhere g)) (λ x y e. priority-le-highest x (e .start)) (on-part-cycle p v q)
 
   -- The answer holds only vertices from which a cycle of a's parity can be reached.
   pub solitaire-elim :
@@ -118,13 +124,13 @@ module _ (g : Game) where
       (parity p ≡ a) ×
       Reach (Linked (g .size) (inside g (everywhere g))) v w ×
       Cycle (g .priority) (Linked (g .size) (inside g (atMost g p))) w p
-  unfolding solitaire parts
+  unfolding solitaire partsFor
   solitaire-elim a v q =
       let n = g .size in
-      let (small, r) = within-member n (λ v. some n (λ w. reached n (inside g (everywhere g)) v w && parts a w)) v q in
-      let (w, l, s) = some-elim n (λ w. reached n (inside g (everywhere g)) v w && parts a w) r in
-      let there = and-left (reached n (inside g (everywhere g)) v w) (parts a w) s in
-      let on = and-right (reached n (inside g (everywhere g)) v w) (parts a w) s in
+      let (small, r) = within-member n (λ v. some n (λ w. reached n (inside g (everywhere g)) v w && partsFor g a w)) v q in
+      let (w, l, s) = some-elim n (λ w. reached n (inside g (everywhere g)) v w && partsFor g a w) r in
+      let there = and-left (reached n (inside g (everywhere g)) v w) (partsFor g a w) s in
+      let on = and-right (reached n (inside g (everywhere g)) v w) (partsFor g a w) s in
       let (p, k, t) =
       some-elim
       (suc (highestIn g (everywhere g)))
@@ -147,7 +153,7 @@ module _ (g : Game) where
       Reach (Edge g) v w →
       Cycle (g .priority) (Edge g) w p →
       solitaire g a v ≡ true
-  unfolding solitaire parts
+  unfolding solitaire partsFor
   solitaire-intro total a v w p small mine r c =
       let n = g .size in
       let (x, e, back) = first-step c in
@@ -174,7 +180,7 @@ module _ (g : Game) where
       within-below n _ v small ∙
       some-intro
       n
-      (λ w. reached n (inside g (everywhere g)) v w && parts a w)
+      (λ w. reached n (inside g (everywhere g)) v w && partsFor g a w)
       w
       l
       (and-intro there (within-below n _ w l ∙ found))
@@ -309,7 +315,9 @@ module _
   far-dominion : Dominion g a (everywhere g) far (returning g p u x)
   far-dominion =
       dominion-drawn
-      (λ v q. reach-reached (g .size) (inside g (everywhere g)) (low-below v q) (reach-map (wider g p) (reached-reach (g .size) (inside g (atMost g p)) q)))
+      (λ v q.
+      reach-reached (g .size) (inside g (everywhere g)) (low-below v q)
+      (reach-map (wider g p) (reached-reach (g .size) (inside g (atMost g p)) q)))
       low-dominion
       far-held
 
