@@ -26,7 +26,7 @@ use Rattle.theory.specs.Walks.{Among, walk-map, walk-among, stays, first
 use Rattle.theory.specs.OneWinner.{not-both-win}
 use Rattle.theory.specs.Dominion.{Dominion, Inside, owner-cases, partition-exact, partition-entries, firstTarget, first-target-edge}
 use Rattle.theory.specs.Tables.{then-none, givenAt-none, accepted-total}
-use Rattle.theory.specs.Links.{Linked, on-cycle-cycle-of, cycle-on-cycle-of}
+use Rattle.theory.specs.Links.{Linked, on-cycle-test-cycle, cycle-on-cycle-test}
 use Rattle.theory.specs.Solitaire.{edge-test, test-edge, priority-le-highest}
 
 -- the sets that two lists of words claim for the players
@@ -307,7 +307,7 @@ module _ (g : Game) (even strategy : List ℕ) where
       (clash
       (and-intro
       (and-intro (ap not q) (le-leb (g .priority v) p (highest-bounds c v (leaves-start c))))
-      (cycle-on-cycle-of g (keptEdges g even strategy p) p v c))
+      (cycle-on-cycle-test g (keptEdges g even strategy p) p v c))
       fails))
       (bool-cases (same (parity p) (winnerOf even v)))
 
@@ -334,7 +334,7 @@ module _ (g : Game) (even strategy : List ℕ) where
       let low = leb (g .priority v) p in
       let on = onCycle g (keptEdges g even strategy p) p v in
       let c =
-      on-cycle-cycle-of g (keptEdges g even strategy p) p v (λ x y e. kept-elim p x y e .low) (and-right (wrong && low) on q) in
+      on-cycle-test-cycle g (keptEdges g even strategy p) p v (λ x y e. kept-elim p x y e .low) (and-right (wrong && low) on q) in
       same-false
       (parity p)
       (winnerOf even v)

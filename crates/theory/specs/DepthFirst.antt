@@ -164,11 +164,11 @@ through-snoc xs (step e r) =
     (snoc-cases xs (e .start))
 
 -- the state with these parts
-abbrev pub at : Set → List ℕ → List ℕ → Search
-at visited stack done = record { visited = visited; stack = stack; done = done }
+abbrev pub searching : Set → List ℕ → List ℕ → Search
+searching visited stack done = record { visited = visited; stack = stack; done = done }
 
 -- before anything is visited
-pub dfs-starts : (R : Relation) (n : ℕ) (visited : Set) → ((v : ℕ) → visited v ≡ false) → Searched R n (at visited [] [])
+pub dfs-starts : (R : Relation) (n : ℕ) (visited : Set) → ((v : ℕ) → visited v ≡ false) → Searched R n (searching visited [] [])
 dfs-starts R n visited fresh =
     record {
       below = λ u p. absurd (clash p (fresh u));
@@ -182,7 +182,7 @@ dfs-starts R n visited fresh =
       ordered = λ k l. absurd (not-suc-le-zero l);
     }
 
-module _ {R : Relation} {n : ℕ} {visited : Set} {stack done : List ℕ} (kept : Searched R n (at visited stack done)) where
+module _ {R : Relation} {n : ℕ} {visited : Set} {stack done : List ℕ} (kept : Searched R n (searching visited stack done)) where
   -- there is room for a vertex that is not yet visited
   pub dfs-room : (y : ℕ) → y < n → visited y ≡ false → length stack + length done < n
   dfs-room y l fresh =
@@ -198,7 +198,7 @@ module _ {R : Relation} {n : ℕ} {visited : Set} {stack done : List ℕ} (kept 
       visited y ≡ false →
       ReachesUp R stack y →
       Marks y visited visited' →
-      Searched R n (at visited' (stack ++ (y ∷ [])) done)
+      Searched R n (searching visited' (stack ++ (y ∷ [])) done)
   dfs-pushes visited' y l fresh up marks =
       record {
         below = λ u p. ⊎-elim (λ e. rw e l) (λ q. kept .below u q) (marks-cases marks u p);
@@ -235,8 +235,8 @@ module _ {R : Relation} {n : ℕ} {visited : Set} {stack done : List ℕ} (kept 
 pub dfs-pops :
     {R : Relation} {n : ℕ} {visited : Set} {done : List ℕ} (stack : List ℕ) (t : ℕ) →
     ((w : ℕ) → R t w → visited w ≡ true) →
-    Searched R n (at visited (stack ++ (t ∷ [])) done) →
-    Searched R n (at visited stack (done ++ (t ∷ [])))
+    Searched R n (searching visited (stack ++ (t ∷ [])) done) →
+    Searched R n (searching visited stack (done ++ (t ∷ [])))
 dfs-pops {R} {n} {visited} {done} stack t seen kept =
     record {
       below = kept .below;
@@ -293,18 +293,18 @@ pub data Move (R : ℕ → ℕ → Type 0) (n : ℕ) : Search → Search → Typ
       r < n →
       visited r ≡ false →
       Marks r visited visited' →
-      Move R n (at visited [] done) (at visited' (r ∷ []) done)
+      Move R n (searching visited [] done) (searching visited' (r ∷ []) done)
   push :
       {visited visited' : Set} {done : List ℕ} {y : ℕ} (below : List ℕ) (t : ℕ) →
       R t y →
       y < n →
       visited y ≡ false →
       Marks y visited visited' →
-      Move R n (at visited (below ++ (t ∷ [])) done) (at visited' ((below ++ (t ∷ [])) ++ (y ∷ [])) done)
+      Move R n (searching visited (below ++ (t ∷ [])) done) (searching visited' ((below ++ (t ∷ [])) ++ (y ∷ [])) done)
   pop :
       {visited : Set} {done : List ℕ} (below : List ℕ) (t : ℕ) →
       ((w : ℕ) → R t w → visited w ≡ true) →
-      Move R n (at visited (below ++ (t ∷ [])) done) (at visited below (done ++ (t ∷ [])))
+      Move R n (searching visited (below ++ (t ∷ [])) done) (searching visited below (done ++ (t ∷ [])))
 
 -- **Every move keeps what the search keeps.**
 pub dfs-keeps : {R : Relation} {n : ℕ} {s s' : Search} → Move R n s s' → Searched R n s → Searched R n s'
@@ -328,7 +328,7 @@ pub record FinishingOrder (R : Relation) (X : Set) (order : List ℕ) : Type 0 w
 -- **When the stack is empty and all vertices of X are visited, the finished vertices stand in such an order.**
 pub dfs-done-order :
     {R : Relation} {n : ℕ} {visited X : Set} {done : List ℕ} →
-    Searched R n (at visited [] done) →
+    Searched R n (searching visited [] done) →
     ((v : ℕ) → X v ≡ true → visited v ≡ true) →
     FinishingOrder R X done
 dfs-done-order kept all =

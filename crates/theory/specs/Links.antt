@@ -381,14 +381,14 @@ module _ (g : Game) (links : Links) (p v : ℕ) where
   cycle-good-part c = good-part-intro (cycle-on-cycle c)
 
   -- And so does onCycle.
-  pub on-cycle-cycle-of :
+  pub on-cycle-test-cycle :
       ((x y : ℕ) → links x y ≡ true → g .priority x ≤ p) →
       onCycle g links p v ≡ true →
       Cycle (g .priority) (Linked (g .size) links) v p
-  on-cycle-cycle-of small q = on-cycle-cycle (λ x y e. small x y (e .edge)) (on-cycle-elim q)
+  on-cycle-test-cycle small q = on-cycle-cycle (λ x y e. small x y (e .edge)) (on-cycle-elim q)
 
-  pub cycle-on-cycle-of : Cycle (g .priority) (Linked (g .size) links) v p → onCycle g links p v ≡ true
-  cycle-on-cycle-of c = on-cycle-intro (cycle-on-cycle c)
+  pub cycle-on-cycle-test : Cycle (g .priority) (Linked (g .size) links) v p → onCycle g links p v ≡ true
+  cycle-on-cycle-test c = on-cycle-intro (cycle-on-cycle c)
 
 -- a walk along a relation is one along any that it is carried to
 pub on-cycle-map : {priority : ℕ → ℕ} {R Q : Relation} {p v : ℕ} → Carries R Q → OnCycle priority R p v → OnCycle priority Q p v
