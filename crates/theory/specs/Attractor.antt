@@ -6,15 +6,14 @@ use mathlib.Core.Path.{_≡_, ap₂, subst, fun-ext, _∙_}
 use Prim.Native.Nat.{ℕ, zero, suc, _≤_, _<_, zero-le}
 use native.Mathlib.Nat.{le-of-suc-le-suc, eq-or-lt-of-le}
 use native.Mathlib.Omega.{arith}
-use Rattle.rules.specs.Counting.{Set, some, someOf, everyOf, count, within, without}
+use Rattle.rules.specs.Counting.{Set, someOf, everyOf, within}
 use Rattle.rules.specs.Game.{Player, Game, Edge, same}
 use Rattle.rules.specs.Attractor.{drawn, Closed, IsAttractor, grown, attractor}
-use Rattle.theory.specs.Basics.{bool-cases, clash, bool-ext, and-intro, and-left, and-right, or-left, or-right, or-cases}
-use Rattle.theory.specs.Basics.{not-false-is-true, same-true, same-false, true-same, false-same}
-use Rattle.theory.specs.Basics.{some-elim, some-false, someOf-intro, someOf-elim, everyOf-intro, everyOf-elim}
-use Rattle.theory.specs.Basics.{without-intro, without-left, without-right}
-use Rattle.theory.specs.AttractorBasics.{count-full}
-use Rattle.theory.specs.Basics.{within-below, within-member, count-strict}
+use Rattle.theory.specs.Basics.{bool-cases, bool-ext, and-intro, and-left, and-right, or-left, or-right, or-cases}
+use Rattle.theory.specs.Basics.{same-true, same-false, true-same, false-same}
+use Rattle.theory.specs.Basics.{someOf-intro, someOf-elim, everyOf-intro, everyOf-elim}
+use Rattle.theory.specs.Rounds.{Settled, rounds-settle}
+use Rattle.theory.specs.Basics.{within-below, within-member}
 
 -- v may be drawn into S, with the edges that show it
 pub data Draws (g : Game) (a : Player) (V' S : Set) (v : ℕ) : Type 0 where
@@ -151,63 +150,16 @@ module _ (g : Game) (a : Player) (V' T : Set) where
       (λ d. c .attracted v (drawn-so v (draws-more (λ w q. grown-smallest S' c k w q) d)))
       (grown-back k v p)
 
-  -- the next round adds nothing
-  abbrev Settled : ℕ → Type 0
-  Settled k = (v : ℕ) → grown g a V' T (suc k) v ≡ true → grown g a V' T k v ≡ true
-
-  settled-stays : (k : ℕ) → Settled k → Settled (suc k)
+  settled-stays : (k : ℕ) → Settled (grown g a V' T) k → Settled (grown g a V' T) (suc k)
   settled-stays k s v p =
       ⊎-elim
       (λ q. q)
       (λ d. grown-draws k v (grown-below (suc (suc k)) v p) (draws-more s d))
       (grown-back (suc k) v p)
 
-  -- a round that is not the last adds a member
-  settled-or-more : (k : ℕ) → Settled k ⊎ (count (g .size) (grown g a V' T k) < count (g .size) (grown g a V' T (suc k)))
-  settled-or-more k = ⊎-elim more still (bool-cases (some (g .size) added))
-    where
-      -- the vertices that the next round adds
-      added : Set
-      added = without (grown g a V' T (suc k)) (grown g a V' T k)
-
-      more :
-          some (g .size) added ≡ true →
-          Settled k ⊎ (count (g .size) (grown g a V' T k) < count (g .size) (grown g a V' T (suc k)))
-      more p =
-          let (v, l, q) = some-elim (g .size) added p in
-          let new = without-right (grown g a V' T (suc k)) (grown g a V' T k) v q in
-          let there = without-left (grown g a V' T (suc k)) (grown g a V' T k) v q in
-          inr (count-strict (g .size) _ _ (λ w i. grown-kept k w) v l new there)
-
-      still :
-          some (g .size) added ≡ false →
-          Settled k ⊎ (count (g .size) (grown g a V' T k) < count (g .size) (grown g a V' T (suc k)))
-      still p =
-          inl
-          (λ v q.
-          not-false-is-true
-          (grown g a V' T k v)
-          (λ out.
-          clash
-          (without-intro (grown g a V' T (suc k)) (grown g a V' T k) v q out)
-          (some-false (g .size) added p v (grown-below (suc k) v q))))
-
-  -- after k rounds it has settled, or has k members
-  settled-or-large : (k : ℕ) → Settled k ⊎ (k ≤ count (g .size) (grown g a V' T k))
-  settled-or-large zero = inr (omega arith)
-  settled-or-large (suc k) =
-      ⊎-elim
-      (λ s. inl (settled-stays k s))
-      (λ large. ⊎-elim (λ s. inl (settled-stays k s)) (λ more. inr (omega arith)) (settled-or-more k))
-      (settled-or-large k)
-
   -- after as many rounds as there are vertices it has settled
-  attractor-settled : Settled (g .size)
-  attractor-settled =
-      ⊎-elim
-      (λ s. s)
-      (λ large v p. count-full (g .size) (grown g a V' T (g .size)) large v (grown-below (suc (g .size)) v p))
-      (settled-or-large (g .size))
+  attractor-settled : Settled (grown g a V' T) (g .size)
+  attractor-settled = rounds-settle (g .size) (grown g a V' T) grown-below grown-kept settled-stays
 
 -- T lies in V' and V' among the vertices
 pub record Fits (g : Game) (V' T : Set) : Type 0 where

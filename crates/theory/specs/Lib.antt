@@ -1,12 +1,15 @@
--- Theorems about the rules alone: one winner, dominions, attractors, relabelled priorities, Zielonka's recursion and its bound, the worked games.
+-- Theorems about the rules alone: one winner, dominions, attractors, Zielonka's recursion and its bound, strongly connected parts,
+-- solitaire, the checker, relabelled priorities, and the worked games.
 pub mod Basics
 pub mod Walks
+pub mod Orbit
 pub mod OneWinner
 pub mod Dominion
 pub mod Tables
 pub mod Relabelling
 pub mod Compaction
 pub mod AttractorBasics
+pub mod Rounds
 pub mod Attractor
 pub mod AttractorRank
 pub mod AttractorEntries
@@ -19,4 +22,11 @@ pub mod RunSound
 pub mod RunSame
 pub mod Zielonka
 pub mod Bound
+pub mod Links
+pub mod Solitaire
+pub mod Checker
+pub mod Chosen
+pub mod SolitaireAttractor
+pub mod DepthFirst
+pub mod Kosaraju
 pub mod Worked

@@ -38,15 +38,15 @@ pub record Facts (t : Tables) : Type 0 where
   pub leads : (v : ℕ) → v < vertices t → offset t v < offset t (v + 1)
 
 -- where the first of two that applies is none, neither applies
-then-none : (x y : Verdict) → (x then y) ≡ none → (x ≡ none) × (y ≡ none)
+pub then-none : (x y : Verdict) → (x then y) ≡ none → (x ≡ none) × (y ≡ none)
 then-none none y e = (refl, e)
 then-none (refused k p) y e = let z : _≡_ {A = ℕ} 0 1 = cc in absurd (omega arith)
 
-given-none : (k p : ℕ) (test : Bool) → given k p test ≡ none → test ≡ false
+pub given-none : (k p : ℕ) (test : Bool) → given k p test ≡ none → test ≡ false
 given-none k p true e = let z : _≡_ {A = ℕ} 0 1 = cc in absurd (omega arith)
 given-none k p false e = refl
 
-givenAt-none : (k n : ℕ) (test : Set) → givenAt k n test ≡ none → (v : ℕ) → v < n → test v ≡ false
+pub givenAt-none : (k n : ℕ) (test : Set) → givenAt k n test ≡ none → (v : ℕ) → v < n → test v ≡ false
 unfolding givenAt
 givenAt-none k n test e = some-false n test (given-none k _ (some n test) e)
 
