@@ -1,23 +1,24 @@
 -- Document 01's worked games as one list, and one theorem: for each of them the rules give the winners, calls, rounds, looks and
--- solitaire set that the document states. Owner letters E, O; then priority; then targets.
+-- solitaire set that the document states, and the checker its verdicts. Owner letters E, O; then priority; then targets.
 use mathlib.Core.Bool.{Bool, true, false, not, _&&_, cond}
 use mathlib.Core.List.{List, [], _∷_}
 use mathlib.Core.Path.{_≡_, refl, subst}
-use Prim.Native.Nat.{ℕ, zero, suc, _+_, _≤_}
+use Prim.Native.Nat.{ℕ, _+_}
 use lib.Dec.{lit≤}
-use Rattle.rules.specs.Counting.{some, every, count, someOf, everyOf, times, lowest, highest, listed, within, noted, greatest}
+use Rattle.rules.specs.Counting.{some, every, count, someOf, everyOf, times, lowest, listed, within, noted, greatest}
 use Rattle.rules.specs.Game.{Player, Even, Odd, Game, everywhere, edges, parity}
-use Rattle.rules.specs.Outcome.{none, givenAt}
-use Rattle.rules.specs.Tables.{Tables, gameOf, degree, targetsOf, Accepted, tableChecks}
+use Rattle.rules.specs.Outcome.{Verdict, none, refused, givenAt}
+use Rattle.rules.specs.Tables.{Tables, gameOf, degree, targetsOf, words, Accepted, tableChecks}
 use Rattle.rules.specs.Tables.{check1, check2, check3, check4, check5, check6, check7, check8}
 use Rattle.rules.specs.Winning.{WinningEntries}
-use Rattle.rules.specs.Words.{noEntry, entry}
+use Rattle.rules.specs.Words.{digit, bit, setOf, noEntry, entry}
 use Rattle.rules.specs.Attractor.{drawn, grown, attractor, indegree, looksOf}
 use Rattle.rules.specs.Zielonka.{withPriority, highestIn, oneCall, callOn, zielonkaOn, zielonka}
 use Rattle.rules.specs.Budget.{choose, chooseUpTo, callBound, differentPriorities}
 use Rattle.rules.specs.Promotion.{atStart, regionSet, isOpen, wayOut, movedDown, dominionSolved, promoted}
 use Rattle.rules.specs.Promotion.{roundOf, afterRounds, allSolved, roundsNeeded}
 use Rattle.rules.specs.Solitaire.{spread, goodPart, solitaire}
+use Rattle.rules.specs.Checker.{check21, check22, check23, onCycle, check24, certificateChecks}
 
 -- what the document states of a worked game
 pub data Claim : Type 0 where
@@ -36,6 +37,8 @@ pub data Claim : Type 0 where
   solitaireSet : List Bool → Claim
   -- a winning strategy has no entry at this vertex
   noneAt : ℕ → Claim
+  -- the checker's verdict on Even's set, Odd's set and a strategy
+  checked : List ℕ → List ℕ → List ℕ → Verdict → Claim
 
 pub record Worked : Type 0 where
   pub tables : Tables
@@ -66,6 +69,7 @@ Says g (looks k) =
     (attractor g (parity (highestIn g (everywhere g))) (everywhere g) (withPriority g (everywhere g) (highestIn g (everywhere g))))
     ≡ k
 Says g (solitaireSet ws) = listed (g .size) (solitaire g (g .owner 0)) ≡ ws
+Says g (checked even odd strategy verdict) = certificateChecks g even odd strategy ≡ verdict
 Says g (noneAt v) = (strategy : List ℕ) → WinningEntries g (zielonka g .won) strategy → entry strategy v ≡ noEntry
 
 abbrev pub SaysAll : Game → List Claim → Type 0
@@ -181,8 +185,30 @@ C9 =
       claims = winners (1 ∷ 1 ∷ []) ∷ solitaireSet (false ∷ false ∷ []) ∷ calls 4 ∷ [];
     }
 
+-- C10, checker on C6: Even claims both, 0→1: 24 at 1. Sets {0},{1}, 0→1, 1→1: 23 at 0.
+pub C10 : Worked
+unfolding C6
+C10 =
+    record {
+      tables = C6 .tables;
+      claims =
+          checked (3 ∷ []) (0 ∷ []) (1 ∷ noEntry ∷ []) (refused 24 1) ∷ checked (1 ∷ []) (2 ∷ []) (1 ∷ 1 ∷ []) (refused 23 0) ∷ [];
+    }
+
+-- C11, checker on C7: 0→0 gives 22 at 0.
+pub C11 : Worked
+unfolding C7
+C11 =
+    record { tables = C7 .tables; claims = checked (3 ∷ []) (0 ∷ []) (0 ∷ noEntry ∷ []) (refused 22 0) ∷ [] }
+
+-- C11, checker on C5: vertex 0 in no set gives 21 at 0.
+pub C11-on-C5 : Worked
+unfolding C5
+C11-on-C5 =
+    record { tables = C5 .tables; claims = checked (2 ∷ []) (0 ∷ []) (noEntry ∷ 1 ∷ []) (refused 21 0) ∷ [] }
+
 pub workedGames : List Worked
-workedGames = C1 ∷ C2 ∷ C3 ∷ C4 ∷ C5 ∷ C6 ∷ C7 ∷ C8 ∷ C9 ∷ []
+workedGames = C1 ∷ C2 ∷ C3 ∷ C4 ∷ C5 ∷ C6 ∷ C7 ∷ C8 ∷ C9 ∷ C10 ∷ C11 ∷ C11-on-C5 ∷ []
 
 Even≢Odd : Even ≡ Odd → ⊥
 Even≢Odd e = subst isEven e tt
@@ -194,10 +220,11 @@ Even≢Odd e = subst isEven e tt
 -- The rules give, for every worked game, what document 01 states of it.
 pub worked-games : AllTrue workedGames
 unfolding
-    workedGames C1 C2 C3 C4 C5 C6 C7 C8 C9 winnerNumber promotes some every count someOf everyOf times lowest highest listed within
-    noted greatest edges givenAt gameOf degree targetsOf Accepted tableChecks check1 check2 check3 check4 check5 check6 check7 check8
-    drawn grown attractor indegree looksOf oneCall callOn zielonkaOn zielonka choose chooseUpTo differentPriorities atStart regionSet
-    isOpen wayOut movedDown dominionSolved promoted roundOf afterRounds allSolved roundsNeeded spread goodPart solitaire
+    workedGames C1 C2 C3 C4 C5 C6 C7 C8 C9 C10 C11 C11-on-C5 winnerNumber promotes some every count someOf everyOf times lowest listed
+    within noted greatest edges givenAt gameOf degree targetsOf words digit bit setOf Accepted tableChecks check1 check2 check3 check4
+    check5 check6 check7 check8 drawn grown attractor indegree looksOf oneCall callOn zielonkaOn zielonka choose chooseUpTo
+    differentPriorities atStart regionSet isOpen wayOut movedDown dominionSolved promoted roundOf afterRounds allSolved roundsNeeded
+    spread goodPart solitaire check21 check22 check23 onCycle check24 certificateChecks
 worked-games = (
   refl,
   (refl, (refl, (refl, tt))),
@@ -225,7 +252,19 @@ worked-games = (
                 (
                   refl,
                   (refl, (refl, (refl, tt))),
-                  tt,
+                  (
+                    refl,
+                    (refl, (refl, tt)),
+                    (
+                      refl,
+                      (refl, tt),
+                      (
+                        refl,
+                        (refl, tt),
+                        tt,
+                      ),
+                    ),
+                  ),
                 ),
               ),
             ),
