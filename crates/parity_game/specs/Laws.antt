@@ -1,25 +1,23 @@
 -- What callers of the checks go by: how verdicts follow one another, that a number 0 says that nothing was refused, and all that
 -- is known of tables that were accepted.
-use mathlib.Core.Bool.{Bool, true, false, true≢false, not, _&&_, _||_}
+use mathlib.Core.Bool.{Bool, true, false, not, _&&_, _||_}
 use mathlib.Core.List.{List, [], _∷_}
 use mathlib.Core.Logic.{_↔_}
 use mathlib.Core.Path.{_≡_, refl, sym, _∙_, ap, subst}
-use Prim.Native.Nat.{ℕ, zero, suc, _+_, _<_, _≤_}
-use native.Mathlib.Decide.{decLe}
-use native.Mathlib.Nat.{le-refl, le-trans}
-use native.Mathlib.Numerals.{add-one}
+use Prim.Native.Nat.{ℕ, _+_, _<_, _≤_}
 use native.Mathlib.Omega.{arith}
-use borrow.Author.Tests.{ltb-false, leb-false, eqb-true, eqb-false, not-false}
+use borrow.Author.Tests.{ltb-false, eqb-true}
 use lib.Dec.{eqb, ltb}
 use lib.ListN.{length, getD}
 use Rattle.rules.specs.Counting.{some, everyOf}
 use Rattle.rules.specs.Outcome.{Outcome, Verdict, none, refused, given, givenAt, outcome, answered, _then_}
-use Rattle.rules.specs.Tables.{Tables, vertices, edgesIn, words, workWords, degree, tableChecks, Accepted}
+use Rattle.rules.specs.Tables.{Tables, vertices, edgesIn, words, workWords, tableChecks, Accepted}
+pub use Rattle.theory.specs.Tables.{then-none, given-none, givenAt-none, check1-none, check2-none, check3-none, check4-none}
+pub use Rattle.theory.specs.Tables.{check5-none, check6-none, check7-none, check8-none, never-falls, Sound, accepted-sound}
 use Rattle.rules.specs.Tables.{check1, check2, check3, check4, check5, check6, check7, check8, check9, check10}
 use Rattle.parity_game.specs.declared.answer.Answer.{Answer}
 use Rattle.parity_game.specs.declared.answer.Answer.the-variants.{Answered}
 use Rattle.parity_game.specs.Said.{said}
-use Rattle.parity_game.specs.Search.{FailsBelow, some-false}
 
 -- ---- one check after another
 
@@ -34,11 +32,6 @@ isNone (refused k p) = ⊥
 -- a number is not none
 pub refused-is-some : {k p : ℕ} → refused k p ≡ none → ⊥
 refused-is-some e = subst isNone (sym e) tt
-
--- where two checks in a row give nothing, neither does
-pub then-none : (u v : Verdict) → (u then v) ≡ none → (u ≡ none) × (v ≡ none)
-then-none none v e = (refl, e)
-then-none (refused k p) v e = absurd (refused-is-some e)
 
 -- past a check that gives nothing, what is left is the whole
 pub passed : (u v w : Verdict) → u ≡ none → (u then v) ≡ w → v ≡ w
@@ -177,122 +170,6 @@ zero-iff-accepted t r e =
       λ z. zero-none (tableChecks t) (answered 0) (numbered-tables t) (sym number ∙ z),
       λ a. number ∙ ap (λ (v : Verdict). outcome v (answered 0) .number) a,
     )
-
--- ---- what a check that gives nothing says
-
--- a test that is not given fails
-pub given-none : (k p : ℕ) (test : Bool) → given k p test ≡ none → test ≡ false
-given-none k p true e = absurd (refused-is-some e)
-given-none k p false e = refl
-
-pub givenAt-none : (k n : ℕ) (test : ℕ → Bool) → givenAt k n test ≡ none → FailsBelow n test
-unfolding givenAt
-givenAt-none k n test e = some-false n test (given-none k _ (some n test) e)
-
-or-false : (a b : Bool) → a || b ≡ false → (a ≡ false) × (b ≡ false)
-or-false true b e = absurd (true≢false e)
-or-false false b e = (refl, e)
-
-pub check1-none : (n : ℕ) → check1 n ≡ none → n ≤ 4096
-unfolding check1
-check1-none n e = ltb-false 4096 n (given-none 1 0 (ltb 4096 n) e)
-
-pub check2-none : (n p o : ℕ) → check2 n p o ≡ none → (p ≡ n) × (o ≡ n + 1)
-unfolding check2
-check2-none n p o e =
-    let both = or-false (not (eqb p n)) (not (eqb o (n + 1))) (given-none 2 0 _ e) in
-    (eqb-true p n (not-false _ (both .0)), eqb-true o (n + 1) (not-false _ (both .1)))
-
-pub check3-none : (m : ℕ) → check3 m ≡ none → m ≤ 16384
-unfolding check3
-check3-none m e = ltb-false 16384 m (given-none 3 0 (ltb 16384 m) e)
-
-pub check4-none : (n : ℕ) (owners : List ℕ) → check4 n owners ≡ none → (v : ℕ) → v < n → getD owners v 0 ≤ 1
-unfolding check4
-check4-none n owners e v l = ltb-false _ _ (givenAt-none 4 n _ e v l)
-
-pub check5-none : (n : ℕ) (priorities : List ℕ) → check5 n priorities ≡ none → (v : ℕ) → v < n → getD priorities v 0 ≤ 255
-unfolding check5
-check5-none n priorities e v l = ltb-false _ _ (givenAt-none 5 n _ e v l)
-
-pub record Offsets (n m : ℕ) (offsets : List ℕ) : Type 0 where
-  pub first : getD offsets 0 0 ≡ 0
-  pub next : (i : ℕ) → i < n → getD offsets i 0 ≤ getD offsets (i + 1) 0
-  pub last : getD offsets n 0 ≡ m
-
-pub check6-none : (n m : ℕ) (offsets : List ℕ) → check6 n m offsets ≡ none → Offsets n m offsets
-unfolding check6
-check6-none n m offsets e =
-    let one = then-none (given 6 0 (not (eqb (getD offsets 0 0) 0))) _ e in
-    let two = then-none (givenAt 6 n (λ i. ltb (getD offsets (i + 1) 0) (getD offsets i 0))) _ (one .1) in
-    record {
-      first = eqb-true _ _ (not-false _ (given-none 6 0 _ (one .0)));
-      next = λ i l. ltb-false _ _ (givenAt-none 6 n _ (two .0) i l);
-      last = eqb-true _ _ (not-false _ (given-none 6 n _ (two .1)));
-    }
-
-pub check7-none : (n m : ℕ) (targets : List ℕ) → check7 n m targets ≡ none → (e : ℕ) → e < m → getD targets e 0 < n
-unfolding check7
-check7-none n m targets e i l = leb-false _ _ (givenAt-none 7 m _ e i l)
-
-pub check8-none : (n : ℕ) (offsets : List ℕ) → check8 n offsets ≡ none → (v : ℕ) → v < n → 1 ≤ degree offsets v
-unfolding check8
-check8-none n offsets e v l =
-    let h = eqb-false (degree offsets v) 0 (givenAt-none 8 n (λ k. eqb (degree offsets k) 0) e v l) in
-    omega arith
-
--- ---- all that is known of accepted tables
-
-pub record Sound (t : Tables) : Type 0 where
-  pub few-vertices : vertices t ≤ 4096
-  pub priority-each : length (t .priorities) ≡ vertices t
-  pub offset-each : length (t .offsets) ≡ vertices t + 1
-  pub few-edges : edgesIn t ≤ 16384
-  pub owner-small : (v : ℕ) → v < vertices t → getD (t .owners) v 0 ≤ 1
-  pub priority-small : (v : ℕ) → v < vertices t → getD (t .priorities) v 0 ≤ 255
-  pub offset-first : getD (t .offsets) 0 0 ≡ 0
-  pub offset-next : (i : ℕ) → i < vertices t → getD (t .offsets) i 0 ≤ getD (t .offsets) (i + 1) 0
-  pub offset-grows : (i j : ℕ) → i ≤ j → j ≤ vertices t → getD (t .offsets) i 0 ≤ getD (t .offsets) j 0
-  pub offset-last : getD (t .offsets) (vertices t) 0 ≡ edgesIn t
-  pub target-below : (e : ℕ) → e < edgesIn t → getD (t .targets) e 0 < vertices t
-  pub has-edge : (v : ℕ) → v < vertices t → 1 ≤ degree (t .offsets) v
-
--- what never falls from one number to the next never falls
-pub never-falls :
-    (f : ℕ → ℕ) (n : ℕ) → ((i : ℕ) → i < n → f i ≤ f (i + 1)) → (i j : ℕ) → i ≤ j → j ≤ n → f i ≤ f j
-never-falls f n h i zero l b = subst (λ (k : ℕ). f i ≤ f k) (omega arith) (le-refl (f i))
-never-falls f n h i (suc j) l b = go (decLe i j) (never-falls f n h i j)
-  where
-    go : Dec (i ≤ j) → (i ≤ j → j ≤ n → f i ≤ f j) → f i ≤ f (suc j)
-    go (yes p) ih = le-trans (ih p (omega arith)) (rw add-one at (h j b))
-    go (no p) ih = subst (λ (k : ℕ). f i ≤ f k) (omega arith) (le-refl (f i))
-
-pub accepted-sound : (t : Tables) → Accepted t → Sound t
-unfolding Accepted
-accepted-sound t e =
-    let n = vertices t in
-    let all = then-none (lengthChecks t) (from4 t) (sym (tables-grouped t) ∙ e) in
-    let one = then-none (check1 n) (check2 n (length (t .priorities)) (length (t .offsets)) then check3 (edgesIn t)) (all .0) in
-    let two = then-none (check2 n (length (t .priorities)) (length (t .offsets))) (check3 (edgesIn t)) (one .1) in
-    let four = then-none (check4 n (t .owners)) (from5 t) (all .1) in
-    let five = then-none (check5 n (t .priorities)) (from6 t) (four .1) in
-    let six = then-none (check6 n (edgesIn t) (t .offsets)) (from7 t) (five .1) in
-    let seven = then-none (check7 n (edgesIn t) (t .targets)) (check8 n (t .offsets)) (six .1) in
-    let offsets = check6-none n (edgesIn t) (t .offsets) (six .0) in
-    record {
-      few-vertices = check1-none n (one .0);
-      priority-each = check2-none n _ _ (two .0) .0;
-      offset-each = check2-none n _ _ (two .0) .1;
-      few-edges = check3-none (edgesIn t) (two .1);
-      owner-small = check4-none n (t .owners) (four .0);
-      priority-small = check5-none n (t .priorities) (five .0);
-      offset-first = offsets .first;
-      offset-next = offsets .next;
-      offset-grows = never-falls (λ i. getD (t .offsets) i 0) n (offsets .next);
-      offset-last = offsets .last;
-      target-below = check7-none n (edgesIn t) (t .targets) (seven .0);
-      has-edge = check8-none n (t .offsets) (seven .1);
-    }
 
 -- ---- the sizes of sets, tables and the work area
 

@@ -18,7 +18,7 @@ use Rattle.rules.specs.Tables.{Tables, vertices, gameOf, tableChecks, check5, A
 use Rattle.rules.specs.Winning.{Wins, WinningSets}
 use Rattle.theory.specs.Basics.{bool-cases, some-intro, false-some, below-suc}
 use Rattle.theory.specs.Relabelling.{Alike, Keeps, keeps-order, alike-sym, alike-winners, alike-winning-sets}
-use Rattle.theory.specs.Tables.{accepted-facts, accepted-total}
+use Rattle.theory.specs.Tables.{accepted-sound, accepted-total}
 
 -- ---- relabelled tables
 
@@ -48,11 +48,11 @@ module _ (t : Tables) (ok : Accepted t) where
       Accepted (withPriorities t priorities)
   unfolding Accepted tableChecks
   other-priorities-accepted priorities long small =
-      let facts = accepted-facts t ok in
+      let sound = accepted-sound t ok in
       let passes : check5 (vertices t) priorities ≡ check5 (vertices t) (t .priorities) =
       check5-passes (vertices t) priorities small ∙
-      sym (check5-passes (vertices t) (t .priorities) (facts .priorities-small)) in
-      rw (long ∙ sym (facts .priorities-long), passes)
+      sym (check5-passes (vertices t) (t .priorities) (sound .priority-small)) in
+      rw (long ∙ sym (sound .priority-each), passes)
       ok
 
   -- where f keeps order and parity on the priorities in use, the game with f applied to each entry is alike
@@ -73,7 +73,7 @@ module _ (t : Tables) (ok : Accepted t) where
     where
       new : (v : ℕ) → v < vertices t → getD (map f (t .priorities)) v 0 ≡ f (getD (t .priorities) v 0)
       new v l =
-          getD-map-below f (t .priorities) v (rw (accepted-facts t ok .priorities-long) l)
+          getD-map-below f (t .priorities) v (rw (accepted-sound t ok .priority-each) l)
 
 -- ---- the three laws of the rule
 
@@ -194,14 +194,14 @@ module _ (t : Tables) (ok : Accepted t) where
   -- Compacted tables are accepted,
   pub compacted-accepted : Accepted (compactedTables t)
   compacted-accepted =
-      let facts = accepted-facts t ok in
+      let sound = accepted-sound t ok in
       other-priorities-accepted t ok
       (map (compacted (t .priorities)) (t .priorities))
-      (length-map (t .priorities) (compacted (t .priorities)) ∙ facts .priorities-long)
+      (length-map (t .priorities) (compacted (t .priorities)) ∙ sound .priority-each)
       (λ v l.
       let old = getD (t .priorities) v 0 in
-      rw (getD-map-below (compacted (t .priorities)) (t .priorities) v (rw (facts .priorities-long) l))
-      (le-trans (compacted-small (t .priorities) old) (facts .priorities-small v l)))
+      rw (getD-map-below (compacted (t .priorities)) (t .priorities) v (rw (sound .priority-each) l))
+      (le-trans (compacted-small (t .priorities) old) (sound .priority-small v l)))
 
   -- their game differs by priorities that keep order and parity,
   pub compacted-alike : Alike (gameOf t) (gameOf (compactedTables t))
@@ -211,7 +211,7 @@ module _ (t : Tables) (ok : Accepted t) where
         monotone =
             λ v w lv lw up.
             compacted-monotone (t .priorities) _ _
-            (entry-used (t .priorities) v (rw (accepted-facts t ok .priorities-long) lv))
+            (entry-used (t .priorities) v (rw (accepted-sound t ok .priority-each) lv))
             up;
         parities = λ v l. compacted-parity (t .priorities) (getD (t .priorities) v 0);
       })

@@ -3,13 +3,14 @@
 use mathlib.Core.Bool.{Bool, true, false, not}
 use mathlib.Core.List.{List}
 use mathlib.Core.Logic.{⊎-elim}
-use mathlib.Core.Path.{_≡_, refl, sym, _∙_}
+use mathlib.Core.Path.{_≡_, refl, sym, subst, _∙_}
 use Prim.Native.Nat.{ℕ, zero, suc, _+_, _-_, _≤_, _<_, zero-le, min}
-use native.Mathlib.Nat.{le-refl, le-trans, le-of-suc-le, le-of-suc-le-suc, eq-or-lt-of-le}
+use native.Mathlib.Decide.{decLe}
+use native.Mathlib.Nat.{le-refl, le-trans}
 use native.Mathlib.Numerals.{add-one}
 use native.Mathlib.Omega.{arith}
 use borrow.Author.Tests.{ltb-false, leb-false, eqb-true, eqb-false, not-false}
-use lib.Dec.{eqb, ltb, leb}
+use lib.Dec.{eqb, ltb}
 use lib.ListN.{length, getD, take, drop, length-take, length-drop, List·getD-eq-default}
 use lib.Seq.{getD-take, getD-drop}
 use Rattle.rules.specs.Counting.{Set, some}
@@ -24,18 +25,19 @@ abbrev pub offset : Tables → ℕ → ℕ
 offset t i = getD (t .offsets) i 0
 
 -- what the refusals 1 to 8 leave
-pub record Facts (t : Tables) : Type 0 where
+pub record Sound (t : Tables) : Type 0 where
   pub few-vertices : vertices t ≤ 4096
-  pub priorities-long : length (t .priorities) ≡ vertices t
-  pub offsets-long : length (t .offsets) ≡ vertices t + 1
+  pub priority-each : length (t .priorities) ≡ vertices t
+  pub offset-each : length (t .offsets) ≡ vertices t + 1
   pub few-edges : edgesIn t ≤ 16384
-  pub owners-small : (v : ℕ) → v < vertices t → getD (t .owners) v 0 ≤ 1
-  pub priorities-small : (v : ℕ) → v < vertices t → getD (t .priorities) v 0 ≤ 255
-  pub first-offset : offset t 0 ≡ 0
-  pub rising : (i : ℕ) → i < vertices t → offset t i ≤ offset t (i + 1)
-  pub last-offset : offset t (vertices t) ≡ edgesIn t
-  pub targets-small : (e : ℕ) → e < edgesIn t → getD (t .targets) e 0 < vertices t
-  pub leads : (v : ℕ) → v < vertices t → offset t v < offset t (v + 1)
+  pub owner-small : (v : ℕ) → v < vertices t → getD (t .owners) v 0 ≤ 1
+  pub priority-small : (v : ℕ) → v < vertices t → getD (t .priorities) v 0 ≤ 255
+  pub offset-first : offset t 0 ≡ 0
+  pub offset-next : (i : ℕ) → i < vertices t → offset t i ≤ offset t (i + 1)
+  pub offset-grows : (i j : ℕ) → i ≤ j → j ≤ vertices t → offset t i ≤ offset t j
+  pub offset-last : offset t (vertices t) ≡ edgesIn t
+  pub target-below : (e : ℕ) → e < edgesIn t → getD (t .targets) e 0 < vertices t
+  pub has-edge : (v : ℕ) → v < vertices t → 1 ≤ degree (t .offsets) v
 
 -- where the first of two that applies is none, neither applies
 pub then-none : (x y : Verdict) → (x then y) ≡ none → (x ≡ none) × (y ≡ none)
@@ -63,62 +65,69 @@ all-none a b c d e f g h e1 =
     let (qf, e7) = then-none f (g then h) e6 in
     let (qg, qh) = then-none g h e7 in (qa, qb, qc, qd, qe, qf, qg, qh)
 
--- what each check leaves where it does not apply
-module _ (n m : ℕ) where
-  after1 : check1 n ≡ none → n ≤ 4096
-  unfolding check1
-  after1 e = ltb-false 4096 n (given-none 1 0 (ltb 4096 n) e)
+-- what each check says where it does not apply
+pub check1-none : (n : ℕ) → check1 n ≡ none → n ≤ 4096
+unfolding check1
+check1-none n e = ltb-false 4096 n (given-none 1 0 (ltb 4096 n) e)
 
-  after2 : (p o : ℕ) → check2 n p o ≡ none → (p ≡ n) × (o ≡ n + 1)
-  unfolding check2
-  after2 p o e =
-      let (q, r) = or-false-both (not (eqb p n)) (not (eqb o (n + 1))) (given-none 2 0 _ e) in
-      (eqb-true p n (not-false (eqb p n) q), eqb-true o (n + 1) (not-false (eqb o (n + 1)) r))
+pub check2-none : (n p o : ℕ) → check2 n p o ≡ none → (p ≡ n) × (o ≡ n + 1)
+unfolding check2
+check2-none n p o e =
+    let both = or-false-both (not (eqb p n)) (not (eqb o (n + 1))) (given-none 2 0 _ e) in
+    (eqb-true p n (not-false _ (both .0)), eqb-true o (n + 1) (not-false _ (both .1)))
 
-  after3 : check3 m ≡ none → m ≤ 16384
-  unfolding check3
-  after3 e = ltb-false 16384 m (given-none 3 0 (ltb 16384 m) e)
+pub check3-none : (m : ℕ) → check3 m ≡ none → m ≤ 16384
+unfolding check3
+check3-none m e = ltb-false 16384 m (given-none 3 0 (ltb 16384 m) e)
 
-  after4 : (owners : List ℕ) → check4 n owners ≡ none → (v : ℕ) → v < n → getD owners v 0 ≤ 1
-  unfolding check4
-  after4 owners e v l = ltb-false 1 (getD owners v 0) (givenAt-none 4 n (λ u. ltb 1 (getD owners u 0)) e v l)
+pub check4-none : (n : ℕ) (owners : List ℕ) → check4 n owners ≡ none → (v : ℕ) → v < n → getD owners v 0 ≤ 1
+unfolding check4
+check4-none n owners e v l = ltb-false _ _ (givenAt-none 4 n _ e v l)
 
-  after5 : (priorities : List ℕ) → check5 n priorities ≡ none → (v : ℕ) → v < n → getD priorities v 0 ≤ 255
-  unfolding check5
-  after5 priorities e v l =
-      ltb-false 255 (getD priorities v 0) (givenAt-none 5 n (λ u. ltb 255 (getD priorities u 0)) e v l)
+pub check5-none : (n : ℕ) (priorities : List ℕ) → check5 n priorities ≡ none → (v : ℕ) → v < n → getD priorities v 0 ≤ 255
+unfolding check5
+check5-none n priorities e v l = ltb-false _ _ (givenAt-none 5 n _ e v l)
 
-  after6 :
-      (offsets : List ℕ) →
-      check6 n m offsets ≡ none →
-      (getD offsets 0 0 ≡ 0) ×
-      ((i : ℕ) → i < n → getD offsets i 0 ≤ getD offsets (i + 1) 0) ×
-      (getD offsets n 0 ≡ m)
-  unfolding check6
-  after6 offsets e =
-      let first = given 6 0 (not (eqb (getD offsets 0 0) 0)) in
-      let falls : Set = λ i. ltb (getD offsets (i + 1) 0) (getD offsets i 0) in
-      let last = given 6 n (not (eqb (getD offsets n 0) m)) in
-      let (c1, r) = then-none first (givenAt 6 n falls then last) e in
-      let (c2, c3) = then-none (givenAt 6 n falls) last r in (
-        eqb-true (getD offsets 0 0) 0 (not-false (eqb (getD offsets 0 0) 0) (given-none 6 0 _ c1)),
-        λ i l. ltb-false (getD offsets (i + 1) 0) (getD offsets i 0) (givenAt-none 6 n falls c2 i l),
-        eqb-true (getD offsets n 0) m (not-false (eqb (getD offsets n 0) m) (given-none 6 n _ c3)),
-      )
+pub record Offsets (n m : ℕ) (offsets : List ℕ) : Type 0 where
+  pub first : getD offsets 0 0 ≡ 0
+  pub next : (i : ℕ) → i < n → getD offsets i 0 ≤ getD offsets (i + 1) 0
+  pub last : getD offsets n 0 ≡ m
 
-  after7 : (targets : List ℕ) → check7 n m targets ≡ none → (e : ℕ) → e < m → getD targets e 0 < n
-  unfolding check7
-  after7 targets q e l = leb-false n (getD targets e 0) (givenAt-none 7 m (λ d. leb n (getD targets d 0)) q e l)
+pub check6-none : (n m : ℕ) (offsets : List ℕ) → check6 n m offsets ≡ none → Offsets n m offsets
+unfolding check6
+check6-none n m offsets e =
+    let one = then-none (given 6 0 (not (eqb (getD offsets 0 0) 0))) _ e in
+    let two = then-none (givenAt 6 n (λ i. ltb (getD offsets (i + 1) 0) (getD offsets i 0))) _ (one .1) in
+    record {
+      first = eqb-true _ _ (not-false _ (given-none 6 0 _ (one .0)));
+      next = λ i l. ltb-false _ _ (givenAt-none 6 n _ (two .0) i l);
+      last = eqb-true _ _ (not-false _ (given-none 6 n _ (two .1)));
+    }
 
-  after8 : (offsets : List ℕ) → check8 n offsets ≡ none → (v : ℕ) → v < n → getD offsets v 0 < getD offsets (v + 1) 0
-  unfolding check8 degree
-  after8 offsets e v l =
-      let some-edge = eqb-false (degree offsets v) 0 (givenAt-none 8 n (λ u. eqb (degree offsets u) 0) e v l) in omega arith
+pub check7-none : (n m : ℕ) (targets : List ℕ) → check7 n m targets ≡ none → (e : ℕ) → e < m → getD targets e 0 < n
+unfolding check7
+check7-none n m targets e i l = leb-false _ _ (givenAt-none 7 m _ e i l)
+
+pub check8-none : (n : ℕ) (offsets : List ℕ) → check8 n offsets ≡ none → (v : ℕ) → v < n → 1 ≤ degree offsets v
+unfolding check8
+check8-none n offsets e v l =
+    let h = eqb-false (degree offsets v) 0 (givenAt-none 8 n (λ k. eqb (degree offsets k) 0) e v l) in
+    omega arith
+
+-- what never falls from one number to the next never falls
+pub never-falls :
+    (f : ℕ → ℕ) (n : ℕ) → ((i : ℕ) → i < n → f i ≤ f (i + 1)) → (i j : ℕ) → i ≤ j → j ≤ n → f i ≤ f j
+never-falls f n h i zero l b = subst (λ (k : ℕ). f i ≤ f k) (omega arith) (le-refl (f i))
+never-falls f n h i (suc j) l b = go (decLe i j) (never-falls f n h i j)
+  where
+    go : Dec (i ≤ j) → (i ≤ j → j ≤ n → f i ≤ f j) → f i ≤ f (suc j)
+    go (yes p) ih = le-trans (ih p (omega arith)) (rw add-one at (h j b))
+    go (no p) ih = subst (λ (k : ℕ). f i ≤ f k) (omega arith) (le-refl (f i))
 
 -- Accepted tables satisfy all that the refusals 1 to 8 ask.
-pub accepted-facts : (t : Tables) → Accepted t → Facts t
+pub accepted-sound : (t : Tables) → Accepted t → Sound t
 unfolding Accepted tableChecks
-accepted-facts t ok =
+accepted-sound t ok =
     let n = vertices t in
     let m = edgesIn t in
     let (c1, c2, c3, c4, c5, c6, c7, c8) =
@@ -132,20 +141,21 @@ accepted-facts t ok =
     (check7 n m (t .targets))
     (check8 n (t .offsets))
     ok in
-    let (long-priorities, long-offsets) = after2 n m (length (t .priorities)) (length (t .offsets)) c2 in
-    let (first, rising, last) = after6 n m (t .offsets) c6 in
+    let (long-priorities, long-offsets) = check2-none n (length (t .priorities)) (length (t .offsets)) c2 in
+    let offsets = check6-none n m (t .offsets) c6 in
     record {
-      few-vertices = after1 n m c1;
-      priorities-long = long-priorities;
-      offsets-long = long-offsets;
-      few-edges = after3 n m c3;
-      owners-small = after4 n m (t .owners) c4;
-      priorities-small = after5 n m (t .priorities) c5;
-      first-offset = first;
-      rising = rising;
-      last-offset = last;
-      targets-small = after7 n m (t .targets) c7;
-      leads = after8 n m (t .offsets) c8;
+      few-vertices = check1-none n c1;
+      priority-each = long-priorities;
+      offset-each = long-offsets;
+      few-edges = check3-none m c3;
+      owner-small = check4-none n (t .owners) c4;
+      priority-small = check5-none n (t .priorities) c5;
+      offset-first = offsets .first;
+      offset-next = offsets .next;
+      offset-grows = never-falls (offset t) n (offsets .next);
+      offset-last = offsets .last;
+      target-below = check7-none n m (t .targets) c7;
+      has-edge = check8-none n (t .offsets) c8;
     }
 
 -- an edge from v stands in the table of targets between the offsets of v and v + 1
@@ -186,38 +196,33 @@ place-edge t v e low high top =
     let place : from + i ≡ e = omega arith in
     rw (found, place) at (place-member (take k (drop from (t .targets))) i long)
 
-module _ (t : Tables) (facts : Facts t) where
-  -- offsets rise from 0 to the number of edges
-  pub offsets-rise : (i j : ℕ) → i ≤ j → j ≤ vertices t → offset t i ≤ offset t j
-  offsets-rise i zero l h = let z : i ≡ 0 = omega arith in rw z (le-refl (offset t 0))
-  offsets-rise i (suc j) l h =
-      ⊎-elim
-      (λ e. rw e (le-refl (offset t (suc j))))
-      (λ k.
-      let rest = offsets-rise i j (le-of-suc-le-suc k) (le-of-suc-le h) in
-      le-trans rest (rw add-one at (facts .rising j h)))
-      (eq-or-lt-of-le l)
-
+module _ (t : Tables) (sound : Sound t) where
+  -- no offset is above the number of edges
   pub offset-top : (i : ℕ) → i ≤ vertices t → offset t i ≤ edgesIn t
-  offset-top i h = rw (facts .last-offset) at (offsets-rise i (vertices t) h (le-refl (vertices t)))
+  offset-top i h = rw (sound .offset-last) at (sound .offset-grows i (vertices t) h (le-refl (vertices t)))
+
+  -- the offset after a vertex is above its own
+  pub offset-rises : (v : ℕ) → v < vertices t → offset t v < offset t (v + 1)
+  unfolding degree
+  offset-rises v l = let least = sound .has-edge v l in omega arith
 
   -- past the last vertex there is no edge
   pub no-edges-above : (v w : ℕ) → vertices t ≤ v → Edge (gameOf t) v w → ⊥
   no-edges-above v w above edge =
       let (e, low, high, top, found) = edge-place t v w edge in
-      let none = List·getD-eq-default (t .offsets) 0 {n = v + 1} (omega (arith, facts .offsets-long)) in
+      let none = List·getD-eq-default (t .offsets) 0 {n = v + 1} (omega (arith, sound .offset-each)) in
       omega arith
 
-  facts-total : Total (gameOf t)
+  sound-total : Total (gameOf t)
   unfolding gameOf
-  facts-total =
+  sound-total =
       record {
         starts = λ v w edge. ⊎-elim (λ l. l) (λ l. absurd (no-edges-above v w l edge)) (lt-or-ge v (vertices t));
         ends =
-            λ v w edge. let (e, low, high, top, found) = edge-place t v w edge in rw found at (facts .targets-small e top);
+            λ v w edge. let (e, low, high, top, found) = edge-place t v w edge in rw found at (sound .target-below e top);
         leads =
             λ v small.
-            let more = facts .leads v small in
+            let more = offset-rises v small in
             let top = offset-top (v + 1) (omega arith) in (
               getD (t .targets) (offset t v) 0,
               place-edge t v (offset t v) (le-refl (offset t v)) more (omega arith),
@@ -226,24 +231,24 @@ module _ (t : Tables) (facts : Facts t) where
 
 -- The game of accepted tables is total: its edges run between its vertices, and each vertex has one.
 pub accepted-total : (t : Tables) → Accepted t → Total (gameOf t)
-accepted-total t ok = facts-total t (accepted-facts t ok)
+accepted-total t ok = sound-total t (accepted-sound t ok)
 
 -- It has no more than 4,096 vertices.
 pub accepted-size : (t : Tables) → Accepted t → gameOf t .size ≤ 4096
 unfolding gameOf
-accepted-size t ok = accepted-facts t ok .few-vertices
+accepted-size t ok = accepted-sound t ok .few-vertices
 
 -- No priority is above 255.
 pub accepted-priority : (t : Tables) → Accepted t → (v : ℕ) → gameOf t .priority v ≤ 255
 unfolding gameOf
 accepted-priority t ok v =
-    let facts = accepted-facts t ok in
+    let sound = accepted-sound t ok in
     ⊎-elim
-    (λ l. facts .priorities-small v l)
-    (λ l. rw (List·getD-eq-default (t .priorities) 0 {n = v} (omega (arith, facts .priorities-long))) zero-le)
+    (λ l. sound .priority-small v l)
+    (λ l. rw (List·getD-eq-default (t .priorities) 0 {n = v} (omega (arith, sound .priority-each))) zero-le)
     (lt-or-ge v (vertices t))
 
 -- No edge starts at the number of vertices or above.
 pub accepted-no-edges-above : (t : Tables) → Accepted t → (v w : ℕ) → gameOf t .size ≤ v → Edge (gameOf t) v w → ⊥
 unfolding gameOf
-accepted-no-edges-above t ok = no-edges-above t (accepted-facts t ok)
+accepted-no-edges-above t ok = no-edges-above t (accepted-sound t ok)
