@@ -11,4 +11,7 @@ pub mod AttractorEntries
 pub mod AttractorComplement
 pub mod AttractorLooks
 pub mod AttractorSteps
+pub mod PromotionBasics
+pub mod PromotionEntries
+pub mod PromotionRegions
 pub mod Worked
