@@ -14,4 +14,5 @@ pub mod AttractorSteps
 pub mod PromotionBasics
 pub mod PromotionEntries
 pub mod PromotionRegions
+pub mod PromotionInside
 pub mod Worked

@@ -20,13 +20,6 @@ mover s = parity (s .current)
 abbrev pub remaining : Game → Regions → Set
 remaining g s = unsolved g (s .region)
 
--- region p before the round, and the regions up to p: R is the attractor of the first in the second
-abbrev pub current : Game → Regions → Set
-current g s = atRegion (remaining g s) (s .region) (s .current)
-
-abbrev pub upToCurrent : Game → Regions → Set
-upToCurrent g s = upTo (remaining g s) (s .region) (s .current)
-
 -- the region that R is promoted to: the lowest above p among the ways out
 abbrev pub promotedTo : Game → Regions → ℕ
 promotedTo g s =
@@ -38,35 +31,31 @@ promotedTo g s =
 abbrev pub dominionSet : Game → Regions → Set
 dominionSet g s = attractor g (mover s) (remaining g s) (regionSet g s)
 
--- R is attracted: own vertices of R outside the old region p get the pull of some certificate for R; those of the old region p
--- keep an entry, or get any target in R if there is one; entries outside R stay
-pub record AttractedEntries (g : Game) (s : Regions) (σ σ' : ℕ → ℕ) : Type 0 where
-  pub certificate : Certificate g (mover s) (upToCurrent g s) (current g s) (regionSet g s)
+-- R is attracted to region p of X: own vertices of R outside the old region p get the pull of some certificate for R; those of the
+-- old region p keep an entry, or get any target in R if there is one; entries outside R stay
+pub record Attracts (g : Game) (X : Set) (r : ℕ → ℕ) (p : ℕ) (R : Set) (σ σ' : ℕ → ℕ) : Type 0 where
+  pub certificate : Certificate g (parity p) (upTo X r p) (atRegion X r p) R
   pub pulled :
-      (v : ℕ) →
-      v < g .size →
-      regionSet g s v ≡ true →
-      current g s v ≡ false →
-      g .owner v ≡ mover s →
-      σ' v ≡ certificate .pull v
-  pub kept : (v : ℕ) → v < g .size → current g s v ≡ true → g .owner v ≡ mover s → (σ v ≡ noEntry → ⊥) → σ' v ≡ σ v
+      (v : ℕ) → R v ≡ true → atRegion X r p v ≡ false → g .owner v ≡ parity p → σ' v ≡ certificate .pull v
+  pub kept : (v : ℕ) → atRegion X r p v ≡ true → g .owner v ≡ parity p → (σ v ≡ noEntry → ⊥) → σ' v ≡ σ v
   pub chosen :
       (v : ℕ) →
-      v < g .size →
-      current g s v ≡ true →
-      g .owner v ≡ mover s →
+      atRegion X r p v ≡ true →
+      g .owner v ≡ parity p →
       σ v ≡ noEntry →
-      someOf (g .targets v) (regionSet g s) ≡ true →
-      Edge g v (σ' v) × (regionSet g s (σ' v) ≡ true)
+      someOf (g .targets v) R ≡ true →
+      Edge g v (σ' v) × (R (σ' v) ≡ true)
   pub missing :
       (v : ℕ) →
-      v < g .size →
-      current g s v ≡ true →
-      g .owner v ≡ mover s →
+      atRegion X r p v ≡ true →
+      g .owner v ≡ parity p →
       σ v ≡ noEntry →
-      someOf (g .targets v) (regionSet g s) ≡ false →
+      someOf (g .targets v) R ≡ false →
       σ' v ≡ noEntry
-  pub elsewhere : (v : ℕ) → v < g .size → regionSet g s v ≡ false → σ' v ≡ σ v
+  pub elsewhere : (v : ℕ) → v < g .size → R v ≡ false → σ' v ≡ σ v
+
+abbrev pub AttractedEntries : Game → Regions → (ℕ → ℕ) → (ℕ → ℕ) → Type 0
+AttractedEntries g s = Attracts g (remaining g s) (s .region) (s .current) (regionSet g s)
 
 -- R is promoted: entries of vertices whose region is reset become none, the others stay
 pub record PromotedEntries (g : Game) (s : Regions) (σ σ' : ℕ → ℕ) : Type 0 where

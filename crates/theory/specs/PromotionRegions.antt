@@ -382,7 +382,7 @@ module _
     l : p < q
     l = up .above
 
-    stays-upper : (v : ℕ) → X v ≡ true → q ≤ r v → r' v ≡ r v
+    pub stays-upper : (v : ℕ) → X v ≡ true → q ≤ r v → r' v ≡ r v
     stays-upper v i k = go (moved v i)
       where
         go : Moved g r r' p q v → r' v ≡ r v
@@ -390,7 +390,7 @@ module _
         go (reset differs less is) = absurd (omega arith)
         go (stayed high is) = is
 
-    goes-up : (v : ℕ) → X v ≡ true → r v ≡ p → r' v ≡ q
+    pub goes-up : (v : ℕ) → X v ≡ true → r v ≡ p → r' v ≡ q
     goes-up v i e = go (moved v i)
       where
         go : Moved g r r' p q v → r' v ≡ q
