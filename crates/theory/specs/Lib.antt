@@ -15,4 +15,5 @@ pub mod PromotionBasics
 pub mod PromotionEntries
 pub mod PromotionRegions
 pub mod PromotionInside
+pub mod PromotionSolved
 pub mod Worked
