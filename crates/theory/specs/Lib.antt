@@ -16,4 +16,5 @@ pub mod PromotionEntries
 pub mod PromotionRegions
 pub mod PromotionInside
 pub mod PromotionSolved
+pub mod PromotionRounds
 pub mod Worked
