@@ -17,4 +17,5 @@ pub mod PromotionRegions
 pub mod PromotionInside
 pub mod PromotionSolved
 pub mod PromotionRounds
+pub mod PromotionInvariant
 pub mod Worked
