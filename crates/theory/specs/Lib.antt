@@ -18,4 +18,5 @@ pub mod PromotionInside
 pub mod PromotionSolved
 pub mod PromotionRounds
 pub mod PromotionInvariant
+pub mod PromotionSound
 pub mod Worked
