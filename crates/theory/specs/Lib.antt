@@ -19,4 +19,5 @@ pub mod PromotionSolved
 pub mod PromotionRounds
 pub mod PromotionInvariant
 pub mod PromotionSound
+pub mod PromotionExists
 pub mod Worked
