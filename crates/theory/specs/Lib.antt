@@ -20,4 +20,6 @@ pub mod PromotionRounds
 pub mod PromotionInvariant
 pub mod PromotionSound
 pub mod PromotionExists
+pub mod PromotionMeasure
+pub mod PromotionBound
 pub mod Worked

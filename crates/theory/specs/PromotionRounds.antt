@@ -569,7 +569,7 @@ module _ (g : Game) (s : Regions) where
 
     -- p goes down to the next region
     module _ (small : s .current < solvedRegion) (opens : isOpen g s (regionSet g s) ≡ true) where
-      lowered-vertex : (u : ℕ) × (remaining g s u ≡ true) × (attractedRegion u ≡ loweredTo) × (attractedRegion u < s .current)
+      pub lowered-vertex : (u : ℕ) × (remaining g s u ≡ true) × (attractedRegion u ≡ loweredTo) × (attractedRegion u < s .current)
       lowered-vertex =
           let (u, l, t, e) = greatest-attained (g .size) lowerVertices attractedRegion (open-goes-down small placed opens) in (
             u,
