@@ -16,7 +16,9 @@ pub mod PromotionEntries
 pub mod PromotionRegions
 pub mod PromotionInside
 pub mod PromotionSolved
+pub mod PromotionTests
 pub mod PromotionRounds
+pub mod PromotionStanding
 pub mod PromotionInvariant
 pub mod PromotionSound
 pub mod PromotionExists

@@ -2,9 +2,9 @@
 -- region or of regions up to one.
 use mathlib.Core.Bool.{true, false, _&&_, cond}
 use mathlib.Core.Logic.{_⊎_, inl, inr, ⊎-elim}
-use mathlib.Core.Path.{_≡_, refl, sym, ap, ap₂, fun-ext, subst₂, _∙_}
-use Prim.Native.Nat.{ℕ, zero, suc, _≤_, _<_, max, zero-le}
-use native.Mathlib.Nat.{not-suc-le-zero, le-of-suc-le-suc, le-refl, le-step, le-trans, le-max-left, le-max-right, max-le, max-eq-left, max-eq-right}
+use mathlib.Core.Path.{_≡_, refl, sym, ap, fun-ext, subst₂, _∙_}
+use Prim.Native.Nat.{ℕ, zero, suc, _≤_, _<_, max}
+use native.Mathlib.Nat.{not-suc-le-zero, le-of-suc-le-suc, le-refl, le-step, le-trans, le-max-left, le-max-right}
 use native.Mathlib.Omega.{arith}
 use borrow.Author.Tests.{eqb-true, eqb-false, eq-eqb, leb-true, le-leb}
 use lib.Dec.{eqb, leb}
@@ -12,7 +12,8 @@ use lib.ListN.{getD, length, List·getD-eq-default}
 use Rattle.rules.specs.Counting.{Set, some, listed, noted, greatest}
 use Rattle.rules.specs.Game.{Player, Game}
 use Rattle.rules.specs.Attractor.{Closed}
-use Rattle.theory.specs.Basics.{bool-cases, clash, and-intro, and-left, and-right, below-suc, or-cases, or-false-both, le-or-ge, not-true-is-false}
+use Rattle.theory.specs.Basics.{bool-cases, clash, and-intro, and-left, and-right, below-suc, or-cases, or-false-both, le-or-ge}
+use Rattle.theory.specs.Basics.{not-true-is-false}
 
 -- two numbers are equal or not
 pub equal-cases : (m n : ℕ) → (m ≡ n) ⊎ (m ≡ n → ⊥)

@@ -1,31 +1,30 @@
 -- Priority promotion always finishes: for n vertices and d different priorities at most n · (n + 2) ^ d rounds are needed. Between two dominions
 -- the sizes of the regions from p up, the highest first, rise in the lexicographic order; a dominion leaves fewer unsolved.
-use mathlib.Core.Bool.{true, false, _&&_, not, cond}
+use mathlib.Core.Bool.{true, false, _&&_, cond}
 use mathlib.Core.Logic.{_⊎_, inl, inr, ⊎-elim}
-use mathlib.Core.Path.{_≡_, refl, sym, ap, subst, fun-ext, _∙_}
+use mathlib.Core.Path.{_≡_, refl, sym, ap, fun-ext, _∙_}
 use Prim.Native.Nat.{ℕ, zero, suc, _+_, _*_, _^_, _≤_, _<_, zero-le}
 use native.Mathlib.Nat.{le-of-suc-le-suc, le-refl, mul-le-mul-right, suc-mul, one-mul}
 use native.Mathlib.Omega.{arith}
-use borrow.Author.Tests.{eqb-true, eq-eqb, le-leb, lt-leb, leb-true, leb-false, lt-ltb, ltb-true, not-true}
-use lib.Dec.{eqb, leb, ltb}
+use borrow.Author.Tests.{eqb-true, eq-eqb, le-leb, lt-leb, lt-ltb}
+use lib.Dec.{eqb, leb}
 use Rattle.rules.specs.Counting.{Set, some, count, noted, without}
-use Rattle.rules.specs.Game.{Game, Total, everywhere, parity}
+use Rattle.rules.specs.Game.{Game, Total, everywhere}
 use Rattle.rules.specs.Zielonka.{highestIn}
 use Rattle.rules.specs.Budget.{differentPriorities}
 use Rattle.rules.specs.Promotion.{Regions, solvedRegion, unsolved, atStart, regionSet, isOpen, wayOut, roundOf, afterRounds, allSolved, roundsNeeded}
-use Rattle.theory.specs.Basics.{bool-cases, clash, and-intro, and-left, and-right, not-true-is-false, lt-or-ge}
-use Rattle.theory.specs.Basics.{some-intro, some-elim, some-false, count-le, count-mono, count-strict, count-none, count-pos, count-cong}
-use Rattle.theory.specs.Basics.{without-intro, without-left, without-right, lowest-found, IsLowest}
+use Rattle.theory.specs.Basics.{bool-cases, clash, and-intro, and-left, and-right, not-true-is-false, lt-or-ge, some-intro, some-elim, count-le}
+use Rattle.theory.specs.Basics.{count-mono, count-strict, count-none, count-pos, without-left, without-right, lowest-found}
 use Rattle.theory.specs.PromotionBasics.{noted-below, greatest-bounds, atRegion, at-intro, at-in, at-is, at-out}
 use Rattle.theory.specs.PromotionEntries.{remaining, promotedTo, dominionSet}
 use Rattle.theory.specs.PromotionRegions.{Placed, Promotes, Moved, lifted, reset, stayed, stays-upper, goes-up}
 use Rattle.theory.specs.PromotionMeasure.{value, Digits, value-bound, value-rises}
-use Rattle.theory.specs.PromotionRounds.{Standing, standing-start, standing-round, Round, opening, promoting, solving, round-kind}
-use Rattle.theory.specs.PromotionRounds.{attractedRegion, attracted-gained, attracted-rest, attracted-unsolved, region-low, region-in}
-use Rattle.theory.specs.PromotionRounds.{unsolved-below, solvedRegions, solved-unsolved, solved-fresh, open-goes-down}
-use Rattle.theory.specs.PromotionRounds.{loweredState, promotedState, solvedState, round-opens, round-promotes, round-solves}
-use Rattle.theory.specs.PromotionRounds.{loweredTo, lowered-less, lowered-vertex, promotedRegion, promoted-unsolved, promoted-small}
-use Rattle.theory.specs.PromotionRounds.{placed-here, here-region, way-promotes, promotion-moves, region-certificate, dominion-certificate}
+use Rattle.theory.specs.PromotionTests.{region-low, unsolved-below, promoted-small, region-certificate, dominion-certificate}
+use Rattle.theory.specs.PromotionRounds.{lowerVertices, Round, opening, promoting, solving, round-kind, attractedRegion, attracted-gained}
+use Rattle.theory.specs.PromotionRounds.{attracted-rest, attracted-unsolved, solvedRegions, solved-unsolved, loweredState, promotedState}
+use Rattle.theory.specs.PromotionRounds.{solvedState, round-opens, round-promotes, round-solves, loweredTo, promotedRegion, promoted-unsolved}
+use Rattle.theory.specs.PromotionStanding.{Standing, standing-start, standing-round, solved-fresh, open-goes-down, lowered-less, lowered-vertex}
+use Rattle.theory.specs.PromotionStanding.{placed-here, here-region, way-promotes, promotion-moves}
 
 -- a priority of some vertex
 abbrev pub used : Game → Set
@@ -339,6 +338,18 @@ module _ (g : Game) (total : Total g) (low : (v : ℕ) → v < g .size → g .pr
   unfolding afterRounds
   after-standing zero = standing-start g total under
   after-standing (suc k) = standing-round g total under (afterRounds g k) (after-standing k)
+
+  -- **"If there is none, p stays" never comes up**: in an open round some unsolved vertex has a region below p, and p goes down.
+  pub never-stays :
+      (k : ℕ) →
+      isOpen g (afterRounds g k) (regionSet g (afterRounds g k)) ≡ true →
+      (some (g .size) (lowerVertices g (afterRounds g k)) ≡ true) × (roundOf g (afterRounds g k) .current < afterRounds g k .current)
+  never-stays k opens =
+      let s = afterRounds g k in
+      let small = after-standing k .small in
+      let placed = after-standing k .placed in
+      let there = open-goes-down g s small placed opens in
+      (there, rw (round-opens g s opens there) (lowered-less g s placed small opens))
 
   start-named : Named g (remaining g (atStart g)) (atStart g .region)
   unfolding atStart

@@ -7,16 +7,17 @@ use Prim.Native.Nat.{ℕ, zero, suc, _≤_, _<_}
 use borrow.Author.Tests.{lt-ltb, le-ltb}
 use lib.Dec.{ltb}
 use Rattle.rules.specs.Counting.{Set, someOf}
-use Rattle.rules.specs.Game.{Player, Game, Edge, Total, parity}
+use Rattle.rules.specs.Game.{Game, Edge, Total, parity}
 use Rattle.rules.specs.Words.{noEntry}
 use Rattle.rules.specs.Winning.{WinningSets}
-use Rattle.rules.specs.Promotion.{Regions, atStart, regionSet, roundOf, afterRounds, allSolved}
+use Rattle.rules.specs.Promotion.{Regions, regionSet, roundOf, afterRounds, allSolved}
 use Rattle.theory.specs.Basics.{bool-cases, clash, not-true-is-false, someOf-elim}
 use Rattle.theory.specs.AttractorRank.{Certificate}
 use Rattle.theory.specs.PromotionBasics.{equal-cases, atRegion, upTo}
 use Rattle.theory.specs.PromotionEntries.{remaining, promotedTo, dominionSet, Attracts, AttractedEntries, PromotedEntries, SolvedEntries}
 use Rattle.theory.specs.PromotionEntries.{RoundEntries, opened, promotes, solves, Rounded, starts, rounds}
-use Rattle.theory.specs.PromotionRounds.{Round, opening, promoting, solving, round-kind, region-certificate, dominion-certificate, region-in}
+use Rattle.theory.specs.PromotionTests.{region-certificate, dominion-certificate, region-in}
+use Rattle.theory.specs.PromotionRounds.{Round, opening, promoting, solving, round-kind}
 use Rattle.theory.specs.PromotionSound.{promotion-sets}
 
 -- attracting

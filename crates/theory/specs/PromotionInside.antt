@@ -1,26 +1,25 @@
 -- The entries inside the regions of priority promotion: own vertices go on in their region or are heads without an entry, and every cycle
 -- inside a region is its player's. Attracting, going down and promoting keep it.
-use mathlib.Core.Bool.{Bool, true, false}
+use mathlib.Core.Bool.{true, false}
 use mathlib.Core.Logic.{_⊎_, inl, inr, ⊎-elim}
-use mathlib.Core.Path.{_≡_, refl, sym, ap, _∙_}
+use mathlib.Core.Path.{_≡_, sym, ap, _∙_}
 use Prim.Native.Nat.{ℕ, _≤_, _<_}
-use native.Mathlib.Nat.{le-refl, le-trans, le-of-eq, le-antisymm, lt-irrefl, eq-or-lt-of-le}
+use native.Mathlib.Nat.{le-trans, le-of-eq, eq-or-lt-of-le}
 use native.Mathlib.Omega.{arith}
 use borrow.Author.Tests.{eqb-true, eqb-false}
 use lib.Dec.{eqb}
 use Rattle.rules.specs.Counting.{Set, someOf}
-use Rattle.rules.specs.Game.{Player, Game, Edge, Total, parity}
+use Rattle.rules.specs.Game.{Game, Edge, Total, parity}
 use Rattle.rules.specs.Words.{noEntry}
-use Rattle.rules.specs.Winning.{Cycle, Step}
+use Rattle.rules.specs.Winning.{Cycle}
 use Rattle.theory.specs.Basics.{bool-cases, clash, lt-or-ge, someOf-false}
 use Rattle.theory.specs.Walks.{Among, walk-map, cycle-splits, no-falling-cycle, first-edge, hits, highest-is}
 use Rattle.theory.specs.Dominion.{Inside, GoodCycles, owner-cases, good-cycles-sub}
 use Rattle.theory.specs.AttractorRank.{Certificate}
-use Rattle.theory.specs.PromotionBasics.{equal-cases, atRegion, upTo, at-intro, at-in, at-is, not-at, up-intro}
+use Rattle.theory.specs.PromotionBasics.{atRegion, upTo, at-intro, at-in, at-is, not-at}
 use Rattle.theory.specs.PromotionEntries.{Attracts}
-use Rattle.theory.specs.PromotionRegions.{Placed, Promotes, Moved, lifted, reset, stayed, promoted-player}
-use Rattle.theory.specs.PromotionRegions.{gained-in, gained-low, same-above, same-elsewhere, gained-is, placed-attracted}
-use Rattle.theory.specs.PromotionRegions.{stays-upper, goes-up, placed-promoted}
+use Rattle.theory.specs.PromotionRegions.{Placed, Promotes, Moved, lifted, reset, stayed, promoted-player, gained-in, gained-low, same-above}
+use Rattle.theory.specs.PromotionRegions.{same-elsewhere, gained-is, placed-attracted, stays-upper, goes-up, placed-promoted}
 
 -- the entry of v leads on inside v's region
 abbrev pub Stays : Game → Set → (ℕ → ℕ) → (ℕ → ℕ) → ℕ → Type 0

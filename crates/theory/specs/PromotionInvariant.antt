@@ -1,18 +1,17 @@
 -- The invariant of priority promotion with its entries: where the regions stand, the entries inside them, and the solved part. It holds at
 -- the start and every round keeps it.
-use mathlib.Core.Bool.{true, false, _||_, cond}
+use mathlib.Core.Bool.{true, false}
 use mathlib.Core.Logic.{⊎-elim}
-use mathlib.Core.Path.{_≡_, refl, sym, ap, subst, fun-ext, _∙_}
+use mathlib.Core.Path.{_≡_, refl, sym, subst, fun-ext, _∙_}
 use Prim.Native.Nat.{ℕ, _≤_, _<_}
 use native.Mathlib.Omega.{arith}
 use borrow.Author.Tests.{ltb-true}
-use lib.Dec.{ltb}
-use Rattle.rules.specs.Counting.{Set, some, noted, within, without, union}
-use Rattle.rules.specs.Game.{Player, Game, Total, Edge, parity, same}
+use Rattle.rules.specs.Counting.{Set, some, noted, within, union}
+use Rattle.rules.specs.Game.{Player, Game, Total, Edge}
 use Rattle.rules.specs.Words.{noEntry}
 use Rattle.rules.specs.Promotion.{Regions, solvedRegion, unsolved, atStart, regionSet, isOpen, wayOut, roundOf}
-use Rattle.theory.specs.Basics.{clash, not-true-is-false, not-false-is-true, true-same, false-same, within-all}
-use Rattle.theory.specs.Basics.{union-cases, some-false, without-left, without-right}
+use Rattle.theory.specs.Basics.{clash, not-true-is-false, not-false-is-true, true-same, false-same, within-all, union-cases, some-false}
+use Rattle.theory.specs.Basics.{without-left, without-right}
 use Rattle.theory.specs.Dominion.{Dominion, dominion-cong, dominion-drawn, ranked-held, good-cycles-sub}
 use Rattle.theory.specs.AttractorComplement.{own-stays-out}
 use Rattle.theory.specs.PromotionBasics.{noted-below, atRegion, at-intro}
@@ -21,11 +20,12 @@ use Rattle.theory.specs.PromotionEntries.{RoundEntries, opened, promotes
 use Rattle.theory.specs.PromotionRegions.{Placed, Promotes}
 use Rattle.theory.specs.PromotionInside.{Entered, entered-afresh, entered-lower, attracted-own, entered-attracted, entered-promoted}
 use Rattle.theory.specs.PromotionSolved.{Solved, solved-none, solved-entries, solved-more}
-use Rattle.theory.specs.PromotionRounds.{Standing, standing-start, standing-round, start-all, unsolved-below, solved-fresh}
-use Rattle.theory.specs.PromotionRounds.{region-in, closed-own, way-intro, promoted-small, attractedRegion, promotedRegion, solvedRegions}
-use Rattle.theory.specs.PromotionRounds.{attracted-gained, attracted-rest, attracted-unsolved, promoted-unsolved, solved-unsolved}
-use Rattle.theory.specs.PromotionRounds.{loweredTo, lowered-less, loweredState, promotedState, solvedState, open-goes-down}
-use Rattle.theory.specs.PromotionRounds.{placed-here, here-region, way-promotes, promotion-moves, round-opens, round-promotes, round-solves}
+use Rattle.theory.specs.PromotionTests.{unsolved-below, region-in, closed-own, way-intro, promoted-small}
+use Rattle.theory.specs.PromotionRounds.{attractedRegion, promotedRegion, solvedRegions, attracted-gained, attracted-rest, attracted-unsolved}
+use Rattle.theory.specs.PromotionRounds.{promoted-unsolved, solved-unsolved, loweredTo, loweredState, promotedState, solvedState, round-opens}
+use Rattle.theory.specs.PromotionRounds.{round-promotes, round-solves}
+use Rattle.theory.specs.PromotionStanding.{Standing, standing-start, standing-round, start-all, solved-fresh, lowered-less, open-goes-down}
+use Rattle.theory.specs.PromotionStanding.{placed-here, here-region, way-promotes, promotion-moves}
 
 -- what is true of every state with entries that rounds reach
 pub record Invariant (g : Game) (s : Regions) (σ : ℕ → ℕ) : Type 0 where

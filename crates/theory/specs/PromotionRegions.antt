@@ -1,15 +1,15 @@
 -- Where the regions of priority promotion stand, apart from any entries: what is true of the unsolved vertices X, their regions r and
 -- the current priority p, and that attracting, going down, promoting and starting afresh keep it.
 use mathlib.Core.Bool.{true, false}
-use mathlib.Core.Logic.{_⊎_, inl, inr, ⊎-elim}
+use mathlib.Core.Logic.{_⊎_, ⊎-elim}
 use mathlib.Core.Path.{_≡_, refl, sym, ap, _∙_}
 use Prim.Native.Nat.{ℕ, zero, suc, _≤_, _<_}
 use native.Mathlib.Nat.{not-suc-le-zero, le-refl, le-trans, le-of-eq, eq-or-lt-of-le}
 use native.Mathlib.Omega.{arith}
 use Rattle.rules.specs.Counting.{Set}
-use Rattle.rules.specs.Game.{Player, Game, Edge, opponent, parity}
+use Rattle.rules.specs.Game.{Player, Game, Edge, parity}
 use Rattle.rules.specs.Attractor.{Closed}
-use Rattle.theory.specs.Basics.{bool-cases, clash, bool-ext, lt-or-ge, not-false-is-true, other-player, opponent-twice, player-cases}
+use Rattle.theory.specs.Basics.{bool-cases, clash, bool-ext, lt-or-ge, not-false-is-true, other-player, player-cases}
 use Rattle.theory.specs.Dominion.{owner-cases}
 use Rattle.theory.specs.Attractor.{Draws, by-own, by-other, draws}
 use Rattle.theory.specs.AttractorComplement.{TotalIn, own-stays-out, other-gets-out}

@@ -1,15 +1,14 @@
 -- The solved part of priority promotion: what each player has won is a dominion in the whole game, and the unsolved vertices have no
 -- edge by which their owner could have been drawn there. A dominion among the unsolved adds to it.
 use mathlib.Core.Bool.{true, false}
-use mathlib.Core.Logic.{_⊎_, inl, inr, ⊎-elim, by-cases}
-use mathlib.Core.Path.{_≡_, refl, sym, ap, subst, _∙_}
+use mathlib.Core.Logic.{⊎-elim, by-cases}
+use mathlib.Core.Path.{_≡_, refl, sym, _∙_}
 use Prim.Native.Nat.{ℕ, _<_}
 use borrow.Author.Tests.{lt-ltb, ltb-true}
-use lib.Dec.{ltb}
 use Rattle.rules.specs.Counting.{Set, without, union}
 use Rattle.rules.specs.Game.{Player, Game, Edge, Total, everywhere, opponent}
-use Rattle.theory.specs.Basics.{bool-cases, clash, not-true-is-false, player-decided, player-cases, other-player, Subset}
-use Rattle.theory.specs.Basics.{without-left, without-right, without-intro, union-left, union-right, union-cases, opponent-is-other}
+use Rattle.theory.specs.Basics.{bool-cases, clash, not-true-is-false, player-decided, other-player, without-left, without-right, without-intro}
+use Rattle.theory.specs.Basics.{union-left, union-right}
 use Rattle.theory.specs.OneWinner.{not-both-win}
 use Rattle.theory.specs.Dominion.{HeldOver, Dominion, dominion-cong, dominion-empty, dominion-join, dominion-wins}
 

@@ -1,12 +1,12 @@
 -- Soundness of priority promotion: once all vertices are solved, the two sets are exactly the winning sets, and the entries at the winners' own
 -- vertices are a winning choice. So the sets are those of any other solver that is right.
-use mathlib.Core.Bool.{true, false, not}
+use mathlib.Core.Bool.{true, false}
 use mathlib.Core.List.{List}
 use mathlib.Core.Logic.{_⊎_, inl, inr}
 use mathlib.Core.Path.{_≡_}
 use Prim.Native.Nat.{ℕ, _≤_, _<_}
 use borrow.Author.Tests.{not-true}
-use Rattle.rules.specs.Counting.{Set, some}
+use Rattle.rules.specs.Counting.{Set}
 use Rattle.rules.specs.Game.{Player, Even, Odd, opponent, Game, Total}
 use Rattle.rules.specs.Winning.{WinningSets, WinningEntries}
 use Rattle.rules.specs.Words.{noEntry, entry}
