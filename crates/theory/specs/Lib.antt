@@ -19,6 +19,7 @@ pub mod PromotionSolved
 pub mod PromotionTests
 pub mod PromotionRounds
 pub mod PromotionStanding
+pub mod PromotionTable
 pub mod PromotionInvariant
 pub mod PromotionSound
 pub mod PromotionExists
