@@ -25,4 +25,5 @@ pub mod PromotionSound
 pub mod PromotionExists
 pub mod PromotionMeasure
 pub mod PromotionBound
+pub mod PromotionAccepted
 pub mod Worked
