@@ -1,4 +1,5 @@
--- Theorems about the rules alone: one winner, dominions, attractors, Zielonka's recursion and its bound, the worked games.
+-- Theorems about the rules alone: one winner, dominions, attractors, Zielonka's recursion and its bound, priority promotion and its bound, the
+-- worked games.
 pub mod Basics
 pub mod Walks
 pub mod OneWinner

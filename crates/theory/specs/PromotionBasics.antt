@@ -9,15 +9,40 @@ use native.Mathlib.Omega.{arith}
 use borrow.Author.Tests.{eqb-true, eqb-false, eq-eqb, leb-true, le-leb}
 use lib.Dec.{eqb, leb}
 use lib.ListN.{getD, length, List·getD-eq-default}
-use Rattle.rules.specs.Counting.{Set, some, listed, noted, greatest}
+use Rattle.rules.specs.Counting.{Set, some, lowest, listed, noted, greatest}
 use Rattle.rules.specs.Game.{Player, Game}
 use Rattle.rules.specs.Attractor.{Closed}
-use Rattle.theory.specs.Basics.{bool-cases, clash, and-intro, and-left, and-right, below-suc, or-cases, or-false-both, le-or-ge}
+use Rattle.theory.specs.Basics.{bool-cases, clash, and-intro, and-left, and-right, below-suc, some-cong, or-cases, or-false-both, le-or-ge}
 use Rattle.theory.specs.Basics.{not-true-is-false}
 
 -- two numbers are equal or not
 pub equal-cases : (m n : ℕ) → (m ≡ n) ⊎ (m ≡ n → ⊥)
 equal-cases m n = ⊎-elim (λ e. inl (eqb-true m n e)) (λ e. inr (eqb-false m n e)) (bool-cases (eqb m n))
+
+-- the lowest number that passes, and the greatest number of a set, depend on what lies below n alone
+pub lowest-cong : (n : ℕ) (S T : Set) → ((v : ℕ) → v < n → S v ≡ T v) → lowest n S ≡ lowest n T
+unfolding lowest
+lowest-cong zero S T agree = refl
+lowest-cong (suc n) S T agree =
+    rw (
+      some-cong n S T (λ v l. agree v (le-step l)),
+      lowest-cong n S T (λ v l. agree v (le-step l)),
+      agree n (le-refl (suc n)),
+    )
+
+pub greatest-cong :
+    (n : ℕ) (S T : Set) (f h : ℕ → ℕ) →
+    ((v : ℕ) → v < n → S v ≡ T v) →
+    ((v : ℕ) → v < n → f v ≡ h v) →
+    greatest n S f ≡ greatest n T h
+unfolding greatest
+greatest-cong zero S T f h agree equal = refl
+greatest-cong (suc n) S T f h agree equal =
+    rw (
+      greatest-cong n S T f h (λ v l. agree v (le-step l)) (λ v l. equal v (le-step l)),
+      agree n (le-refl (suc n)),
+      equal n (le-refl (suc n)),
+    )
 
 -- numbers worked out once
 

@@ -25,7 +25,7 @@ use Rattle.theory.specs.PromotionRegions.{same-elsewhere, gained-is, pla
 abbrev pub Stays : Game → Set → (ℕ → ℕ) → (ℕ → ℕ) → ℕ → Type 0
 Stays g X r σ v = Edge g v (σ v) × (X (σ v) ≡ true) × (r (σ v) ≡ r v)
 
--- or v is a head that has none
+-- or v is a head, a vertex whose priority is its region, and has none
 abbrev pub StaysOrHead : Game → Set → (ℕ → ℕ) → (ℕ → ℕ) → ℕ → Type 0
 StaysOrHead g X r σ v = ((σ v ≡ noEntry) × (g .priority v ≡ r v)) ⊎ Stays g X r σ v
 
@@ -37,7 +37,7 @@ pub record Entered (g : Game) (X : Set) (r : ℕ → ℕ) (p : ℕ) (σ : ℕ �
   pub own : (v : ℕ) → X v ≡ true → g .owner v ≡ parity (r v) → StaysOrHead g X r σ v
   pub cycles : (q : ℕ) → GoodCycles g (parity q) (atRegion X r q) σ
 
--- what has priority q
+-- the heads of region q: what has priority q
 abbrev pub heads : Game → ℕ → Set
 heads g q v = eqb (g .priority v) q
 

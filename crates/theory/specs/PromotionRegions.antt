@@ -84,7 +84,7 @@ settled-cong X r r' q to from is-to is-from =
     (λ i. at-intro X r' q v (at-in X r q v i) (is-to v (at-in X r q v i) (at-is X r q v i)))
     (λ i. at-intro X r q v (at-in X r' q v i) (is-from v (at-in X r' q v i) (at-is X r' q v i))))
 
--- no way down only
+-- edges within the regions up to p
 
 module _ {g : Game} {X : Set} {r : ℕ → ℕ} {p : ℕ} (placed : Placed g X r p) (v : ℕ) (inX : X v ≡ true) (low : r v ≤ p) where
   -- a vertex of a region up to p that has an edge above p has one to a lower region than that

@@ -4,7 +4,7 @@ use mathlib.Core.Bool.{true, false, _&&_, _||_, not, cond, and-false}
 use mathlib.Core.Logic.{⊎-elim}
 use mathlib.Core.Path.{_≡_, refl, sym, fun-ext, subst, subst₂, subst₃, _∙_}
 use Prim.Native.Nat.{ℕ, zero, suc, _≤_, _<_}
-use native.Mathlib.Nat.{le-refl, le-step}
+use native.Mathlib.Nat.{le-refl}
 use native.Mathlib.Omega.{arith}
 use borrow.Author.Tests.{eqb-true, eq-eqb, ne-eqb, ltb-true, ltb-false, lt-ltb, le-ltb, not-true}
 use lib.Dec.{eqb, ltb}
@@ -19,7 +19,7 @@ use Rattle.theory.specs.Basics.{someOf-intro, someOf-elim, false-same, s
 use Rattle.theory.specs.Basics.{and-right, some-cong, someOf-cong, not-true-is-false}
 use Rattle.theory.specs.AttractorRank.{Certificate, certificate-is}
 use Rattle.theory.specs.Attractor.{attractor-unique, attractor-is, attractor-same}
-use Rattle.theory.specs.PromotionBasics.{noted-below, noted-above, atRegion, upTo, at-intro, at-in, at-is}
+use Rattle.theory.specs.PromotionBasics.{lowest-cong, greatest-cong, noted-below, noted-above, atRegion, upTo, at-intro, at-in, at-is}
 use Rattle.theory.specs.PromotionEntries.{mover, remaining, promotedTo, dominionSet, Attracts, AttractedEntries, PromotedEntries, SolvedEntries}
 use Rattle.theory.specs.PromotionTests.{unsolved-below, unsolved-intro, region-in, region-out, region-certificate, way-intro, way-elim}
 use Rattle.theory.specs.PromotionTests.{promoted-small, wayAt}
@@ -48,30 +48,6 @@ nextAbove g t p = lowest solvedRegion (λ q. ltb p q && some (g .size) (leadsUp 
 -- the highest region below p
 abbrev pub nextBelow : Game → (ℕ → ℕ) → ℕ → ℕ
 nextBelow g t p = greatest (g .size) (λ v. ltb (t v) p) t
-
-lowest-cong : (n : ℕ) (S T : Set) → ((v : ℕ) → v < n → S v ≡ T v) → lowest n S ≡ lowest n T
-unfolding lowest
-lowest-cong zero S T agree = refl
-lowest-cong (suc n) S T agree =
-    rw (
-      some-cong n S T (λ v l. agree v (le-step l)),
-      lowest-cong n S T (λ v l. agree v (le-step l)),
-      agree n (le-refl (suc n)),
-    )
-
-greatest-cong :
-    (n : ℕ) (S T : Set) (f h : ℕ → ℕ) →
-    ((v : ℕ) → v < n → S v ≡ T v) →
-    ((v : ℕ) → v < n → f v ≡ h v) →
-    greatest n S f ≡ greatest n T h
-unfolding greatest
-greatest-cong zero S T f h agree equal = refl
-greatest-cong (suc n) S T f h agree equal =
-    rw (
-      greatest-cong n S T f h (λ v l. agree v (le-step l)) (λ v l. equal v (le-step l)),
-      agree n (le-refl (suc n)),
-      equal n (le-refl (suc n)),
-    )
 
 -- a certificate depends on the sets by their members alone, and keeps its entries
 certificate-cong :

@@ -50,7 +50,7 @@ module _ (g : Game) (r : ℕ → ℕ) where
       (λ p. rw (greatest-none (g .size) (unsolved g r) r p) (omega arith))
       (bool-cases (some (g .size) (unsolved g r)))
 
--- R
+-- R, the attractor of region p
 
 module _ (g : Game) (s : Regions) where
   pub region-fits : Fits g (upTo (remaining g s) (s .region) (s .current)) (atRegion (remaining g s) (s .region) (s .current))
