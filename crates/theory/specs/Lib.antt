@@ -1,5 +1,5 @@
 -- Theorems about the rules alone: one winner, dominions, attractors, Zielonka's recursion and its bound, strongly connected parts,
--- solitaire, the checker, relabelled priorities, and the worked games.
+-- solitaire, the checker, priority promotion, relabelled priorities, and the worked games.
 pub mod Basics
 pub mod Walks
 pub mod Orbit
@@ -29,4 +29,19 @@ pub mod Chosen
 pub mod SolitaireAttractor
 pub mod DepthFirst
 pub mod Kosaraju
+pub mod PromotionBasics
+pub mod PromotionEntries
+pub mod PromotionRegions
+pub mod PromotionInside
+pub mod PromotionSolved
+pub mod PromotionTests
+pub mod PromotionRounds
+pub mod PromotionStanding
+pub mod PromotionTable
+pub mod PromotionInvariant
+pub mod PromotionSound
+pub mod PromotionExists
+pub mod PromotionMeasure
+pub mod PromotionBound
+pub mod PromotionAccepted
 pub mod Worked

@@ -1,0 +1,81 @@
+-- Priority promotion on accepted tables: it finishes within n · (n + 2) ^ d rounds, p never stays in an open round, and the sets and entries
+-- at the end are right.
+use mathlib.Core.Bool.{true}
+use mathlib.Core.List.{List}
+use mathlib.Core.Path.{_≡_}
+use Prim.Native.Nat.{ℕ, _+_, _*_, _^_, _≤_, _<_}
+use native.Mathlib.Omega.{arith}
+use borrow.Author.Tests.{le-ltb}
+use Rattle.rules.specs.Counting.{some}
+use Rattle.rules.specs.Game.{Player, everywhere}
+use Rattle.rules.specs.Tables.{Tables, gameOf, Accepted}
+use Rattle.rules.specs.Words.{noEntry, entry}
+use Rattle.rules.specs.Winning.{WinningSets, WinningEntries}
+use Rattle.rules.specs.Outcome.{budgeted, answered}
+use Rattle.rules.specs.Budget.{differentPriorities}
+use Rattle.rules.specs.Promotion.{Regions, regionSet, isOpen, afterRounds, roundOf, allSolved, roundsNeeded}
+use Rattle.theory.specs.Tables.{accepted-total, accepted-size, accepted-priority}
+use Rattle.theory.specs.PromotionEntries.{Rounded}
+use Rattle.theory.specs.PromotionRounds.{lowerVertices}
+use Rattle.theory.specs.PromotionInvariant.{Invariant, rounded-invariant}
+use Rattle.theory.specs.PromotionSound.{promotion-sets, promotion-entries}
+use Rattle.theory.specs.PromotionExists.{rounds-sets}
+use Rattle.theory.specs.PromotionBound.{never-stays, budget-enough}
+
+module _ (t : Tables) (ok : Accepted t) where
+  small-priorities : (v : ℕ) → v < gameOf t .size → gameOf t .priority v ≤ 255
+  small-priorities v l = accepted-priority t ok v
+
+  few-vertices : gameOf t .size ≤ noEntry
+  few-vertices = let most = accepted-size t ok in omega arith
+
+  -- **A budget of n · (n + 2) ^ d rounds is enough**: the rounds needed are within it, and after them all vertices are solved.
+  pub accepted-finishes :
+      (budget : ℕ) →
+      gameOf t .size * (gameOf t .size + 2) ^ differentPriorities (gameOf t) (everywhere (gameOf t)) ≤ budget →
+      (roundsNeeded (gameOf t) budget ≤ budget) ×
+      (allSolved (gameOf t) (afterRounds (gameOf t) (roundsNeeded (gameOf t) budget)) ≡ true)
+  accepted-finishes = budget-enough (gameOf t) (accepted-total t ok) small-priorities
+
+  -- **So 13 is never given at or above that budget.**
+  pub accepted-within-budget :
+      (budget : ℕ) →
+      gameOf t .size * (gameOf t .size + 2) ^ differentPriorities (gameOf t) (everywhere (gameOf t)) ≤ budget →
+      budgeted budget (roundsNeeded (gameOf t) budget) ≡ answered (roundsNeeded (gameOf t) budget)
+  accepted-within-budget budget l =
+      rw (le-ltb budget (roundsNeeded (gameOf t) budget) (accepted-finishes budget l .0))
+
+  -- **In an open round some unsolved vertex has a region below p, and p goes down.**
+  pub accepted-never-stays :
+      (k : ℕ) →
+      isOpen (gameOf t) (afterRounds (gameOf t) k) (regionSet (gameOf t) (afterRounds (gameOf t) k)) ≡ true →
+      (some (gameOf t .size) (lowerVertices (gameOf t) (afterRounds (gameOf t) k)) ≡ true) ×
+      (roundOf (gameOf t) (afterRounds (gameOf t) k) .current < afterRounds (gameOf t) k .current)
+  accepted-never-stays = never-stays (gameOf t) (accepted-total t ok) small-priorities
+
+  -- **Once all vertices are solved, the sets of the rules' rounds are exactly the winning sets.**
+  pub accepted-rounds-sets :
+      (k : ℕ) → allSolved (gameOf t) (afterRounds (gameOf t) k) ≡ true → WinningSets (gameOf t) (afterRounds (gameOf t) k .won)
+  accepted-rounds-sets = rounds-sets (gameOf t) (accepted-total t ok) small-priorities few-vertices
+
+  module _ {s : Regions} {σ : ℕ → ℕ} (rounded : Rounded (gameOf t) s σ) where
+    -- the invariant holds of what rounds reach
+    pub accepted-invariant : Invariant (gameOf t) s σ
+    accepted-invariant = rounded-invariant (gameOf t) (accepted-total t ok) small-priorities few-vertices rounded
+
+    -- **the sets are exactly the winning sets,**
+    pub accepted-promotion-sets : allSolved (gameOf t) s ≡ true → WinningSets (gameOf t) (s .won)
+    accepted-promotion-sets = promotion-sets (gameOf t) (accepted-total t ok) small-priorities few-vertices rounded
+
+    -- **and the entries at the winners' own vertices are a winning choice.**
+    pub accepted-promotion-entries :
+        allSolved (gameOf t) s ≡ true →
+        (strategy : List ℕ) →
+        ((a : Player) (v : ℕ) → v < gameOf t .size → s .won a v ≡ true → gameOf t .owner v ≡ a → entry strategy v ≡ σ v) →
+        ((a : Player) (v : ℕ) →
+        v < gameOf t .size →
+        s .won a v ≡ true →
+        (gameOf t .owner v ≡ a → ⊥) →
+        entry strategy v ≡ noEntry) →
+        WinningEntries (gameOf t) (s .won) strategy
+    accepted-promotion-entries = promotion-entries (gameOf t) (accepted-total t ok) small-priorities few-vertices rounded
