@@ -1,0 +1,2 @@
+-- What the doors tell.
+pub mod Doors
