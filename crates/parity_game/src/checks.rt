@@ -39,7 +39,8 @@ fn check_owners(owners: &[u8]) -> Answer
 
 // 5: no priority is above 255.
 fn check_priorities(priorities: &[u16]) -> Answer
-    ensures { λ r. ⌜ said r ≡ outcome (check5 (length (now (priorities .entry))) (now (priorities .entry))) (answered 0) ⌝ }
+    ensures { λ r.
+        ⌜ said r ≡ outcome (check5 (length (now (priorities .entry))) (now (priorities .entry))) (answered 0) ⌝ }
 {
     for v in 0..priorities.len() {
         if 255 < priorities[v] {

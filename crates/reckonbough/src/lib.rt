@@ -1,5 +1,5 @@
-// The doors: every public function, exported for C and Rust. Each returns the number of document 01's table, 0 for an answer,
-// and writes place and count through the last two references. None has a `requires`.
+// The doors: every public function, exported for C and Rust. Each returns the number of document 01's table, 0 for
+// an answer, and writes place and count through the last two references. None has a `requires`.
 use parity_game::Answer;
 ghost use mathlib.Core.Path.{_≡_};
 ghost use Rattle.rules.specs.Outcome.{outcome, answered};
@@ -63,7 +63,8 @@ pub extern "C" fn reckonbough_compact(
           offsets = now (offsets .entry);
           targets = now (targets .entry);
         })
-        (now («new_priorities» .entry)) (now («new_priorities» .exit)) (told n (now (place .exit)) (now (count .exit))) ⌝ }
+        (now («new_priorities» .entry)) (now («new_priorities» .exit))
+        (told n (now (place .exit)) (now (count .exit))) ⌝ }
 {
     tell(
         compaction::compact(owners, priorities, offsets, targets, new_priorities),

@@ -1,5 +1,5 @@
-// Sets as words of 64 bits, vertex v at bit v % 64 of word v / 64: the operations of the Rust's BitVec that the solvers use.
-// Each contract says what every bit is afterwards, bits at n and above included.
+// Sets as words of 64 bits, vertex v at bit v % 64 of word v / 64: the operations of the Rust's BitVec that the
+// solvers use. Each contract says what every bit is afterwards, bits at n and above included.
 mod bits;
 mod members;
 mod whole;

@@ -1,5 +1,5 @@
-// Whole sets, word by word. The binary operations stand on two parts of one slice, `into` and `from`, of `s` words each: the
-// solvers keep all their sets in one work area.
+// Whole sets, word by word. The binary operations stand on two parts of one slice, `into` and `from`, of `s` words
+// each: the solvers keep all their sets in one work area.
 ghost use mathlib.Core.Path.{_≡_};
 ghost use mathlib.Core.Bool.{not};
 ghost use Prim.Native.Nat.{_+_, _-_, _*_, _≤_, min, max};
