@@ -38,12 +38,23 @@ fn command() -> i32 {
 fn all(random: u64, large: u64) -> i32 {
     println!("the port: {}", if cfg!(feature = "port") { "compared" } else { "NOT compared, its library was not there" });
     finish(&[
+        boundaries(),
         family("worked games C2 to C9", worked().into_iter().map(|(_, game)| game).filter(|game| game.n() > 0)),
         family("two vertices", generate::two_vertices()),
         family("three vertices", generate::three_vertices()),
         family("random, up to 200 vertices", (0..random).map(generate::random)),
         family("4,096 vertices", (0..large).map(generate::large)),
     ])
+}
+
+/// C1 and the limits, on the port alone: the oracle answers none of them.
+fn boundaries() -> u64 {
+    #[cfg(feature = "port")]
+    if let Err(what) = compare::port_check::boundaries() {
+        println!("DIFFERENCE at the limits: {what}");
+        return 1;
+    }
+    0
 }
 
 /// Compares all games of a family; the number of games that differ.

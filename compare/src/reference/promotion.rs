@@ -3,11 +3,12 @@
 use super::attractor::attractor;
 use crate::game::Game;
 
-/// Winners and rounds.
+/// Winners and rounds, and how often "if there is none, p stays" came up.
 #[derive(Clone, Debug, PartialEq, Eq)]
 pub struct Solved {
     pub winners: Vec<u8>,
     pub rounds: u64,
+    pub stays: u64,
 }
 
 /// None when more than `most` rounds would be needed.
@@ -19,7 +20,7 @@ pub fn solve(game: &Game, most: u64) -> Option<Solved> {
         }
         state.round();
     }
-    Some(Solved { winners: state.winners, rounds: state.rounds })
+    Some(Solved { winners: state.winners, rounds: state.rounds, stays: state.stays })
 }
 
 struct State<'a> {
@@ -29,13 +30,14 @@ struct State<'a> {
     winners: Vec<u8>,
     p: u16,
     rounds: u64,
+    stays: u64,
 }
 
 impl State<'_> {
     fn start(game: &Game) -> State<'_> {
         let region: Vec<Option<u16>> = game.priorities.iter().copied().map(Some).collect();
         let p = game.priorities.iter().copied().max().unwrap_or(0);
-        State { game, region, winners: vec![0; game.n()], p, rounds: 0 }
+        State { game, region, winners: vec![0; game.n()], p, rounds: 0, stays: 0 }
     }
 
     fn unsolved(&self) -> usize {
@@ -51,7 +53,9 @@ impl State<'_> {
 
         let escapes = self.escapes(&r, a);
         if escapes.iter().any(|region| *region < p) || self.stuck(&r, a) {
-            self.p = self.region.iter().flatten().copied().filter(|region| *region < p).max().unwrap_or(p);
+            let below = self.region.iter().flatten().copied().filter(|region| *region < p).max();
+            self.stays += below.is_none() as u64;
+            self.p = below.unwrap_or(p);
         } else if escapes.is_empty() {
             self.win(&r, a);
         } else {

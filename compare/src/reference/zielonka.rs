@@ -11,40 +11,41 @@ pub struct Solved {
     pub looks: u64,
 }
 
-pub fn solve(game: &Game) -> Solved {
-    let mut run = Run { game, calls: 0, looks: 0 };
-    let odd = run.odd_wins(&vec![true; game.n()]);
-    Solved { winners: odd.iter().map(|won| *won as u8).collect(), calls: run.calls, looks: run.looks }
+/// None when more than `most` calls would be needed.
+pub fn solve(game: &Game, most: u64) -> Option<Solved> {
+    let mut run = Run { game, most, calls: 0, looks: 0 };
+    let odd = run.odd_wins(&vec![true; game.n()])?;
+    Some(Solved { winners: odd.iter().map(|won| *won as u8).collect(), calls: run.calls, looks: run.looks })
 }
 
 struct Run<'a> {
     game: &'a Game,
+    most: u64,
     calls: u64,
     looks: u64,
 }
 
 impl Run<'_> {
     /// One call on V: the vertices of V that Odd wins. Even wins the rest of V.
-    fn odd_wins(&mut self, v: &[bool]) -> Vec<bool> {
+    fn odd_wins(&mut self, v: &[bool]) -> Option<Vec<bool>> {
+        if self.calls == self.most {
+            return None;
+        }
         self.calls += 1;
-        let Some(p) = highest(self.game, v) else { return v.to_vec() };
+        let Some(p) = highest(self.game, v) else { return Some(v.to_vec()) };
         let a = (p % 2) as u8;
         let u: Vec<bool> = (0..v.len()).map(|x| v[x] && self.game.priorities[x] == p).collect();
 
         let rest = without(v, &self.attract(a, v, &u));
-        let first = self.odd_wins(&rest);
+        let first = self.odd_wins(&rest)?;
         let opponents = if a == 0 { first } else { without(&rest, &first) };
         if !opponents.contains(&true) {
-            return if a == 1 { v.to_vec() } else { vec![false; v.len()] };
+            return Some(if a == 1 { v.to_vec() } else { vec![false; v.len()] });
         }
 
         let b = self.attract(1 - a, v, &opponents);
-        let rest = without(v, &b);
-        let second = self.odd_wins(&rest);
-        match a {
-            0 => (0..v.len()).map(|x| b[x] || second[x]).collect(),
-            _ => second,
-        }
+        let second = self.odd_wins(&without(v, &b))?;
+        Some(if a == 0 { (0..v.len()).map(|x| b[x] || second[x]).collect() } else { second })
     }
 
     fn attract(&mut self, player: u8, v: &[bool], target: &[bool]) -> Vec<bool> {
