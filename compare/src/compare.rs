@@ -12,8 +12,10 @@ pub struct Tally {
     pub by_definition: u64,
     pub solitaire: u64,
     pub strategies: u64,
-    /// Oracle runs stopped at the cap; their games are not compared there.
+    /// Oracle runs stopped at the cap.
     pub capped: u64,
+    /// Games on which both solvers of the oracle were stopped: nothing was compared.
+    pub left_out: u64,
     /// Games whose calls, or rounds, the plain reference counted too.
     pub calls_counted: u64,
     pub rounds_counted: u64,
@@ -61,7 +63,10 @@ pub fn compare(game: &Game, cap: Cap, tally: &mut Tally) -> Result<(), String> {
     }
     let zielonka = both_runs("Zielonka", game, tally, |strategy| oracle::zielonka(game, strategy, cap))?;
     let promotion = both_runs("promotion", game, tally, |strategy| oracle::priority_promotion(game, strategy, cap))?;
-    let Some(one) = zielonka.as_ref().or(promotion.as_ref()) else { return Ok(()) };
+    let Some(one) = zielonka.as_ref().or(promotion.as_ref()) else {
+        tally.left_out += 1;
+        return Ok(());
+    };
     let want = Want {
         winners: one.winners.clone(),
         calls: zielonka.as_ref().map(|solved| solved.count),

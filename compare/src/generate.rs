@@ -104,14 +104,16 @@ pub fn random(number: u64) -> Game {
     of_shape(shape, &mut numbers)
 }
 
-/// A game of 4,096 vertices and at most 16,384 edges.
+/// A game of 4,096 vertices and at most 16,384 edges. One in three has near edges only, and few priorities: with many it
+/// would take both solvers too long.
 pub fn large(number: u64) -> Game {
     let mut numbers = Numbers::new(number ^ 0x4096_4096_4096_4096);
+    let near = number % 3 == 0;
     let shape = Shape {
         n: 4_096,
         most_edges: [2, 3][number as usize % 2],
-        priorities: [2, 3, 8, 64, 256][number as usize % 5],
-        reach: if number % 3 == 0 { 5 } else { 4_096 },
+        priorities: if near { [3, 4][number as usize % 2] } else { [2, 3, 8, 64, 256][number as usize % 5] },
+        reach: if near { 3 } else { 4_096 },
         repeats: 20,
         owner: [2, 2, 2, 0, 2, 2, 2, 1][number as usize % 8],
     };

@@ -5,6 +5,7 @@ pub mod compare;
 pub mod definition;
 pub mod game;
 pub mod generate;
+pub mod hard;
 pub mod list;
 pub mod oracle;
 #[cfg(feature = "port")]

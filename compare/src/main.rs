@@ -4,6 +4,7 @@ use std::time::Instant;
 
 use compare::compare::{compare, Tally};
 use compare::game::{worked, Game};
+use compare::hard::{climb, Solver};
 use compare::oracle::Cap;
 use compare::{generate, list, probe};
 
@@ -43,8 +44,15 @@ fn all(random: u64, large: u64) -> i32 {
         family("two vertices", generate::two_vertices()),
         family("three vertices", generate::three_vertices()),
         family("random, up to 200 vertices", (0..random).map(generate::random)),
+        family("made hard for Zielonka, up to 40 vertices", made_hard(Solver::Zielonka)),
+        family("made hard for promotion, up to 40 vertices", made_hard(Solver::Promotion)),
         family("4,096 vertices", (0..large).map(generate::large)),
     ])
+}
+
+/// Climbs of different sizes, every game on the way.
+fn made_hard(solver: Solver) -> impl Iterator<Item = Game> {
+    (1..=20).flat_map(move |number| climb(solver, 2 * number, 1_000, 3_000, number as u64))
 }
 
 /// C1 and the limits, on the port alone: the oracle answers none of them.

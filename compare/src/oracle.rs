@@ -86,6 +86,30 @@ pub fn raw_words(game: &Game) -> [Vec<usize>; 2] {
     sets.map(|set| set.as_raw_slice().to_vec())
 }
 
+/// A game that is built already, for timing: solved without messages, counts or caps.
+pub struct Prepared(ParityGame);
+
+impl Prepared {
+    pub fn new(game: &Game) -> Prepared {
+        Prepared(parity_game(game))
+    }
+
+    pub fn zielonka(&self) -> [Set; 2] {
+        quietly(|| merc_vpg::solve_zielonka(&self.0, false).0)
+    }
+
+    pub fn priority_promotion(&self) -> [Set; 2] {
+        quietly(|| merc_vpg::solve_priority_promotion(&self.0, false).0)
+    }
+}
+
+fn quietly<T>(work: impl FnOnce() -> T) -> T {
+    log::set_max_level(LevelFilter::Off);
+    let result = work();
+    log::set_max_level(LevelFilter::Debug);
+    result
+}
+
 fn solved(game: &Game, sets: &[Set; 2], chosen: &Option<[Strategy; 2]>, count: u64) -> Solved {
     let winner = |v: usize| match (sets[0][v], sets[1][v]) {
         (true, false) => 0,

@@ -9,7 +9,7 @@ use crate::reference::Answer;
 
 /// Damaged copies of the tables, then wrong sizes of what is lent.
 pub fn compare(game: &Game, numbers: &mut Numbers) -> Result<(), String> {
-    for _ in 0..4 {
+    for _ in 0..if game.n() > 0 { 4 } else { 0 } {
         let damaged = damage(game, numbers);
         if let Some(want) = first_refusal(&damaged) {
             every_door(&damaged, want, &Lent::junk(&damaged))?;
@@ -22,15 +22,15 @@ pub fn compare(game: &Game, numbers: &mut Numbers) -> Result<(), String> {
 fn damage(game: &Game, numbers: &mut Numbers) -> Game {
     let mut damaged = game.clone();
     for _ in 0..numbers.between(1, 2) {
-        let v = numbers.below(game.n().max(1));
+        let v = numbers.below(game.n());
         match numbers.below(9) {
             0 => damaged.owners.iter_mut().skip(v).take(1).for_each(|owner| *owner = 2 + numbers.below(254) as u8),
             1 => damaged.priorities.iter_mut().skip(v).take(1).for_each(|p| *p = 256 + numbers.below(65_280) as u16),
             2 => damaged.offsets[0] = 1,
             3 => damaged.offsets.iter_mut().skip(v).take(1).for_each(|offset| *offset = numbers.below(65_536) as u16),
             4 => damaged.targets.iter_mut().skip(v).take(1).for_each(|w| *w = (game.n() + numbers.below(3)) as u16),
-            5 => drop(damaged.targets.pop()),
-            6 => drop(damaged.priorities.pop()),
+            5 => damaged.targets.truncate(game.m() - 1),
+            6 => damaged.priorities.truncate(game.n() - 1),
             7 => damaged.offsets.push(game.m() as u16),
             _ => {
                 damaged.owners.push(0);
@@ -56,9 +56,9 @@ fn wrong_sizes(game: &Game) -> Result<(), String> {
     refuse(second_set, game, Answer::no(9, 0), &with(|lent| lent.odd.push(0)))?;
     refuse(entries, game, Answer::no(9, 0), &with(|lent| lent.strategy.push(0)))?;
     if game.n() > 0 {
-        refuse(set, game, Answer::no(9, 0), &with(|lent| drop(lent.even.pop())))?;
-        refuse(second_set, game, Answer::no(9, 0), &with(|lent| drop(lent.odd.pop())))?;
-        refuse(entries, game, Answer::no(9, 0), &with(|lent| drop(lent.strategy.pop())))?;
+        refuse(set, game, Answer::no(9, 0), &with(|lent| lent.even.truncate(lent.even.len() - 1)))?;
+        refuse(second_set, game, Answer::no(9, 0), &with(|lent| lent.odd.truncate(lent.odd.len() - 1)))?;
+        refuse(entries, game, Answer::no(9, 0), &with(|lent| lent.strategy.truncate(lent.strategy.len() - 1)))?;
     }
     let short = with(|lent| lent.work.truncate(lent.work.len() - 4));
     refuse(set, game, Answer::no(10, 0), &short)
