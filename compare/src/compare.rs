@@ -114,6 +114,9 @@ fn compare_rules(game: &Game, rules: &Rules, want: &Want, looks: Option<u64>, ta
     if want.calls.is_some_and(|calls| calls as u128 > zielonka::bound(game)) {
         return Err(format!("{:?} calls are more than demand 3's bound {}", want.calls, zielonka::bound(game)));
     }
+    if want.rounds.is_some_and(|rounds| rounds as u128 > promotion::bound(game)) {
+        return Err(format!("{:?} rounds are more than A12's bound {}", want.rounds, promotion::bound(game)));
+    }
     if let Some(promotion) = &rules.promotion {
         tally.rounds_counted += 1;
         tally.most_rounds = tally.most_rounds.max(promotion.rounds);

@@ -6,10 +6,11 @@
 use crate::compare::{compare, Tally};
 use crate::game::{worked, Game};
 use crate::generate::{of_shape, three_vertices, two_vertices, Numbers, Shape};
+use crate::hard::{climb, Solver};
 use crate::oracle::{self, Cap, Outcome};
 
-/// The games of the list: the worked ones, samples of the small ones, random ones up to 12 vertices. C1 is left out: the
-/// oracle does not answer it.
+/// The games of the list: the worked ones, samples of the small ones, random ones and ones made hard, up to 12 vertices. C1
+/// is left out: the oracle does not answer it.
 pub fn games() -> Vec<Game> {
     let mut games: Vec<Game> = worked().into_iter().map(|(_, game)| game).filter(|game| game.n() > 0).collect();
     games.extend(two_vertices().step_by(29));
@@ -26,6 +27,9 @@ pub fn games() -> Vec<Game> {
             owner: [0, 1, 2, 2, 2][number % 5],
         };
         games.push(of_shape(shape, &mut numbers));
+    }
+    for n in 3..=12 {
+        games.extend([Solver::Zielonka, Solver::Promotion].iter().filter_map(|solver| climb(*solver, n, 400, 200, 1).last()));
     }
     games
 }

@@ -1,12 +1,12 @@
-//! compare all [RANDOM] [LARGE] | worked | list | replay FILE | probe
+//! compare all [RANDOM] [LARGE] | list | replay FILE | probe | slip
 
 use std::time::Instant;
 
 use compare::compare::{compare, Tally};
 use compare::game::{worked, Game};
 use compare::hard::{climb, Solver};
-use compare::oracle::Cap;
-use compare::{generate, list, probe};
+use compare::oracle::{Cap, Outcome};
+use compare::{definition, generate, list, probe};
 
 /// Differences printed in full; the rest is counted.
 const SHOWN: u64 = 10;
@@ -22,15 +22,15 @@ fn command() -> i32 {
     let number = |at: usize, or: u64| arguments.get(at).map_or(Ok(or), |text| text.parse());
     match (arguments.first().map(String::as_str), number(1, 100_000), number(2, 16)) {
         (Some("all"), Ok(random), Ok(large)) => all(random, large),
-        (Some("worked"), _, _) => finish(&[family("worked games", worked().into_iter().map(|(_, g)| g).filter(|g| g.n() > 0))]),
         (Some("list"), _, _) => print_list(),
         (Some("replay"), _, _) => replay(&arguments[1]),
         (Some("probe"), _, _) => {
             probe::report().iter().for_each(|line| println!("{line}"));
             0
         }
+        (Some("slip"), _, _) => slip(),
         _ => {
-            eprintln!("usage: compare all [RANDOM] [LARGE] | worked | list | replay FILE | probe");
+            eprintln!("usage: compare all [RANDOM] [LARGE] | list | replay FILE | probe | slip");
             2
         }
     }
@@ -63,6 +63,30 @@ fn boundaries() -> u64 {
         return 1;
     }
     0
+}
+
+/// With the feature drop-repeats: the games of two vertices on which the slip is noticed.
+fn slip() -> i32 {
+    if !cfg!(feature = "drop-repeats") {
+        eprintln!("compare: this build has no slip in it");
+        return 2;
+    }
+    let noticed = generate::two_vertices().filter(|game| compare(game, Cap::default(), &mut Tally::default()).is_err());
+    println!("the slip is noticed on {} games of two vertices", noticed.count());
+    let wrong: Vec<Game> = generate::two_vertices().filter(|game| wrong_together(game)).collect();
+    let smallest = wrong.iter().min_by_key(|game| game.m());
+    println!("Zielonka and promotion give the same wrong winners on {}, a smallest being {smallest:?}", wrong.len());
+    wrong.is_empty() as i32
+}
+
+/// Both solvers of the oracle give the same winners, and not those of demand 2's definition.
+fn wrong_together(game: &Game) -> bool {
+    let winners = |solver: Solver| match solver.oracle(game, Cap::default()) {
+        Outcome::Answer(solved) => Ok(solved.winners),
+        _ => Err("no answer".to_string()),
+    };
+    let given = winners(Solver::Zielonka);
+    given == winners(Solver::Promotion) && given != definition::winners(game)
 }
 
 /// Compares all games of a family; the number of games that differ.

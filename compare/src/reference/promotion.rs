@@ -112,3 +112,9 @@ impl State<'_> {
         }
     }
 }
+
+/// The rounds that request A12 says are enough: n (n+2)^d, as far as 128 bits hold it.
+pub fn bound(game: &Game) -> u128 {
+    let n = game.n() as u128;
+    (0..game.different_priorities()).fold(n, |product, _| product.saturating_mul(n + 2))
+}
