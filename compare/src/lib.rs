@@ -14,3 +14,4 @@ pub mod port;
 pub mod port_check;
 pub mod probe;
 pub mod reference;
+pub mod slip;

@@ -5,8 +5,8 @@ use std::time::Instant;
 use compare::compare::{compare, Tally};
 use compare::game::{worked, Game};
 use compare::hard::{climb, Solver};
-use compare::oracle::{Cap, Outcome};
-use compare::{definition, generate, list, probe};
+use compare::oracle::Cap;
+use compare::{generate, list, probe, slip};
 
 /// Differences printed in full; the rest is counted.
 const SHOWN: u64 = 10;
@@ -28,7 +28,7 @@ fn command() -> i32 {
             probe::report().iter().for_each(|line| println!("{line}"));
             0
         }
-        (Some("slip"), _, _) => slip(),
+        (Some("slip"), _, _) => slip::report(),
         _ => {
             eprintln!("usage: compare all [RANDOM] [LARGE] | list | replay FILE | probe | slip");
             2
@@ -63,30 +63,6 @@ fn boundaries() -> u64 {
         return 1;
     }
     0
-}
-
-/// With the feature drop-repeats: the games of two vertices on which the slip is noticed.
-fn slip() -> i32 {
-    if !cfg!(feature = "drop-repeats") {
-        eprintln!("compare: this build has no slip in it");
-        return 2;
-    }
-    let noticed = generate::two_vertices().filter(|game| compare(game, Cap::default(), &mut Tally::default()).is_err());
-    println!("the slip is noticed on {} games of two vertices", noticed.count());
-    let wrong: Vec<Game> = generate::two_vertices().filter(|game| wrong_together(game)).collect();
-    let smallest = wrong.iter().min_by_key(|game| game.m());
-    println!("Zielonka and promotion give the same wrong winners on {}, a smallest being {smallest:?}", wrong.len());
-    wrong.is_empty() as i32
-}
-
-/// Both solvers of the oracle give the same winners, and not those of demand 2's definition.
-fn wrong_together(game: &Game) -> bool {
-    let winners = |solver: Solver| match solver.oracle(game, Cap::default()) {
-        Outcome::Answer(solved) => Ok(solved.winners),
-        _ => Err("no answer".to_string()),
-    };
-    let given = winners(Solver::Zielonka);
-    given == winners(Solver::Promotion) && given != definition::winners(game)
 }
 
 /// Compares all games of a family; the number of games that differ.
