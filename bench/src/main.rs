@@ -31,7 +31,7 @@ fn bench() {
 
 /// One row a family and solver, as a Markdown table.
 fn table() {
-    println!("| family | n | m | solver | calls or rounds | Rust ms | port ms | of these zeroing | ratio | ratio without zeroing |");
+    println!("| family | n | m | solver | calls or rounds | Rust ms | port ms | of it zeroing | ratio | ratio less zeroing |");
     println!("|---|---|---|---|---|---|---|---|---|---|");
     let mut games: Vec<(&str, Game)> = FAMILIES.iter().map(|family| (family.name, (family.game)(4_096))).collect();
     for (solver, alone, with_padding) in [

@@ -24,7 +24,8 @@ pub struct Panel {
 pub fn svg(panels: &[Panel], families: &[&str]) -> String {
     let mut out = String::new();
     let (wide, high) = (panels.len() as f64 * (WIDTH + LEFT) + 40.0, HEIGHT + TOP + 110.0);
-    let _ = writeln!(out, "<svg xmlns='http://www.w3.org/2000/svg' width='{wide}' height='{high}' font-family='sans-serif' font-size='12'>");
+    let _ = writeln!(out, "<svg xmlns='http://www.w3.org/2000/svg' width='{wide}' height='{high}'");
+    let _ = writeln!(out, "    font-family='sans-serif' font-size='12'>");
     let _ = writeln!(out, "<rect width='100%' height='100%' fill='white'/>");
     let scale = Scale::of(panels);
     for (at, panel) in panels.iter().enumerate() {

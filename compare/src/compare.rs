@@ -47,7 +47,7 @@ pub struct Rules {
 
 impl Rules {
     pub fn of(game: &Game) -> Rules {
-        let most = 20_000_000 / (1 + game.n() + game.m()) as u64;
+        let most = 200_000_000 / (1 + game.n() + game.m()) as u64;
         Rules {
             zielonka: zielonka::solve(game, most),
             promotion: promotion::solve(game, most),

@@ -119,3 +119,25 @@ pub fn large(number: u64) -> Game {
     };
     of_shape(shape, &mut numbers)
 }
+
+/// Vertex v belongs to player v mod 2, has priority v mod 2 and leads to the next two.
+pub fn ladder(n: usize) -> Game {
+    let mut game = Game::empty();
+    for v in 0..n {
+        game.push((v % 2) as u8, (v % 2) as u16, &[((v + 1) % n) as u16, ((v + 2) % n) as u16]);
+    }
+    game
+}
+
+/// n/2 pairs: E2 -> the pair's other; E1 -> itself, the next pair. The recursion takes one pair off at a time, so that it
+/// nests n/2 + 1 deep: 2,049 with 4,096 vertices.
+pub fn chain(n: usize) -> Game {
+    let mut game = Game::empty();
+    for pair in 0..n as u16 / 2 {
+        game.push(0, 2, &[2 * pair + 1]);
+        let last = 2 * pair as usize + 2 >= n;
+        let targets: &[u16] = &[2 * pair + 1, 2 * pair + 2];
+        game.push(0, 1, if last { &targets[..1] } else { targets });
+    }
+    game
+}

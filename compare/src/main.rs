@@ -46,7 +46,8 @@ fn all(random: u64, large: u64) -> i32 {
         family("random, up to 200 vertices", (0..random).map(generate::random)),
         family("made hard for Zielonka, up to 40 vertices", made_hard(Solver::Zielonka)),
         family("made hard for promotion, up to 40 vertices", made_hard(Solver::Promotion)),
-        family("4,096 vertices", (0..large).map(generate::large)),
+        family("4,096 vertices, chain and ladder", [generate::chain(4_096), generate::ladder(4_096)].into_iter()),
+        family("4,096 vertices, random", (0..large).map(generate::large)),
     ])
 }
 

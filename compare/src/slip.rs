@@ -47,11 +47,11 @@ fn noticed(name: &str, games: impl Iterator<Item = Game>) -> usize {
     rejected
 }
 
-fn told(game: &Game, solver: Solver, right: &[u8]) -> &'static str {
+fn told(game: &Game, solver: Solver, right: &[u8]) -> String {
     match solver.oracle(game, SHORT) {
-        Outcome::Answer(solved) if solved.winners == right => "right",
-        Outcome::Answer(_) => "WRONG",
-        Outcome::Panicked(_) => "panics",
-        Outcome::Capped => "does not end",
+        Outcome::Answer(solved) if solved.winners == right => "right".to_string(),
+        Outcome::Answer(_) => "WRONG".to_string(),
+        Outcome::Panicked(message) => format!("panics ({message})"),
+        Outcome::Capped => "does not end".to_string(),
     }
 }

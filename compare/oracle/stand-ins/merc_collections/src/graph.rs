@@ -22,7 +22,7 @@ where
     F: Fn(G::VertexIndex, G::LabelIndex, G::VertexIndex) -> bool,
 {
     let n = graph.num_of_vertices();
-    let mut search = Search { index: vec![None; n], low: vec![0; n], open: Vec::new(), block_of: vec![None; n], blocks: 0, seen: 0 };
+    let mut search = Search::new(n);
     for root in graph.iter_vertices() {
         if search.index[root.index()].is_none() {
             search.from_root(graph, &filter, root);
@@ -42,6 +42,10 @@ struct Search {
 }
 
 impl Search {
+    fn new(n: usize) -> Search {
+        Search { index: vec![None; n], low: vec![0; n], open: Vec::new(), block_of: vec![None; n], blocks: 0, seen: 0 }
+    }
+
     fn from_root<G, F>(&mut self, graph: &G, filter: &F, root: G::VertexIndex)
     where
         G: Graph,
