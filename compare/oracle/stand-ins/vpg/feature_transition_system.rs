@@ -1,0 +1,4 @@
+//! STAND-IN for names that the given `lib.rs` exports and the comparison never uses.
+
+pub struct FeatureDiagram;
+pub fn read_fts() {}

@@ -1,0 +1,1 @@
+//! STAND-IN for names that the given `lib.rs` exports and the comparison never uses.

@@ -1,0 +1,3 @@
+//! STAND-IN for names that the given `lib.rs` exports and the comparison never uses.
+
+pub fn translate_vpg() {}

@@ -1,0 +1,112 @@
+//! compare all [RANDOM] [LARGE] | list | replay FILE | probe | slip
+
+use std::time::Instant;
+
+use compare::compare::{compare, Tally};
+use compare::game::{worked, Game};
+use compare::hard::{climb, Solver};
+use compare::oracle::Cap;
+use compare::{generate, list, probe, slip};
+
+/// Differences printed in full; the rest is counted.
+const SHOWN: u64 = 10;
+
+fn main() {
+    // The oracle and the reference recurse once for each call of the recursion on sets.
+    let run = std::thread::Builder::new().stack_size(1 << 30).spawn(command).expect("a thread can be started");
+    std::process::exit(run.join().unwrap_or(2));
+}
+
+fn command() -> i32 {
+    let arguments: Vec<String> = std::env::args().skip(1).collect();
+    let number = |at: usize, or: u64| arguments.get(at).map_or(Ok(or), |text| text.parse());
+    match (arguments.first().map(String::as_str), number(1, 100_000), number(2, 16)) {
+        (Some("all"), Ok(random), Ok(large)) => all(random, large),
+        (Some("list"), _, _) => print_list(),
+        (Some("replay"), _, _) => replay(&arguments[1]),
+        (Some("probe"), _, _) => {
+            probe::report().iter().for_each(|line| println!("{line}"));
+            0
+        }
+        (Some("slip"), _, _) => slip::report(),
+        _ => {
+            eprintln!("usage: compare all [RANDOM] [LARGE] | list | replay FILE | probe | slip");
+            2
+        }
+    }
+}
+
+fn all(random: u64, large: u64) -> i32 {
+    println!("the port: {}", if cfg!(feature = "port") { "compared" } else { "NOT compared, its library was not there" });
+    finish(&[
+        boundaries(),
+        family("worked games C2 to C9", worked().into_iter().map(|(_, game)| game).filter(|game| game.n() > 0)),
+        family("two vertices", generate::two_vertices()),
+        family("three vertices", generate::three_vertices()),
+        family("random, up to 200 vertices", (0..random).map(generate::random)),
+        family("made hard for Zielonka, up to 40 vertices", made_hard(Solver::Zielonka)),
+        family("made hard for promotion, up to 40 vertices", made_hard(Solver::Promotion)),
+        family("4,096 vertices, chain and ladder", [generate::chain(4_096), generate::ladder(4_096)].into_iter()),
+        family("4,096 vertices, random", (0..large).map(generate::large)),
+    ])
+}
+
+/// Climbs of different sizes, every game on the way.
+fn made_hard(solver: Solver) -> impl Iterator<Item = Game> {
+    (1..=20).flat_map(move |number| climb(solver, 2 * number, 1_000, 3_000, number as u64))
+}
+
+/// C1 and the limits, on the port alone: the oracle answers none of them.
+fn boundaries() -> u64 {
+    #[cfg(feature = "port")]
+    if let Err(what) = compare::port_check::boundaries() {
+        println!("DIFFERENCE at the limits: {what}");
+        return 1;
+    }
+    0
+}
+
+/// Compares all games of a family; the number of games that differ.
+fn family(name: &str, games: impl Iterator<Item = Game>) -> u64 {
+    let start = Instant::now();
+    let (mut tally, mut differ) = (Tally::default(), 0);
+    for game in games {
+        if let Err(what) = compare(&game, Cap::default(), &mut tally) {
+            differ += 1;
+            if differ <= SHOWN {
+                println!("DIFFERENCE {what}\n    {game:?}");
+            }
+        }
+    }
+    println!("{name}: {} agree, {differ} differ, {:.1} s", tally.games, start.elapsed().as_secs_f64());
+    println!("    {tally:?}");
+    differ
+}
+
+fn finish(differ: &[u64]) -> i32 {
+    let sum: u64 = differ.iter().sum();
+    println!("{}", if sum == 0 { "no difference" } else { "DIFFERENCES" });
+    (sum != 0) as i32
+}
+
+fn print_list() -> i32 {
+    for game in list::games() {
+        match list::line(&game) {
+            Ok(line) => println!("{line}"),
+            Err(what) => {
+                eprintln!("{what}\n    {game:?}");
+                return 1;
+            }
+        }
+    }
+    0
+}
+
+/// The stored list is the one that the oracle gives now.
+fn replay(path: &str) -> i32 {
+    let stored = std::fs::read_to_string(path).unwrap_or_default();
+    let now: Vec<String> = list::games().iter().map(|game| list::line(game).unwrap_or_else(|what| what)).collect();
+    let same = stored.lines().eq(now.iter().map(String::as_str));
+    println!("{path}: {} games, {}", now.len(), if same { "as the oracle answers" } else { "NOT as the oracle answers" });
+    !same as i32
+}

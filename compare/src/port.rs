@@ -1,0 +1,104 @@
+//! The port behind its C functions, as include/reckonbough.h lists them.
+
+use crate::game::Game;
+use crate::reference::tables::{set_words, work_words};
+use crate::reference::Answer;
+
+/// Declares a door: the tables, its own arguments, place and count; and gives the answer of calling it.
+macro_rules! door {
+    ($name:ident($game:expr $(, $value:expr => $kind:ty)*)) => {{
+        extern "C" {
+            fn $name(
+                owners: *const u8, owners_len: usize, priorities: *const u16, priorities_len: usize,
+                offsets: *const u16, offsets_len: usize, targets: *const u16, targets_len: usize,
+                $(_: $kind,)* place: *mut u64, count: *mut u64,
+            ) -> u64;
+        }
+        let game: &Game = $game;
+        let (mut place, mut count) = (u64::MAX, u64::MAX);
+        // Every pointer goes with the length of the slice it was taken from.
+        let number = unsafe {
+            $name(
+                game.owners.as_ptr(), game.owners.len(), game.priorities.as_ptr(), game.priorities.len(),
+                game.offsets.as_ptr(), game.offsets.len(), game.targets.as_ptr(), game.targets.len(),
+                $($value,)* &mut place, &mut count,
+            )
+        };
+        Answer { number, place, count }
+    }};
+}
+
+/// What is lent to a door to write into.
+#[derive(Clone, Debug, PartialEq, Eq)]
+pub struct Lent {
+    /// Also the attractor's result and the solitaire set.
+    pub even: Vec<u64>,
+    pub odd: Vec<u64>,
+    /// Also the new priorities.
+    pub strategy: Vec<u16>,
+    pub work: Vec<u64>,
+}
+
+impl Lent {
+    /// Sized for the game, with junk in it and three words of work area more than needed.
+    pub fn junk(game: &Game) -> Lent {
+        let words = set_words(game.n());
+        Lent {
+            even: vec![0xa5a5_5a5a_a5a5_5a5a; words],
+            odd: vec![0x1234_5678_9abc_def0; words],
+            strategy: vec![0x7777; game.n()],
+            work: vec![0xfeed_feed_feed_feed; work_words(game.n(), game.m()) + 3],
+        }
+    }
+}
+
+pub fn check_tables(game: &Game) -> Answer {
+    door!(reckonbough_check_tables(game))
+}
+
+pub fn zielonka(game: &Game, strategy: bool, budget: u64, lent: &mut Lent) -> Answer {
+    door!(reckonbough_zielonka(game, strategy as u8 => u8, budget => u64,
+        lent.even.as_mut_ptr() => *mut u64, lent.even.len() => usize,
+        lent.odd.as_mut_ptr() => *mut u64, lent.odd.len() => usize,
+        lent.strategy.as_mut_ptr() => *mut u16, lent.strategy.len() => usize,
+        lent.work.as_mut_ptr() => *mut u64, lent.work.len() => usize))
+}
+
+pub fn priority_promotion(game: &Game, strategy: bool, budget: u64, lent: &mut Lent) -> Answer {
+    door!(reckonbough_priority_promotion(game, strategy as u8 => u8, budget => u64,
+        lent.even.as_mut_ptr() => *mut u64, lent.even.len() => usize,
+        lent.odd.as_mut_ptr() => *mut u64, lent.odd.len() => usize,
+        lent.strategy.as_mut_ptr() => *mut u16, lent.strategy.len() => usize,
+        lent.work.as_mut_ptr() => *mut u64, lent.work.len() => usize))
+}
+
+/// The set is lent as `even`.
+pub fn solitaire(game: &Game, lent: &mut Lent) -> Answer {
+    door!(reckonbough_solitaire(game,
+        lent.even.as_mut_ptr() => *mut u64, lent.even.len() => usize,
+        lent.work.as_mut_ptr() => *mut u64, lent.work.len() => usize))
+}
+
+/// The result is lent as `even`.
+pub fn attractor(game: &Game, player: u8, within: &[u64], target: &[u64], lent: &mut Lent) -> Answer {
+    door!(reckonbough_attractor(game, player => u8,
+        within.as_ptr() => *const u64, within.len() => usize,
+        target.as_ptr() => *const u64, target.len() => usize,
+        lent.even.as_mut_ptr() => *mut u64, lent.even.len() => usize,
+        lent.strategy.as_mut_ptr() => *mut u16, lent.strategy.len() => usize,
+        lent.work.as_mut_ptr() => *mut u64, lent.work.len() => usize))
+}
+
+/// The claim is read from `even`, `odd` and `strategy`.
+pub fn check(game: &Game, lent: &mut Lent) -> Answer {
+    door!(reckonbough_check(game,
+        lent.even.as_ptr() => *const u64, lent.even.len() => usize,
+        lent.odd.as_ptr() => *const u64, lent.odd.len() => usize,
+        lent.strategy.as_ptr() => *const u16, lent.strategy.len() => usize,
+        lent.work.as_mut_ptr() => *mut u64, lent.work.len() => usize))
+}
+
+/// The new priorities are lent as `strategy`.
+pub fn compact(game: &Game, lent: &mut Lent) -> Answer {
+    door!(reckonbough_compact(game, lent.strategy.as_mut_ptr() => *mut u16, lent.strategy.len() => usize))
+}

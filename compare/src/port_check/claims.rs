@@ -1,0 +1,53 @@
+//! The checker's door: right claims, and claims damaged in many ways.
+
+use super::zeroed;
+use crate::compare::same;
+use crate::game::{won_by, Game, NONE};
+use crate::generate::Numbers;
+use crate::port::{self, Lent};
+use crate::reference::checker;
+
+pub fn compare(game: &Game, winners: &[u8], numbers: &mut Numbers) -> Result<(), String> {
+    let mut right = Lent::junk(game);
+    port::zielonka(game, true, u64::MAX, &mut right);
+    right.work = Lent::junk(game).work;
+    (right.even, right.odd) = (won_by(winners, 0), won_by(winners, 1));
+    claim(game, &right)?;
+    for _ in 0..8 {
+        let mut damaged = right.clone();
+        for _ in 0..numbers.between(1, 2) {
+            damage(game, &mut damaged, numbers);
+        }
+        claim(game, &damaged)?;
+    }
+    Ok(())
+}
+
+fn damage(game: &Game, claim: &mut Lent, numbers: &mut Numbers) {
+    if game.n() == 0 {
+        return;
+    }
+    let v = numbers.below(game.n());
+    match numbers.below(5) {
+        0 => claim.even[v / 64] ^= 1 << numbers.below(64),
+        1 => {
+            claim.even[v / 64] ^= 1 << (v % 64);
+            claim.odd[v / 64] ^= 1 << (v % 64);
+            let own = game.owners[v] as u64 == claim.odd[v / 64] >> (v % 64) & 1;
+            claim.strategy[v] = if own { game.edges(v)[0] } else { NONE };
+        }
+        2 => claim.strategy[v] = NONE,
+        3 => claim.strategy[v] = numbers.below(game.n() + 1) as u16,
+        _ => claim.strategy[v] = game.edges(v)[numbers.below(game.edges(v).len())],
+    }
+}
+
+fn claim(game: &Game, claim: &Lent) -> Result<(), String> {
+    let want = checker::check(game, &claim.even, &claim.odd, &claim.strategy);
+    let mut lent = claim.clone();
+    let got = port::check(game, &mut lent);
+    same(&format!("port: check of {:?} {:?} {:?}", claim.even, claim.odd, claim.strategy), &want, &got)?;
+    zeroed("port: check", game, &lent)?;
+    lent.work.clone_from(&claim.work);
+    same("port: check, claim kept", claim, &lent)
+}
