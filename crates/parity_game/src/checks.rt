@@ -9,20 +9,53 @@ ghost use Rattle.rules.specs.Tables.{words, workWords, check1, check2, check3, 
 ghost use Rattle.rules.specs.Outcome.{outcome, answered, _then_};
 ghost use Rattle.parity_game.specs.Said.{said};
 
-// 1 to 3: the sizes.
-fn check_lengths(n: usize, priorities: usize, offsets: usize, m: usize) -> Answer
-    ensures { λ r. ⌜ said r ≡ outcome (check1 n then check2 n priorities offsets then check3 m) (answered 0) ⌝ }
+// 1: no more than 4,096 vertices.
+fn check_vertices(n: usize) -> Answer
+    ensures { λ r. ⌜ said r ≡ outcome (check1 n) (answered 0) ⌝ }
 {
     if 4096 < n {
         return Answer::TooManyVertices;
     }
-    if priorities != n || offsets != n + 1 {
+    Answer::Answered(0)
+}
+
+// 2: as many priorities as vertices, and one offset more.
+fn check_counts(n: usize, priorities: usize, offsets: usize) -> Answer
+    requires { ⌜ n ≤ 4096 ⌝ }
+    ensures { λ r. ⌜ said r ≡ outcome (check2 n priorities offsets) (answered 0) ⌝ }
+{
+    if priorities != n {
         return Answer::WrongLengths;
     }
+    if offsets != n + 1 {
+        return Answer::WrongLengths;
+    }
+    Answer::Answered(0)
+}
+
+// 3: no more than 16,384 edges.
+fn check_edges(m: usize) -> Answer
+    ensures { λ r. ⌜ said r ≡ outcome (check3 m) (answered 0) ⌝ }
+{
     if 16384 < m {
         return Answer::TooManyEdges;
     }
     Answer::Answered(0)
+}
+
+// 1 to 3: the sizes.
+fn check_lengths(n: usize, priorities: usize, offsets: usize, m: usize) -> Answer
+    ensures { λ r. ⌜ said r ≡ outcome (check1 n then check2 n priorities offsets then check3 m) (answered 0) ⌝ }
+{
+    let r = check_vertices(n);
+    let Answer::Answered(_) = r else {
+        return r;
+    };
+    let r = check_counts(n, priorities, offsets);
+    let Answer::Answered(_) = r else {
+        return r;
+    };
+    check_edges(m)
 }
 
 // 4: every owner is 0 or 1.

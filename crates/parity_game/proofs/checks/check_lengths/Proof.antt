@@ -1,35 +1,63 @@
--- `check_lengths` meets its contract: each return goes by the tests that led there.
-use mathlib.Core.Logic.{⊎-elim}
+-- `check_lengths` meets its contract. A check past which the code went on gave nothing, so what is left decides; the first that
+-- refuses is returned.
+use mathlib.Core.Path.{_≡_, sym, _∙_}
 use borrow.Author.Needs.{needs}
-use borrow.Author.Tests.{lt-ltb, le-ltb, eq-eqb, ne-eqb}
+use Rattle.rules.specs.Outcome.{none, _then_, answered}
 use Rattle.rules.specs.Tables.{check1, check2, check3}
+use Rattle.parity_game.specs.Laws.{outcome-pass, check1-none, numbered-check1, numbered-check2}
+use Rattle.parity_game.proofs.Matched.{went-on, stopped}
 use Rattle.parity_game.proofs.checks.check_lengths.Statement.{statement}
 use Rattle.parity_game.proofs.checks.check_lengths.Tie as tie
 
-returns : tie.Need-returns
-unfolding check1
-returns c = simp (lt-ltb _ _ (c .if1 .taken))
+first-none : (c : tie.After-enum-told) → check1 (c .before .before .before .args .n) ≡ none
+first-none c =
+    let called = c .before .before .check-vertices in
+    went-on (called .result) (check1 _) (c .before .match .keys1) (numbered-check1 _) (called .ensures)
 
-add-if3 : tie.Need-add-if3
-add-if3 c = search needs
+check-vertices-requires : tie.Need-check-vertices-requires
+check-vertices-requires c κs = search needs
+
+enum-told : tie.Need-enum-told
+enum-told c = search needs
+
+returns : tie.Need-returns
+returns c =
+    let called = c .before .check-vertices in
+    stopped (called .result) (check1 _) (check2 _ _ _ then check3 _) (answered 0) (c .match .keys2) (called .ensures)
+
+check-counts-requires : tie.Need-check-counts-requires
+check-counts-requires c κs = check1-none _ (first-none c)
+
+enum-told-2 : tie.Need-enum-told-2
+enum-told-2 c = search needs
 
 returns-2 : tie.Need-returns-2
-unfolding check1 check2
 returns-2 c =
-    ⊎-elim (λ w. simp (le-ltb _ _ (c .before .if1 .left), ne-eqb _ _ (w .taken)))
-    (λ w. simp (le-ltb _ _ (c .before .if1 .left), eq-eqb _ _ (w .0 .left), w .1 .taken)) (c .if2 .came)
+    let called = c .before .check-counts in
+    stopped (called .result) (check2 _ _ _) (check3 _) (answered 0) (c .match2 .keys2) (called .ensures) ∙
+    sym (outcome-pass (check1 _) (check2 _ _ _ then check3 _) (answered 0) (first-none (c .before .before)))
+
+check-edges-requires : tie.Need-check-edges-requires
+check-edges-requires c κs = search needs
 
 returns-3 : tie.Need-returns-3
-unfolding check1 check2 check3
 returns-3 c =
-    simp
-    (le-ltb _ _ (c .before .before .before .if1 .left), eq-eqb _ _ (c .before .before .if2 .left), c .before .if3 .left, lt-ltb _ _ (c .if4 .taken))
-
-returns-4 : tie.Need-returns-4
-unfolding check1 check2 check3
-returns-4 c =
-    simp
-    (le-ltb _ _ (c .before .before .before .if1 .left), eq-eqb _ _ (c .before .before .if2 .left), c .before .if3 .left, le-ltb _ _ (c .if4 .left))
+    let told = c .before in
+    let called = told .before .before .check-counts in
+    let second = went-on (called .result) (check2 _ _ _) (told .before .match2 .keys1) (numbered-check2 _ _ _) (called .ensures) in
+    c .check-edges .ensures ∙
+    sym (outcome-pass (check2 _ _ _) (check3 _) (answered 0) second) ∙
+    sym (outcome-pass (check1 _) (check2 _ _ _ then check3 _) (answered 0) (first-none (told .before .before .before)))
 
 pub check-lengths-spec : {M : Type 1} → statement M
-check-lengths-spec = tie.close (tie.spec returns add-if3 returns-2 returns-3 returns-4)
+check-lengths-spec =
+    tie.close
+    (tie.spec
+    check-vertices-requires
+    enum-told
+    returns
+    check-counts-requires
+    enum-told-2
+    returns-2
+    check-edges-requires
+    returns-3)
