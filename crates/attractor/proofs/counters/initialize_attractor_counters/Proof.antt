@@ -1,0 +1,286 @@
+-- `initialize_attractor_counters` meets its contract: the vertices that the walk has passed have their counters.
+use Prim.Native.Nat.{ℕ, _+_, _-_, _≤_, _<_}
+use mathlib.Core.List.{List, _∷_}
+use mathlib.Core.Path.{_≡_, subst}
+use native.Mathlib.Omega.{arith}
+use borrow.Author.Needs.{needs}
+use borrow.Author.Tests.{eq-eqb}
+use lib.ListN.{length, take, drop}
+use Rattle.sets.specs.declared.members.Members.{Members}
+use Rattle.sets.specs.Walk.{left, Walks}
+use Rattle.attractor.specs.Area.{wordsAt}
+use Rattle.attractor.specs.Counters.{CountingTo, counting-none, counting-all, counting-own, counting-other, edges-ready, part-short, walk-shorter, vertex-small}
+use Rattle.attractor.proofs.counters.initialize_attractor_counters.Statement.{statement}
+use Rattle.attractor.proofs.counters.initialize_attractor_counters.Tie as tie
+use Rattle.attractor.proofs.counters.initialize_attractor_counters.Reads as reads
+use Rattle.attractor.proofs.counters.initialize_attractor_counters.Lts as lts
+use Rattle.attractor.proofs.counters.inside_edges.Reads as inside-edges-reads
+use Rattle.sets.proofs.members.Members.new.Reads as new-reads
+use Rattle.sets.proofs.members.Members.next.Reads as next-reads
+
+abbrev Inv-loop : tie.InvT-loop
+Inv-loop owners offsets targets s alpha work₀ within n m walk₀ work walk =
+    CountingTo owners offsets targets alpha within work₀ walk work
+
+abbrev μ-loop : tie.MeasureT-loop
+μ-loop owners offsets targets s alpha work₀ within n m walk₀ work walk =
+    length (left (wordsAt (length owners) within work₀) walk)
+
+-- where the function begins, and the loop's head of a turn
+abbrev start-of : tie.At-loop Inv-loop μ-loop → tie.Start Inv-loop μ-loop
+start-of c = c .before .before .before .before .before .before .before .before
+
+abbrev turn : tie.After-shared-slice-known4 Inv-loop μ-loop → tie.At-loop Inv-loop μ-loop
+turn c = c .before .before .before .before .before .before .before
+
+-- the vertex that the walk came to, and the walk after it
+abbrev vertex : tie.After-shared-slice-known4 Inv-loop μ-loop → ℕ
+vertex c = c .before .before .next2 .given .0 .0 .0
+
+abbrev after : tie.After-shared-slice-known4 Inv-loop μ-loop → Members
+after c = c .before .before .next2 .given .0 .1 .0
+
+-- the words of V as they are lent
+abbrev part : tie.At-loop Inv-loop μ-loop → List ℕ
+part c =
+    let a = start-of c .args in
+    take ((a .within + a .s) - a .within) (drop (a .within) (c .loop .work))
+
+moved :
+    (c : tie.After-shared-slice-known4 Inv-loop μ-loop) →
+    (left (part (turn c)) (turn c .loop .walk) ≡ vertex c ∷ left (part (turn c)) (after c)) × (after c .at ≤ 64)
+moved c =
+    subst (Walks (part (turn c)) (turn c .loop .walk)) (c .before .before .next2 .given .1) (c .before .before .before .before .next .ensures)
+
+small : (c : tie.After-shared-slice-known4 Inv-loop μ-loop) → vertex c < length (start-of (turn c) .args .owners .now)
+small c =
+    let g = start-of (turn c) in
+    let a = g .args in
+    let l = turn c .loop in
+    vertex-small (a .owners .now) (a .offsets .now) (a .targets .now) (a .s) (a .alpha) (a .within) (a .work .now) (g .pre) (l .walk) (l .work) (l .inv)
+    (vertex c) (after c) (moved c)
+
+shorter :
+    (c : tie.After-shared-slice-known4 Inv-loop μ-loop) →
+    let a = start-of (turn c) .args in
+    let xs = wordsAt (length (a .owners .now)) (a .within) (a .work .now) in
+    length (left xs (after c)) < length (left xs (turn c .loop .walk))
+shorter c =
+    let g = start-of (turn c) in
+    let a = g .args in
+    let l = turn c .loop in
+    walk-shorter (a .owners .now) (a .offsets .now) (a .targets .now) (a .s) (a .alpha) (a .within) (a .work .now) (g .pre) (l .walk) (l .work) (l .inv)
+    (vertex c) (after c) (moved c)
+
+-- the counter's place is in the work area
+counter-fits :
+    (c : tie.After-shared-slice-known4 Inv-loop μ-loop) →
+    let a = start-of (turn c) .args in
+    length (a .owners .now) + 1 + length (a .targets .now) + vertex c < length (turn c .loop .work)
+counter-fits c =
+    let g = start-of (turn c) in
+    omega (arith, g .pre .low, g .pre .high, turn c .loop .inv .long, small c)
+
+-- src/counters.rt:43:47
+add-new : tie.Need-add-new Inv-loop μ-loop
+add-new c = search needs
+
+-- src/counters.rt:43:33
+mul-new : tie.Need-mul-new Inv-loop μ-loop
+mul-new c = search needs
+
+-- src/counters.rt:43:33
+sub-new : tie.Need-sub-new Inv-loop μ-loop
+sub-new c = search needs
+
+-- src/counters.rt:43:33
+part-new-start : tie.Need-part-new-start Inv-loop μ-loop
+part-new-start c = search needs
+
+-- src/counters.rt:43:33
+part-new-end : tie.Need-part-new-end Inv-loop μ-loop
+part-new-end c = search needs
+
+-- src/counters.rt:43:9
+new-requires : tie.Need-new-requires Inv-loop μ-loop
+new-requires c κs = search needs
+
+-- src/counters.rt:44:5
+loop-holds : tie.Need-loop-holds Inv-loop μ-loop
+loop-holds c =
+    let g = c .before .before .before .before .before .before .before in
+    let a = g .args in
+    counting-none (a .owners .now) (a .offsets .now) (a .targets .now) (a .s) (a .alpha) (a .within) (a .work .now) (g .pre) (c .new .result) (c .new .ensures)
+
+-- src/counters.rt:45:44
+add-next : tie.Need-add-next Inv-loop μ-loop
+add-next c = search needs
+
+-- src/counters.rt:45:30
+mul-next : tie.Need-mul-next Inv-loop μ-loop
+mul-next c = search needs
+
+-- src/counters.rt:45:30
+sub-next : tie.Need-sub-next Inv-loop μ-loop
+sub-next c = search needs
+
+-- src/counters.rt:45:30
+part-next-start : tie.Need-part-next-start Inv-loop μ-loop
+part-next-start c = search needs
+
+-- src/counters.rt:45:30
+part-next-end : tie.Need-part-next-end Inv-loop μ-loop
+part-next-end c = search needs
+
+-- src/counters.rt:45:13
+next-requires : tie.Need-next-requires Inv-loop μ-loop
+next-requires c κs =
+    let d = c .before .before in
+    let g = start-of d in
+    let a = g .args in (
+      part-short (a .owners .now) (a .offsets .now) (a .targets .now) (a .s) (a .alpha) (a .within) (a .work .now) (g .pre) (d .loop .walk) (d .loop .work) (d .loop .inv),
+      d .loop .inv .at,
+    )
+
+-- src/counters.rt:46:26
+enum-known-next : tie.Need-enum-known-next Inv-loop μ-loop
+enum-known-next c = search needs
+
+-- src/counters.rt:47:13
+enum-told : tie.Need-enum-told Inv-loop μ-loop
+enum-told c = search needs
+
+-- src/counters.rt:47:13
+same-length : tie.Need-same-length Inv-loop μ-loop
+same-length c = search needs
+
+-- src/counters.rt:47:13
+returns : tie.Need-returns Inv-loop μ-loop
+returns c =
+    let d = c .before .before .before .before .before in
+    let g = start-of d in
+    let a = g .args in
+    counting-all (a .owners .now) (a .offsets .now) (a .targets .now) (a .s) (a .alpha) (a .within) (a .work .now) (g .pre) (d .loop .walk) (d .loop .work) (d .loop .inv)
+    (subst (Walks (part d) (d .loop .walk)) (c .enum-told .given .1) (c .before .before .next .ensures))
+
+-- src/counters.rt:50:12
+shared-slice-read-if1 : tie.Need-shared-slice-read-if1 Inv-loop μ-loop
+shared-slice-read-if1 c = small c
+
+-- src/counters.rt:51:74
+add-inside-edges : tie.Need-add-inside-edges Inv-loop μ-loop
+add-inside-edges c = search needs
+
+-- src/counters.rt:51:60
+mul-inside-edges : tie.Need-mul-inside-edges Inv-loop μ-loop
+mul-inside-edges c = search needs
+
+-- src/counters.rt:51:60
+sub-inside-edges : tie.Need-sub-inside-edges Inv-loop μ-loop
+sub-inside-edges c = search needs
+
+-- src/counters.rt:51:60
+part-inside-edges-start : tie.Need-part-inside-edges-start Inv-loop μ-loop
+part-inside-edges-start c = search needs
+
+-- src/counters.rt:51:60
+part-inside-edges-end : tie.Need-part-inside-edges-end Inv-loop μ-loop
+part-inside-edges-end c = search needs
+
+-- src/counters.rt:51:17
+inside-edges-requires : tie.Need-inside-edges-requires Inv-loop μ-loop
+inside-edges-requires c κs =
+    let d = c .before .before .before in
+    let g = start-of (turn d) in
+    let a = g .args in
+    let l = turn d .loop in
+    edges-ready (a .owners .now) (a .offsets .now) (a .targets .now) (a .s) (a .alpha) (a .within) (a .work .now) (g .pre) (l .walk) (l .work) (l .inv)
+    (vertex d) (after d) (moved d)
+
+-- src/counters.rt:52:18
+add-work : tie.Need-add-work Inv-loop μ-loop
+add-work c = search needs
+
+-- src/counters.rt:52:18
+add-work-2 : tie.Need-add-work-2 Inv-loop μ-loop
+add-work-2 c = search needs
+
+-- src/counters.rt:52:18
+add-work-3 : tie.Need-add-work-3 Inv-loop μ-loop
+add-work-3 c = omega (arith, counter-fits (c .before .before .before .before), turn (c .before .before .before .before) .loop .inv .long, start-of (turn (c .before .before .before .before)) .good)
+
+-- src/counters.rt:52:13
+mul-work : tie.Need-mul-work Inv-loop μ-loop
+mul-work c = omega (arith, counter-fits (c .before .before .before .before), turn (c .before .before .before .before) .loop .inv .long, start-of (turn (c .before .before .before .before)) .good)
+
+-- src/counters.rt:52:13
+slice-write-work : tie.Need-slice-write-work Inv-loop μ-loop
+slice-write-work c = counter-fits (c .before .before .before .before)
+
+-- src/counters.rt:44:5
+loop-less : tie.Need-loop-less Inv-loop μ-loop
+loop-less c = shorter (c .before .before .before .before)
+
+-- src/counters.rt:44:5
+loop-again : tie.Need-loop-again Inv-loop μ-loop
+loop-again c =
+    let d = c .before .before .before .before in
+    let g = start-of (turn d) in
+    let a = g .args in
+    let l = turn d .loop in
+    counting-other (a .owners .now) (a .offsets .now) (a .targets .now) (a .s) (a .alpha) (a .within) (a .work .now) (g .pre) (l .walk) (l .work) (l .inv)
+    (vertex d) (after d) (moved d) (c .inside-edges .result) (c .inside-edges .ensures)
+
+-- src/counters.rt:44:5
+loop-less-2 : tie.Need-loop-less-2 Inv-loop μ-loop
+loop-less-2 c = shorter (c .before)
+
+-- src/counters.rt:44:5
+loop-again-2 : tie.Need-loop-again-2 Inv-loop μ-loop
+loop-again-2 c =
+    let d = c .before in
+    let g = start-of (turn d) in
+    let a = g .args in
+    let l = turn d .loop in
+    counting-own (a .owners .now) (a .offsets .now) (a .targets .now) (a .s) (a .alpha) (a .within) (a .work .now) (g .pre) (l .walk) (l .work) (l .inv)
+    (vertex d) (after d) (moved d) (eq-eqb _ _ (c .if1 .left))
+
+pub initialize-attractor-counters-spec : {M : Type 1} → statement M
+initialize-attractor-counters-spec =
+    tie.close
+    (tie.spec
+    Inv-loop
+    μ-loop
+    add-new
+    mul-new
+    sub-new
+    part-new-start
+    part-new-end
+    new-requires
+    loop-holds
+    add-next
+    mul-next
+    sub-next
+    part-next-start
+    part-next-end
+    next-requires
+    enum-known-next
+    enum-told
+    same-length
+    returns
+    shared-slice-read-if1
+    add-inside-edges
+    mul-inside-edges
+    sub-inside-edges
+    part-inside-edges-start
+    part-inside-edges-end
+    inside-edges-requires
+    add-work
+    add-work-2
+    add-work-3
+    mul-work
+    slice-write-work
+    loop-less
+    loop-again
+    loop-less-2
+    loop-again-2)

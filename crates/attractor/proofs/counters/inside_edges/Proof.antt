@@ -1,0 +1,149 @@
+-- `inside_edges` meets its contract: the count is that of the edges of v before edge e that end inside.
+use Prim.Native.Nat.{ℕ, _+_, _-_, _≤_}
+use mathlib.Core.Logic.{⊎-elim}
+use mathlib.Core.Path.{_≡_, sym, ap, _∙_}
+use native.Mathlib.Nat.{le-refl}
+use native.Mathlib.Omega.{arith}
+use borrow.Author.Needs.{needs}
+use lib.ListN.{length, getD}
+use Rattle.rules.specs.Words.{setOf}
+use Rattle.attractor.specs.Counters.{EdgesOf, insideUpTo, inside-none, inside-more, inside-all}
+use Rattle.attractor.specs.Tally.{flag, flag-one, flag-zero}
+use Rattle.attractor.proofs.counters.inside_edges.Statement.{statement}
+use Rattle.attractor.proofs.counters.inside_edges.Tie as tie
+use Rattle.attractor.proofs.counters.inside_edges.Reads as reads
+use Rattle.attractor.proofs.counters.inside_edges.Lts as lts
+use Rattle.sets.proofs.contains.Reads as contains-reads
+
+abbrev Inv-loop : tie.InvT-loop
+Inv-loop offsets targets v set inside₀ e₀ e-end inside e =
+    (getD offsets v 0 ≤ e) × (e ≤ getD offsets (v + 1) 0) × (inside ≤ e) × (inside ≡ insideUpTo offsets targets v (setOf set) e)
+
+abbrev μ-loop : tie.MeasureT-loop
+μ-loop offsets targets v set inside₀ e₀ e-end inside e = e-end - e
+
+-- where the function begins
+abbrev start-of : tie.At-loop Inv-loop μ-loop → tie.Start Inv-loop μ-loop
+start-of c = c .before .before .before .before .before .before
+
+-- src/counters.rt:14:14
+mul-e : tie.Need-mul-e Inv-loop μ-loop
+mul-e c = search needs
+
+-- src/counters.rt:14:14
+shared-slice-read-e : tie.Need-shared-slice-read-e Inv-loop μ-loop
+shared-slice-read-e c = search needs
+
+-- src/counters.rt:14:14
+cast-e : tie.Need-cast-e Inv-loop μ-loop
+cast-e c = search needs
+
+-- src/counters.rt:14:43
+add-e-end : tie.Need-add-e-end Inv-loop μ-loop
+add-e-end c = search needs
+
+-- src/counters.rt:14:35
+mul-e-end : tie.Need-mul-e-end Inv-loop μ-loop
+mul-e-end c = search needs
+
+-- src/counters.rt:14:35
+shared-slice-read-e-end : tie.Need-shared-slice-read-e-end Inv-loop μ-loop
+shared-slice-read-e-end c = search needs
+
+-- src/counters.rt:14:35
+cast-e-end : tie.Need-cast-e-end Inv-loop μ-loop
+cast-e-end c = search needs
+
+-- src/counters.rt:14:5
+loop-holds : tie.Need-loop-holds Inv-loop μ-loop
+loop-holds c =
+    let g = c .before .before .before .before .before in
+    let a = g .args in
+    (search needs, g .pre .rising, search needs, inside-none (a .offsets .now) (a .targets .now) (a .v) (a .set .now) (g .pre))
+
+-- src/counters.rt:15:32
+mul-contains : tie.Need-mul-contains Inv-loop μ-loop
+mul-contains c = search needs
+
+-- src/counters.rt:15:32
+shared-slice-read-contains : tie.Need-shared-slice-read-contains Inv-loop μ-loop
+shared-slice-read-contains c = search needs
+
+-- src/counters.rt:15:32
+cast-contains : tie.Need-cast-contains Inv-loop μ-loop
+cast-contains c = omega (arith, c .shared-slice-known6 .given (c .before .before .loop .e))
+
+-- src/counters.rt:15:12
+contains-requires : tie.Need-contains-requires Inv-loop μ-loop
+contains-requires c κs =
+    let d = c .before in
+    let g = start-of (d .before) in
+    let l = d .before .loop in
+    g .pre .bits (l .e) (omega (arith, g .pre .top, d .loop-test .taken))
+
+-- src/counters.rt:16:13
+add-inside : tie.Need-add-inside Inv-loop μ-loop
+add-inside c = search needs
+
+-- src/counters.rt:14:9
+add-e : tie.Need-add-e Inv-loop μ-loop
+add-e c = search needs
+
+-- src/counters.rt:14:5
+loop-less : tie.Need-loop-less Inv-loop μ-loop
+loop-less c = search needs
+
+-- src/counters.rt:14:5
+loop-again : tie.Need-loop-again Inv-loop μ-loop
+loop-again c =
+    let d = c .before .before .before in
+    let g = start-of (d .before) in
+    let a = g .args in
+    let l = d .before .loop in
+    let more = inside-more (a .offsets .now) (a .targets .now) (a .v) (a .set .now) (g .pre) (l .e) (l .inv .0) (d .loop-test .taken) in
+    let found = c .before .contains .ensures in
+    let old = l .inv .3 in
+    let low = l .inv .0 in
+    let few = l .inv .2 in
+    ⊎-elim
+    (λ y.
+    let one = flag-one (setOf (a .set .now) (getD (a .targets .now) (l .e) 0)) (sym found ∙ y .0 .taken) in
+    (omega arith, omega arith, omega arith, omega arith))
+    (λ y.
+    let none = flag-zero (setOf (a .set .now) (getD (a .targets .now) (l .e) 0)) (sym found ∙ y .0 .left) in
+    (omega arith, omega arith, omega arith, omega arith))
+    (c .if1 .came)
+
+-- src/counters.rt:9:1
+returns : tie.Need-returns Inv-loop μ-loop
+returns c =
+    let g = start-of (c .before) in
+    let a = g .args in
+    let l = c .before .loop in
+    l .inv .3 ∙
+    inside-all (a .offsets .now) (a .targets .now) (a .v) (a .set .now) (g .pre) (l .e)
+    (omega (arith, l .inv .1, c .loop-test .left))
+
+pub inside-edges-spec : {M : Type 1} → statement M
+inside-edges-spec =
+    tie.close
+    (tie.spec
+    Inv-loop
+    μ-loop
+    mul-e
+    shared-slice-read-e
+    cast-e
+    add-e-end
+    mul-e-end
+    shared-slice-read-e-end
+    cast-e-end
+    loop-holds
+    mul-contains
+    shared-slice-read-contains
+    cast-contains
+    contains-requires
+    add-inside
+    add-e
+    loop-less
+    loop-again
+    returns)

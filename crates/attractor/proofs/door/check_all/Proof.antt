@@ -1,0 +1,146 @@
+-- `check_all` meets its contract. A check past which the code went on gave nothing, so what is left decides; the first that
+-- refuses is returned.
+use mathlib.Core.List.{[], _∷_}
+use mathlib.Core.Path.{_≡_, sym, _∙_, ap}
+use borrow.Author.Needs.{needs}
+use lib.ListN.{length}
+use Rattle.rules.specs.Attractor.{check12}
+use Rattle.rules.specs.Outcome.{Verdict, none, _then_, outcome, answered}
+use Rattle.rules.specs.Tables.{Tables, vertices, edgesIn, tableChecks, Accepted, check9, check10}
+use Rattle.parity_game.specs.Laws.{Sound, accepted-sound, passed, then-assoc, numbered-then, numbered-tables, numbered-check9, numbered-check10}
+use Rattle.parity_game.proofs.Matched.{went-on, stopped}
+use Rattle.attractor.specs.Door.{sizeChecks, checksBy}
+use Rattle.attractor.specs.Answered.{sizes-right}
+use Rattle.attractor.proofs.door.check_all.Statement.{statement}
+use Rattle.attractor.proofs.door.check_all.Tie as tie
+use Rattle.attractor.proofs.door.check_all.Reads as reads
+use Rattle.attractor.proofs.door.check_all.Lts as lts
+use Rattle.attractor.proofs.door.check_bits.Reads as check-bits-reads
+use Rattle.attractor.proofs.door.check_sizes.Reads as check-sizes-reads
+use Rattle.parity_game.proofs.check_tables.Reads as check-tables-reads
+
+-- the tables as lent
+abbrev tables : tie.Start → Tables
+tables c =
+    record {
+      owners = c .args .owners .now;
+      priorities = c .args .priorities .now;
+      offsets = c .args .offsets .now;
+      targets = c .args .targets .now;
+    }
+
+-- where the function begins
+abbrev at1 : tie.After-check-tables → tie.Start
+at1 c = c .before .before .before .before .before .before .before
+
+abbrev past1 : tie.After-enum-told → tie.Start
+past1 c = at1 (c .before .before)
+
+abbrev past2 : tie.After-enum-told2 → tie.Start
+past2 c = past1 (c .before .before .before)
+
+-- the verdict on the sizes, on the bits, and the whole
+abbrev sizes : tie.Start → Verdict
+sizes c =
+    sizeChecks (vertices (tables c)) (edgesIn (tables c)) (length (c .args .within .now)) (length (c .args .target .now)) (c .args .result)
+    (c .args .strategy) (c .args .work)
+
+abbrev bits : tie.Start → Verdict
+bits c = check12 (vertices (tables c)) (c .args .within .now) (c .args .target .now)
+
+abbrev whole : tie.Start → Verdict
+whole c = checksBy (tables c) (c .args .within .now) (c .args .target .now) (c .args .result) (c .args .strategy) (c .args .work)
+
+in-order : (c : tie.Start) → tableChecks (tables c) then (sizes c then bits c) ≡ whole c
+in-order c =
+    ap
+    (λ (v : Verdict). tableChecks (tables c) then v)
+    (then-assoc
+    (check9 (vertices (tables c)) (length (c .args .within .now) ∷ length (c .args .target .now) ∷ c .args .result ∷ []) (c .args .strategy ∷ []))
+    (check10 (vertices (tables c)) (edgesIn (tables c)) (c .args .work))
+    (bits c))
+
+-- equal verdicts give equal outcomes
+out : {u v : Verdict} → u ≡ v → outcome u (answered 0) ≡ outcome v (answered 0)
+out e = ap (λ (v : Verdict). outcome v (answered 0)) e
+
+none1 : (c : tie.After-enum-told) → tableChecks (tables (past1 c)) ≡ none
+none1 c =
+    let called = c .before .before .check-tables in
+    went-on (called .result) (tableChecks (tables (past1 c))) (c .before .match .keys1) (numbered-tables (tables (past1 c))) (called .ensures)
+
+none2 : (c : tie.After-enum-told2) → sizes (past2 c) ≡ none
+none2 c =
+    let called = c .before .before .check-sizes in
+    let g = past2 c in
+    went-on (called .result) (sizes g) (c .before .match2 .keys1)
+    (numbered-then (check9 (vertices (tables g)) _ _) (check10 (vertices (tables g)) (edgesIn (tables g)) (g .args .work)) (numbered-check9 _ _ _)
+    (numbered-check10 _ _ _))
+    (called .ensures)
+
+-- what is left past each check is the whole verdict
+is1 : (c : tie.After-enum-told) → sizes (past1 c) then bits (past1 c) ≡ whole (past1 c)
+is1 c =
+    passed (tableChecks (tables (past1 c))) (sizes (past1 c) then bits (past1 c)) (whole (past1 c)) (none1 c) (in-order (past1 c))
+
+is2 : (c : tie.After-enum-told2) → bits (past2 c) ≡ whole (past2 c)
+is2 c = passed (sizes (past2 c)) (bits (past2 c)) (whole (past2 c)) (none2 c) (is1 (c .before .before .before))
+
+-- what is known of the tables past the first check
+sound : (c : tie.After-enum-told) → Sound (tables (past1 c))
+unfolding Accepted
+sound c = accepted-sound (tables (past1 c)) (none1 c)
+
+-- src/door.rt:107:9
+check-tables-requires : tie.Need-check-tables-requires
+check-tables-requires c κs = search needs
+
+enum-told : tie.Need-enum-told
+enum-told c = search needs
+
+-- src/door.rt:109:9
+returns : tie.Need-returns
+returns c =
+    let g = at1 (c .before) in
+    stopped (c .before .check-tables .result) (tableChecks (tables g)) (sizes g then bits g) (answered 0) (c .match .keys2) (c .before .check-tables .ensures) ∙
+    out (in-order g)
+
+-- src/door.rt:111:9
+check-sizes-requires : tie.Need-check-sizes-requires
+check-sizes-requires c κs = (sound c .few-vertices, sound c .few-edges)
+
+enum-told-2 : tie.Need-enum-told-2
+enum-told-2 c = search needs
+
+-- src/door.rt:113:9
+returns-2 : tie.Need-returns-2
+returns-2 c =
+    let g = past1 (c .before .before) in
+    stopped (c .before .check-sizes .result) (sizes g) (bits g) (answered 0) (c .match2 .keys2) (c .before .check-sizes .ensures) ∙
+    out (is1 (c .before .before))
+
+-- src/door.rt:115:5
+check-bits-requires : tie.Need-check-bits-requires
+check-bits-requires c κs =
+    let g = past2 c in
+    let right =
+    sizes-right (vertices (tables g)) (edgesIn (tables g)) (length (g .args .within .now)) (length (g .args .target .now)) (g .args .result)
+    (g .args .strategy) (g .args .work) (none2 c) in
+    (right .within-size, right .target-size, sound (c .before .before .before) .few-vertices)
+
+-- src/door.rt:85:1
+returns-3 : tie.Need-returns-3
+returns-3 c = c .check-bits .ensures ∙ out (is2 (c .before))
+
+pub check-all-spec : {M : Type 1} → statement M
+check-all-spec =
+    tie.close
+    (tie.spec
+    check-tables-requires
+    enum-told
+    returns
+    check-sizes-requires
+    enum-told-2
+    returns-2
+    check-bits-requires
+    returns-3)

@@ -1,0 +1,45 @@
+-- What the public attractor promises, for every input: the outcome by the checks, and every lent word afterwards.
+use mathlib.Core.List.{List, [], _∷_, _++_}
+use mathlib.Core.Path.{_≡_}
+use Prim.Native.Nat.{ℕ}
+use lib.ListN.{length, drop, replicate}
+use Rattle.rules.specs.Counting.{Set}
+use Rattle.rules.specs.Game.{Player}
+use Rattle.rules.specs.Outcome.{Outcome, Verdict, none, refused, outcome, answered, _then_}
+use Rattle.rules.specs.Tables.{Tables, gameOf, vertices, edgesIn, workWords, tableChecks, check9, check10}
+use Rattle.rules.specs.Solver.{cleared}
+use Rattle.rules.specs.Words.{setOf, Holds}
+use Rattle.rules.specs.Attractor.{attractor, looksOf, AttractorEntries, check12}
+
+-- what is lent
+pub record Lent : Type 0 where
+  pub result : List ℕ
+  pub strategy : List ℕ
+  pub work : List ℕ
+
+-- 1 to 10 and 12
+abbrev pub attractorChecks : Tables → List ℕ → List ℕ → Lent → Verdict
+attractorChecks t V' T lent =
+    tableChecks t then
+    check9 (vertices t) (length V' ∷ length T ∷ length (lent .result) ∷ []) (length (lent .strategy) ∷ []) then
+    check10 (vertices t) (edgesIn t) (length (lent .work)) then
+    check12 (vertices t) V' T
+
+-- the attractor that the words V' and T stand for
+abbrev pub wanted : Tables → Player → List ℕ → List ℕ → Set
+wanted t a V' T = attractor (gameOf t) a (setOf V') (setOf T)
+
+pub record Answers (t : Tables) (a : Player) (V' T : List ℕ) (before after : Lent) : Type 0 where
+  pub set : Holds (vertices t) (wanted t a V' T) (after .result)
+  pub long : length (after .strategy) ≡ vertices t
+  pub entries : AttractorEntries (gameOf t) a (setOf V') (setOf T) (wanted t a V' T) (after .strategy)
+  pub work : after .work ≡ cleared t (before .work)
+
+-- by cases on the verdict: a refusal writes nothing
+abbrev pub Leaves : Verdict → Tables → Player → List ℕ → List ℕ → Lent → Lent → Type 0
+Leaves none t a V' T before after = Answers t a V' T before after
+Leaves (refused k p) t a V' T before after = after ≡ before
+
+pub record Attracts (t : Tables) (a : Player) (V' T : List ℕ) (before after : Lent) (o : Outcome) : Type 0 where
+  pub gives : o ≡ outcome (attractorChecks t V' T before) (answered (looksOf (gameOf t) (wanted t a V' T)))
+  pub leaves : Leaves (attractorChecks t V' T before) t a V' T before after

@@ -1,0 +1,104 @@
+-- The attractor's state away from the work area: the members so far, the counters, the queue, the entries, and what one look and
+-- the looks along a row of the predecessor table make of it.
+use mathlib.Core.Bool.{true, false, cond}
+use mathlib.Core.List.{List, [], _∷_, _++_}
+use mathlib.Core.Path.{_≡_, refl}
+use Prim.Native.Nat.{ℕ, suc, _-_}
+use borrow.Author.Tests.{eq-eqb, ne-eqb}
+use lib.Dec.{eqb}
+use Rattle.rules.specs.Counting.{Set}
+
+pub record State : Type 0 where
+  pub members : Set
+  -- of an opponent's vertex that is not in, the inside edges that were not met yet
+  pub counter : ℕ → ℕ
+  -- the vertex at each place of the queue
+  pub order : ℕ → ℕ
+  pub entry : ℕ → ℕ
+  -- the queue's end
+  pub tail : ℕ
+
+-- x at v, and else what f gives
+abbrev pub put : ℕ → ℕ → (ℕ → ℕ) → ℕ → ℕ
+put v x f u = cond (eqb u v) x (f u)
+
+-- v comes in, and stands last in the queue
+unfoldable pub joined : ℕ → State → State
+joined v s =
+    record {
+      members = λ u. cond (eqb u v) true (s .members u);
+      counter = s .counter;
+      order = put (s .tail) v (s .order);
+      entry = s .entry;
+      tail = suc (s .tail);
+    }
+
+-- v gets the entry w
+unfoldable pub entered : ℕ → ℕ → State → State
+entered w v s = record { members = s .members; counter = s .counter; order = s .order; entry = put v w (s .entry); tail = s .tail }
+
+-- one inside edge of v fewer is to be met
+unfoldable pub counted : ℕ → State → State
+counted v s =
+    record {
+      members = s .members;
+      counter = put v (s .counter v - 1) (s .counter);
+      order = s .order;
+      entry = s .entry;
+      tail = s .tail;
+    }
+
+-- one look, at an entry v of w
+unfoldable pub touched : Set → Set → ℕ → ℕ → State → State
+touched V' own w v s =
+    cond
+    (V' v)
+    (cond
+    (s .members v)
+    s
+    (cond
+    (own v)
+    (joined v (entered w v s))
+    (cond (eqb (s .counter v - 1) 0) (joined v (counted v s)) (counted v s))))
+    s
+
+-- one look at each entry of a row
+unfoldable pub looked : Set → Set → ℕ → List ℕ → State → State
+looked V' own w [] s = s
+looked V' own w (v ∷ vs) s = looked V' own w vs (touched V' own w v s)
+
+pub looked-none : (V' own : Set) (w : ℕ) (s : State) → looked V' own w [] s ≡ s
+unfolding looked
+looked-none V' own w s = refl
+
+-- one look more at the end
+pub looked-more :
+    (V' own : Set) (w v : ℕ) (vs : List ℕ) (s : State) →
+    looked V' own w (vs ++ (v ∷ [])) s ≡ touched V' own w v (looked V' own w vs s)
+unfolding looked
+looked-more V' own w v [] s = refl
+looked-more V' own w v (u ∷ vs) s = looked-more V' own w v vs (touched V' own w u s)
+
+-- a look by its tests: outside V', in already, an own vertex, another's with its last inside edge, and another's that still waits
+module _ (V' own : Set) (w v : ℕ) (s : State) where
+  pub touched-outside : V' v ≡ false → touched V' own w v s ≡ s
+  unfolding touched
+  touched-outside i = rw i
+
+  pub touched-again : V' v ≡ true → s .members v ≡ true → touched V' own w v s ≡ s
+  unfolding touched
+  touched-again i m = rw (i, m)
+
+  pub touched-entry : V' v ≡ true → s .members v ≡ false → own v ≡ true → touched V' own w v s ≡ joined v (entered w v s)
+  unfolding touched
+  touched-entry i m o = rw (i, m, o)
+
+  pub touched-last :
+      V' v ≡ true → s .members v ≡ false → own v ≡ false → s .counter v - 1 ≡ 0 → touched V' own w v s ≡ joined v (counted v s)
+  unfolding touched
+  touched-last i m o z = rw (i, m, o, eq-eqb (s .counter v - 1) 0 z)
+
+  pub touched-count :
+      V' v ≡ true → s .members v ≡ false → own v ≡ false → (s .counter v - 1 ≡ 0 → ⊥) → touched V' own w v s ≡ counted v s
+  unfolding touched
+  touched-count i m o z = rw (i, m, o, ne-eqb (s .counter v - 1) 0 z)

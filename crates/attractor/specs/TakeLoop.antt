@@ -1,0 +1,198 @@
+-- Taking a member over the work area: what it asks for, how the looks along its row go, and that it is one of the rules' steps.
+use mathlib.Core.List.{List, [], _∷_, _++_}
+use mathlib.Core.Path.{_≡_, refl, sym, ap, subst, _∙_}
+use mathlib.Core.Logic.{_⊎_, inl, inr}
+use Prim.Native.Nat.{ℕ, zero, suc, _+_, _-_, _≤_, _<_}
+use native.Mathlib.Nat.{sub-self, le-refl}
+use native.Mathlib.Omega.{arith}
+use lib.ListN.{length, getD, take, drop, length-take, length-drop}
+use lib.Seq.{take-suc, take-all, getD-take, getD-drop}
+use Rattle.rules.specs.Counting.{Set}
+use Rattle.rules.specs.Game.{Player, Game, same}
+use Rattle.rules.specs.Tables.{words}
+use Rattle.rules.specs.Attractor.{TakesOne}
+use Rattle.predecessors.specs.Table.{start, row}
+use Rattle.attractor.specs.Area.{counters, setAt}
+use Rattle.attractor.specs.Attracted.{Placed}
+use Rattle.attractor.specs.State.{State, touched, looked, looked-none, looked-more}
+use Rattle.attractor.specs.Looks.{Safe}
+use Rattle.attractor.specs.Taking.{Standing, Row, growing, taking-step-of}
+use Rattle.attractor.specs.View.{stateAt, Kept, Becomes, Touchable, ownBy}
+use Rattle.attractor.specs.Views.{kept-set, kept-placed, becomes-same, becomes-then, becomes-as}
+
+-- what `take` asks for: the row of w lies in the table, and each look along it is safe
+pub record Takeable (owners : List ℕ) (m s alpha within set : ℕ) (work : List ℕ) (w tail : ℕ) : Type 0 where
+  pub size : s ≡ words (length owners)
+  pub placed : Placed (length owners) m within set work
+  pub small : w < length owners
+  pub rising : start work w ≤ start work (w + 1)
+  pub top : start work (w + 1) ≤ m
+  pub safe :
+      let n = length owners in
+      (k : ℕ) →
+      k < length (row n work w) →
+      Safe n (setAt n within work) (ownBy owners alpha)
+      (looked (setAt n within work) (ownBy owners alpha) w (take k (row n work w)) (stateAt n m set work tail))
+      (getD (row n work w) k 0)
+
+-- what `take` leaves: the looks along the row were made; and in a game whose predecessor entries of w are that row, with w the next
+-- vertex of the queue, this is one of the rules' steps, the entries it meets included
+pub record Took (owners : List ℕ) (m alpha within set w : ℕ) (before after : List ℕ) (tail end : ℕ) : Type 0 where
+  pub becomes :
+      let n = length owners in
+      Becomes n m set (looked (setAt n within before) (ownBy owners alpha) w (row n before w)) before after tail end
+  pub step :
+      let n = length owners in
+      (g : Game) (a : Player) (T : Set) (entry : ℕ → ℕ) (head looks : ℕ) →
+      g .size ≡ n →
+      ((v : ℕ) → ownBy owners alpha v ≡ same (g .owner v) a) →
+      Standing n (g .targets) (setAt n within before) T (ownBy owners alpha) entry head (stateAt n m set before tail) →
+      head < tail →
+      stateAt n m set before tail .order head ≡ w →
+      Row n (g .targets) w (row n before w) →
+      TakesOne g a (setAt n within before)
+      (growing head looks (stateAt n m set before tail))
+      (growing (suc head) (looks + length (row n before w)) (stateAt n m set after end))
+
+-- ---- rows
+
+pub row-length :
+    (n w : ℕ) (work : List ℕ) → n + 1 + start work (w + 1) ≤ length work → length (row n work w) ≡ start work (w + 1) - start work w
+row-length n w work h = simp (length-take, length-drop) (omega arith)
+
+pub row-at :
+    (n w k : ℕ) (work : List ℕ) → n + 1 + start work (w + 1) ≤ length work → k < start work (w + 1) - start work w →
+    getD (row n work w) k 0 ≡ getD work (n + 1 + start work w + k) 0
+row-at n w k work h l =
+    getD-take ((n + 1 + start work (w + 1)) - (n + 1 + start work w)) (drop (n + 1 + start work w) work) k 0 (omega arith) ∙
+    getD-drop (n + 1 + start work w) work k 0
+
+-- ---- the loop
+
+-- the looks up to entry e were made
+pub record Looking (owners : List ℕ) (m alpha within set w tail : ℕ) (before : List ℕ) (e : ℕ) (after : List ℕ) (end : ℕ) : Type 0 where
+  pub low : start before w ≤ e
+  pub high : e ≤ start before (w + 1)
+  pub becomes :
+      let n = length owners in
+      Becomes n m set
+      (looked (setAt n within before) (ownBy owners alpha) w (take (e - start before w) (row n before w)))
+      before after tail end
+
+module _ (owners : List ℕ) (m s alpha within set w tail : ℕ) (before : List ℕ) (given : Takeable owners m s alpha within set before w tail) where
+  abbrev n : ℕ
+  n = length owners
+
+  abbrev V' : Set
+  V' = setAt n within before
+
+  abbrev own : Set
+  own = ownBy owners alpha
+
+  abbrev here : List ℕ
+  here = row n before w
+
+  abbrev Looks : ℕ → List ℕ → ℕ → Type 0
+  Looks e after end = Looking owners m alpha within set w tail before e after end
+
+  -- the row lies before the counters, and so in the work area
+  row-fits : n + 1 + start before (w + 1) ≤ length before
+  row-fits = omega (arith, given .top, given .placed .within-low, given .placed .within-high)
+
+  pub looking-none : Looks (start before w) before tail
+  looking-none =
+      record {
+        low = le-refl (start before w);
+        high = given .rising;
+        becomes =
+            becomes-as
+            (looked V' own w (take (start before w - start before w) here))
+            (becomes-same n m set before tail)
+            (ap (λ (k : ℕ). looked V' own w (take k here) (stateAt n m set before tail)) (sub-self (start before w)) ∙
+            looked-none V' own w (stateAt n m set before tail));
+      }
+
+  module _ (e : ℕ) (after : List ℕ) (end : ℕ) (l : Looks e after end) (more : e < start before (w + 1)) where
+    short : e - start before w < length here
+    short = omega (arith, row-length n w before row-fits, l .low)
+
+    -- what is read is the next entry of the row
+    pub entry-read : getD after (n + 1 + e) 0 ≡ getD here (e - start before w) 0
+    entry-read =
+        l .becomes .kept .rest (n + 1 + e) (inl (omega (arith, given .top))) ∙
+        ap (λ (i : ℕ). getD before i 0) at ∙
+        sym (row-at n w (e - start before w) before row-fits (omega (arith, l .low)))
+      where
+        at : n + 1 + e ≡ n + 1 + start before w + (e - start before w)
+        at = omega (arith, l .low)
+
+    same-inside : setAt n within after ≡ V'
+    same-inside = kept-set n m within set before after (given .placed) (l .becomes .kept)
+
+    pub look-ready : Touchable owners m s alpha within set after (getD after (n + 1 + e) 0) end
+    look-ready =
+        record {
+          size = given .size;
+          placed = kept-placed (l .becomes .kept) (given .placed);
+          safe =
+              subst
+              (λ (v : ℕ). Safe n (setAt n within after) own (stateAt n m set after end) v)
+              (sym entry-read)
+              (subst
+              (λ (S : Set). Safe n S own (stateAt n m set after end) (getD here (e - start before w) 0))
+              (sym same-inside)
+              (subst
+              (λ (t : State). Safe n V' own t (getD here (e - start before w) 0))
+              (sym (l .becomes .state))
+              (given .safe (e - start before w) short)));
+        }
+
+    -- one look more
+    pub looking-more :
+        (after' : List ℕ) (end' : ℕ) →
+        Becomes n m set (touched (setAt n within after) own w (getD after (n + 1 + e) 0)) after after' end end' →
+        Looks (e + 1) after' end'
+    looking-more after' end' b =
+        record {
+          low = omega (arith, l .low);
+          high = omega arith;
+          becomes = becomes-as (looked V' own w (take (e + 1 - start before w) here)) (becomes-then (l .becomes) b) same-looks;
+        }
+      where
+        next : e + 1 - start before w ≡ suc (e - start before w)
+        next = omega (arith, l .low)
+
+        same-looks :
+            looked V' own w (take (e + 1 - start before w) here) (stateAt n m set before tail) ≡
+            touched (setAt n within after) own w (getD after (n + 1 + e) 0)
+            (looked V' own w (take (e - start before w) here) (stateAt n m set before tail))
+        same-looks =
+            let t = looked V' own w (take (e - start before w) here) (stateAt n m set before tail) in
+            ap (λ (k : ℕ). looked V' own w (take k here) (stateAt n m set before tail)) next ∙
+            ap
+            (λ (vs : List ℕ). looked V' own w vs (stateAt n m set before tail))
+            (take-suc here (e - start before w) 0 short) ∙
+            looked-more V' own w (getD here (e - start before w) 0) (take (e - start before w) here) (stateAt n m set before tail) ∙
+            ap (λ (v : ℕ). touched V' own w v t) (sym entry-read) ∙
+            ap (λ (S : Set). touched S own w (getD after (n + 1 + e) 0) t) (sym same-inside)
+
+  -- all looks were made
+  pub looking-all : (e : ℕ) (after : List ℕ) (end : ℕ) → Looks e after end → start before (w + 1) ≤ e → Took owners m alpha within set w before after tail end
+  looking-all e after end l done =
+      record {
+        becomes = all;
+        step =
+            λ g a T entry head looks size owned st left is r.
+            subst
+            (λ (t : State).
+            TakesOne g a V' (growing head looks (stateAt n m set before tail)) (growing (suc head) (looks + length here) t))
+            (sym (all .state))
+            (taking-step-of g a V' T own entry n w head looks (stateAt n m set before tail) here size owned st left is r);
+      }
+    where
+      all : Becomes n m set (looked V' own w here) before after tail end
+      all =
+          becomes-as (looked V' own w here) (l .becomes)
+          (ap
+          (λ (vs : List ℕ). looked V' own w vs (stateAt n m set before tail))
+          (sym (take-all (e - start before w) here (omega (arith, row-length n w before row-fits, l .low)))))
