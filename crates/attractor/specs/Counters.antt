@@ -171,7 +171,8 @@ module _ (owners offsets targets : List ℕ) (s alpha within : ℕ) (before : Li
 
     -- one vertex more
     module _ (v : ℕ) (next : Members)
-        (moved : (left (take ((within + s) - within) (drop within after)) walk ≡ v ∷ left (take ((within + s) - within) (drop within after)) next) × (next .at ≤ 64))
+        (moved :
+        (let part = take ((within + s) - within) (drop within after) in left part walk ≡ v ∷ left part next) × (next .at ≤ 64))
       where
         step : left xs walk ≡ v ∷ left xs next
         step = subst (λ (p : List ℕ). left p walk ≡ v ∷ left p next) part-now (moved .0)

@@ -17,7 +17,8 @@ use Rattle.theory.specs.AttractorBasics.{countOf, times-append}
 use Rattle.attractor.specs.State.{State, put, joined, entered, counted, touched, looked}
 use Rattle.attractor.specs.Tally.{flag, flag-one, flag-zero, tally-mono, tally-full}
 use Rattle.attractor.specs.Growth.{Mark, mark-outside, mark-again, mark-own, mark-last, mark-count}
-use Rattle.attractor.specs.Growth.{before, before-alike, before-later, Queue, queue-joined, queue-room, joined-order, joined-self, joined-kept, joined-last}
+use Rattle.attractor.specs.Growth.{before, before-alike, before-later, Queue, queue-joined, queue-room, joined-order, joined-self, joined-kept}
+use Rattle.attractor.specs.Growth.{joined-last}
 use Rattle.attractor.specs.Growth.{Grounds, varied, grounds-joined}
 
 -- what a look at v makes of s, with the tests that decide

@@ -181,7 +181,8 @@ attractable-moved owners offsets targets alpha within set x y same kept given =
       side = given .side;
     }
 
-module _ (owners offsets targets : List ℕ) (alpha within set : ℕ) (before : List ℕ) (given : Attractable owners offsets targets alpha within set before) where
+module _ (owners offsets targets : List ℕ) (alpha within set : ℕ) (before : List ℕ)
+    (given : Attractable owners offsets targets alpha within set before) where
   abbrev n : ℕ
   n = length owners
 
@@ -203,7 +204,9 @@ module _ (owners offsets targets : List ℕ) (alpha within set : ℕ) (before : 
   abbrev Runs : ℕ → List ℕ → ℕ → ℕ → Type 0
   Runs head after tail looks = Running owners offsets targets alpha within set before head after tail looks
 
-  pub owned : (priorities : List ℕ) → Accepted (tablesOf owners offsets targets priorities) → (v : ℕ) → own v ≡ same (gameOf (tablesOf owners offsets targets priorities) .owner v) (playerOf alpha)
+  pub owned :
+      (priorities : List ℕ) → Accepted (tablesOf owners offsets targets priorities) → (v : ℕ) →
+      own v ≡ same (gameOf (tablesOf owners offsets targets priorities) .owner v) (playerOf alpha)
   unfolding gameOf
   owned priorities ok v = own-is (getD owners v 0) alpha (small (lt-or-ge v n)) (given .side)
     where

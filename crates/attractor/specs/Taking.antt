@@ -156,7 +156,8 @@ module _ (g : Game) (a : Player) (V' T own : Set) (entry : ℕ → ℕ) (owned :
         let sums = st .grown .marks v .other-out i out theirs in
         omega arith
 
-  module _ (head looks : ℕ) (s : State) (st : Standsᵍ head s) (left : head < s .tail) (row : List ℕ) (r : Row (g .size) (g .targets) (s .order head) row) where
+  module _ (head looks : ℕ) (s : State) (st : Standsᵍ head s) (left : head < s .tail) (row : List ℕ)
+      (r : Row (g .size) (g .targets) (s .order head) row) where
     abbrev next : State
     next = looked V' own (s .order head) row s
 

@@ -10,7 +10,8 @@ ghost use Rattle.attractor.specs.Counters.{EdgesOf, Countable, Counted};
 // The edges of v that end inside the set.
 fn inside_edges(offsets: &[u16], targets: &[u16], v: usize, set: &[u64]) -> u64
     requires { ⌜ EdgesOf (now offsets) (now targets) v (now set) ⌝ }
-    ensures { λ r. ⌜ r ≡ countOf (targetsOf (now (offsets .entry)) (now (targets .entry)) v) (setOf (now (set .entry))) ⌝ }
+    ensures { λ r. ⌜ r ≡ countOf (targetsOf (now (offsets .entry)) (now (targets .entry)) v) (setOf
+        (now (set .entry))) ⌝ }
 {
     let mut inside: u64 = 0;
     for e in offsets[v] as usize..offsets[v + 1] as usize {
@@ -33,7 +34,8 @@ pub fn initialize_attractor_counters(
 )
     requires { ⌜ Countable (now owners) (now offsets) (now targets) s within (now work) ⌝ }
     ensures { λ _.
-        ⌜ Counted (now (owners .entry)) (now (offsets .entry)) (now (targets .entry)) alpha within (now (work .entry)) (now (work .exit)) ⌝ }
+        ⌜ Counted (now (owners .entry)) (now (offsets .entry)) (now (targets .entry)) alpha within
+        (now (work .entry)) (now (work .exit)) ⌝ }
 {
     let n = owners.len();
     let m = targets.len();

@@ -1,4 +1,5 @@
-// The public attractor, for every input: it checks all that it takes, works in the work area, and writes only when it answers.
+// The public attractor, for every input: it checks all that it takes, works in the work area, and writes only when
+// it answers.
 use crate::whole::attract;
 use parity_game::Answer;
 use parity_game::Player;
@@ -104,7 +105,12 @@ fn check_all(
         ⌜ said r
         ≡ outcome
         (checksBy
-        (record { owners = now (owners .entry); priorities = now (priorities .entry); offsets = now (offsets .entry); targets = now (targets .entry) })
+        (record {
+          owners = now (owners .entry);
+          priorities = now (priorities .entry);
+          offsets = now (offsets .entry);
+          targets = now (targets .entry);
+        })
         (now (within .entry)) (now (target .entry)) result strategy work)
         (answered 0) ⌝ }
 {
@@ -158,7 +164,8 @@ fn strategy_entry(
 ) -> u16
     requires { ⌜ Entered (now owners) alpha (now target) (now result) (now entries) v ⌝ }
     ensures { λ r.
-        ⌜ r ≡ chosen (now (owners .entry)) alpha (now (target .entry)) (now (result .entry)) (now (entries .entry)) v ⌝ }
+        ⌜ r ≡ chosen (now (owners .entry)) alpha (now (target .entry)) (now (result .entry))
+        (now (entries .entry)) v ⌝ }
 {
     if !sets::contains(result, v) {
         return 65535;
@@ -183,7 +190,8 @@ fn write_strategy(
 )
     requires { ⌜ Enterable (now owners) alpha (now target) (now result) (now entries) (now strategy) ⌝ }
     ensures { λ _.
-        ⌜ Written (now (owners .entry)) alpha (now (target .entry)) (now (result .entry)) (now (entries .entry)) (now (strategy .entry))
+        ⌜ Written (now (owners .entry)) alpha (now (target .entry)) (now (result .entry))
+        (now (entries .entry)) (now (strategy .entry))
         (now (strategy .exit)) ⌝ }
 {
     for v in 0..owners.len() {
@@ -203,13 +211,24 @@ fn run(
     strategy: &mut [u16],
     work: &mut [u64],
 ) -> u64
-    requires { ⌜ Runnable (now owners) (now offsets) (now targets) alpha (now within) (now target) (now result) (now strategy) (now work) ⌝ }
+    requires { ⌜ Runnable (now owners) (now offsets) (now targets) alpha (now within) (now target)
+        (now result) (now strategy) (now work) ⌝ }
     ensures { λ r.
         ⌜ (now (work .exit) ≡ replicate (length (now (work .entry))) 0) ×
         ((priorities : List ℕ) →
-        Accepted (record { owners = now (owners .entry); priorities = priorities; offsets = now (offsets .entry); targets = now (targets .entry) }) →
+        Accepted (record {
+          owners = now (owners .entry);
+          priorities = priorities;
+          offsets = now (offsets .entry);
+          targets = now (targets .entry);
+        }) →
         Ran
-        (record { owners = now (owners .entry); priorities = priorities; offsets = now (offsets .entry); targets = now (targets .entry) })
+        (record {
+          owners = now (owners .entry);
+          priorities = priorities;
+          offsets = now (offsets .entry);
+          targets = now (targets .entry);
+        })
         (playerOf alpha) (now (within .entry)) (now (target .entry)) (now (result .exit)) (now (strategy .exit)) r) ⌝ }
 {
     let n = owners.len();
@@ -248,7 +267,12 @@ pub fn attractor(
 ) -> Answer
     ensures { λ r.
         ⌜ Attracts
-        (record { owners = now (owners .entry); priorities = now (priorities .entry); offsets = now (offsets .entry); targets = now (targets .entry) })
+        (record {
+          owners = now (owners .entry);
+          priorities = now (priorities .entry);
+          offsets = now (offsets .entry);
+          targets = now (targets .entry);
+        })
         (is player) (now (within .entry)) (now (target .entry))
         (record { result = now (result .entry); strategy = now (strategy .entry); work = now (work .entry) })
         (record { result = now (result .exit); strategy = now (strategy .exit); work = now (work .exit) })

@@ -32,7 +32,8 @@ fn touch(
     requires { ⌜ Touchable (now owners) m s alpha within set (now work) v tail ⌝ }
     ensures { λ r.
         ⌜ Becomes (length (now (owners .entry))) m set
-        (touched (setAt (length (now (owners .entry))) within (now (work .entry))) (ownBy (now (owners .entry)) alpha) w v)
+        (touched (setAt (length (now (owners .entry))) within (now (work .entry))) (ownBy
+        (now (owners .entry)) alpha) w v)
         (now (work .entry)) (now (work .exit)) tail r ⌝ }
 {
     let n = owners.len();

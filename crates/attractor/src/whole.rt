@@ -1,4 +1,5 @@
-// The whole attractor: the set at `set` grows from the target to the attractor in the set at `within`. Gives the looks.
+// The whole attractor: the set at `set` grows from the target to the attractor in the set at `within`. Gives the
+// looks.
 use crate::counters::initialize_attractor_counters;
 use crate::queue::fill_queue;
 use crate::step::take;
@@ -20,9 +21,19 @@ pub fn attract(
     requires { ⌜ Attractable (now owners) (now offsets) (now targets) alpha within set (now work) ⌝ }
     ensures { λ r.
         ⌜ ((priorities : List ℕ) →
-        Accepted (record { owners = now (owners .entry); priorities = priorities; offsets = now (offsets .entry); targets = now (targets .entry) }) →
+        Accepted (record {
+          owners = now (owners .entry);
+          priorities = priorities;
+          offsets = now (offsets .entry);
+          targets = now (targets .entry);
+        }) →
         Attracted
-        (record { owners = now (owners .entry); priorities = priorities; offsets = now (offsets .entry); targets = now (targets .entry) })
+        (record {
+          owners = now (owners .entry);
+          priorities = priorities;
+          offsets = now (offsets .entry);
+          targets = now (targets .entry);
+        })
         (playerOf alpha) within set (now (work .entry)) (now (work .exit)) r) ⌝ }
 {
     let n = owners.len();

@@ -9,14 +9,10 @@ use lib.ListN.{length, take, drop}
 use Rattle.sets.specs.declared.members.Members.{Members}
 use Rattle.sets.specs.Walk.{left, Walks}
 use Rattle.attractor.specs.Area.{wordsAt}
-use Rattle.attractor.specs.Counters.{CountingTo, counting-none, counting-all, counting-own, counting-other, edges-ready, part-short, walk-shorter, vertex-small}
+use Rattle.attractor.specs.Counters.{CountingTo, counting-none, counting-all, counting-own, counting-other, edges-ready, part-short}
+use Rattle.attractor.specs.Counters.{walk-shorter, vertex-small}
 use Rattle.attractor.proofs.counters.initialize_attractor_counters.Statement.{statement}
 use Rattle.attractor.proofs.counters.initialize_attractor_counters.Tie as tie
-use Rattle.attractor.proofs.counters.initialize_attractor_counters.Reads as reads
-use Rattle.attractor.proofs.counters.initialize_attractor_counters.Lts as lts
-use Rattle.attractor.proofs.counters.inside_edges.Reads as inside-edges-reads
-use Rattle.sets.proofs.members.Members.new.Reads as new-reads
-use Rattle.sets.proofs.members.Members.next.Reads as next-reads
 
 abbrev Inv-loop : tie.InvT-loop
 Inv-loop owners offsets targets s alpha work₀ within n m walk₀ work walk =
@@ -81,113 +77,92 @@ counter-fits c =
     let g = start-of (turn c) in
     omega (arith, g .pre .low, g .pre .high, turn c .loop .inv .long, small c)
 
--- src/counters.rt:43:47
 add-new : tie.Need-add-new Inv-loop μ-loop
 add-new c = search needs
 
--- src/counters.rt:43:33
 mul-new : tie.Need-mul-new Inv-loop μ-loop
 mul-new c = search needs
 
--- src/counters.rt:43:33
 sub-new : tie.Need-sub-new Inv-loop μ-loop
 sub-new c = search needs
 
--- src/counters.rt:43:33
 part-new-start : tie.Need-part-new-start Inv-loop μ-loop
 part-new-start c = search needs
 
--- src/counters.rt:43:33
 part-new-end : tie.Need-part-new-end Inv-loop μ-loop
 part-new-end c = search needs
 
--- src/counters.rt:43:9
 new-requires : tie.Need-new-requires Inv-loop μ-loop
 new-requires c κs = search needs
 
--- src/counters.rt:44:5
 loop-holds : tie.Need-loop-holds Inv-loop μ-loop
 loop-holds c =
     let g = c .before .before .before .before .before .before .before in
     let a = g .args in
-    counting-none (a .owners .now) (a .offsets .now) (a .targets .now) (a .s) (a .alpha) (a .within) (a .work .now) (g .pre) (c .new .result) (c .new .ensures)
+    counting-none (a .owners .now) (a .offsets .now) (a .targets .now) (a .s) (a .alpha) (a .within) (a .work .now) (g .pre) (c .new .result)
+    (c .new .ensures)
 
--- src/counters.rt:45:44
 add-next : tie.Need-add-next Inv-loop μ-loop
 add-next c = search needs
 
--- src/counters.rt:45:30
 mul-next : tie.Need-mul-next Inv-loop μ-loop
 mul-next c = search needs
 
--- src/counters.rt:45:30
 sub-next : tie.Need-sub-next Inv-loop μ-loop
 sub-next c = search needs
 
--- src/counters.rt:45:30
 part-next-start : tie.Need-part-next-start Inv-loop μ-loop
 part-next-start c = search needs
 
--- src/counters.rt:45:30
 part-next-end : tie.Need-part-next-end Inv-loop μ-loop
 part-next-end c = search needs
 
--- src/counters.rt:45:13
 next-requires : tie.Need-next-requires Inv-loop μ-loop
 next-requires c κs =
     let d = c .before .before in
     let g = start-of d in
     let a = g .args in (
-      part-short (a .owners .now) (a .offsets .now) (a .targets .now) (a .s) (a .alpha) (a .within) (a .work .now) (g .pre) (d .loop .walk) (d .loop .work) (d .loop .inv),
+      part-short (a .owners .now) (a .offsets .now) (a .targets .now) (a .s) (a .alpha) (a .within) (a .work .now) (g .pre) (d .loop .walk)
+          (d .loop .work) (d .loop .inv),
       d .loop .inv .at,
     )
 
--- src/counters.rt:46:26
 enum-known-next : tie.Need-enum-known-next Inv-loop μ-loop
 enum-known-next c = search needs
 
--- src/counters.rt:47:13
 enum-told : tie.Need-enum-told Inv-loop μ-loop
 enum-told c = search needs
 
--- src/counters.rt:47:13
 same-length : tie.Need-same-length Inv-loop μ-loop
 same-length c = search needs
 
--- src/counters.rt:47:13
 returns : tie.Need-returns Inv-loop μ-loop
 returns c =
     let d = c .before .before .before .before .before in
     let g = start-of d in
     let a = g .args in
-    counting-all (a .owners .now) (a .offsets .now) (a .targets .now) (a .s) (a .alpha) (a .within) (a .work .now) (g .pre) (d .loop .walk) (d .loop .work) (d .loop .inv)
+    counting-all (a .owners .now) (a .offsets .now) (a .targets .now) (a .s) (a .alpha) (a .within) (a .work .now) (g .pre) (d .loop .walk)
+    (d .loop .work) (d .loop .inv)
     (subst (Walks (part d) (d .loop .walk)) (c .enum-told .given .1) (c .before .before .next .ensures))
 
--- src/counters.rt:50:12
 shared-slice-read-if1 : tie.Need-shared-slice-read-if1 Inv-loop μ-loop
 shared-slice-read-if1 c = small c
 
--- src/counters.rt:51:74
 add-inside-edges : tie.Need-add-inside-edges Inv-loop μ-loop
 add-inside-edges c = search needs
 
--- src/counters.rt:51:60
 mul-inside-edges : tie.Need-mul-inside-edges Inv-loop μ-loop
 mul-inside-edges c = search needs
 
--- src/counters.rt:51:60
 sub-inside-edges : tie.Need-sub-inside-edges Inv-loop μ-loop
 sub-inside-edges c = search needs
 
--- src/counters.rt:51:60
 part-inside-edges-start : tie.Need-part-inside-edges-start Inv-loop μ-loop
 part-inside-edges-start c = search needs
 
--- src/counters.rt:51:60
 part-inside-edges-end : tie.Need-part-inside-edges-end Inv-loop μ-loop
 part-inside-edges-end c = search needs
 
--- src/counters.rt:51:17
 inside-edges-requires : tie.Need-inside-edges-requires Inv-loop μ-loop
 inside-edges-requires c κs =
     let d = c .before .before .before in
@@ -197,31 +172,28 @@ inside-edges-requires c κs =
     edges-ready (a .owners .now) (a .offsets .now) (a .targets .now) (a .s) (a .alpha) (a .within) (a .work .now) (g .pre) (l .walk) (l .work) (l .inv)
     (vertex d) (after d) (moved d)
 
--- src/counters.rt:52:18
 add-work : tie.Need-add-work Inv-loop μ-loop
 add-work c = search needs
 
--- src/counters.rt:52:18
 add-work-2 : tie.Need-add-work-2 Inv-loop μ-loop
 add-work-2 c = search needs
 
--- src/counters.rt:52:18
 add-work-3 : tie.Need-add-work-3 Inv-loop μ-loop
-add-work-3 c = omega (arith, counter-fits (c .before .before .before .before), turn (c .before .before .before .before) .loop .inv .long, start-of (turn (c .before .before .before .before)) .good)
+add-work-3 c =
+    let d = c .before .before .before .before in
+    omega (arith, counter-fits d, turn d .loop .inv .long, start-of (turn d) .good)
 
--- src/counters.rt:52:13
 mul-work : tie.Need-mul-work Inv-loop μ-loop
-mul-work c = omega (arith, counter-fits (c .before .before .before .before), turn (c .before .before .before .before) .loop .inv .long, start-of (turn (c .before .before .before .before)) .good)
+mul-work c =
+    let d = c .before .before .before .before in
+    omega (arith, counter-fits d, turn d .loop .inv .long, start-of (turn d) .good)
 
--- src/counters.rt:52:13
 slice-write-work : tie.Need-slice-write-work Inv-loop μ-loop
 slice-write-work c = counter-fits (c .before .before .before .before)
 
--- src/counters.rt:44:5
 loop-less : tie.Need-loop-less Inv-loop μ-loop
 loop-less c = shorter (c .before .before .before .before)
 
--- src/counters.rt:44:5
 loop-again : tie.Need-loop-again Inv-loop μ-loop
 loop-again c =
     let d = c .before .before .before .before in
@@ -231,11 +203,9 @@ loop-again c =
     counting-other (a .owners .now) (a .offsets .now) (a .targets .now) (a .s) (a .alpha) (a .within) (a .work .now) (g .pre) (l .walk) (l .work) (l .inv)
     (vertex d) (after d) (moved d) (c .inside-edges .result) (c .inside-edges .ensures)
 
--- src/counters.rt:44:5
 loop-less-2 : tie.Need-loop-less-2 Inv-loop μ-loop
 loop-less-2 c = shorter (c .before)
 
--- src/counters.rt:44:5
 loop-again-2 : tie.Need-loop-again-2 Inv-loop μ-loop
 loop-again-2 c =
     let d = c .before in

@@ -11,9 +11,6 @@ use Rattle.attractor.specs.Counters.{EdgesOf, insideUpTo, inside-none, i
 use Rattle.attractor.specs.Tally.{flag, flag-one, flag-zero}
 use Rattle.attractor.proofs.counters.inside_edges.Statement.{statement}
 use Rattle.attractor.proofs.counters.inside_edges.Tie as tie
-use Rattle.attractor.proofs.counters.inside_edges.Reads as reads
-use Rattle.attractor.proofs.counters.inside_edges.Lts as lts
-use Rattle.sets.proofs.contains.Reads as contains-reads
 
 abbrev Inv-loop : tie.InvT-loop
 Inv-loop offsets targets v set inside₀ e₀ e-end inside e =
@@ -26,54 +23,42 @@ abbrev μ-loop : tie.MeasureT-loop
 abbrev start-of : tie.At-loop Inv-loop μ-loop → tie.Start Inv-loop μ-loop
 start-of c = c .before .before .before .before .before .before
 
--- src/counters.rt:14:14
 mul-e : tie.Need-mul-e Inv-loop μ-loop
 mul-e c = search needs
 
--- src/counters.rt:14:14
 shared-slice-read-e : tie.Need-shared-slice-read-e Inv-loop μ-loop
 shared-slice-read-e c = search needs
 
--- src/counters.rt:14:14
 cast-e : tie.Need-cast-e Inv-loop μ-loop
 cast-e c = search needs
 
--- src/counters.rt:14:43
 add-e-end : tie.Need-add-e-end Inv-loop μ-loop
 add-e-end c = search needs
 
--- src/counters.rt:14:35
 mul-e-end : tie.Need-mul-e-end Inv-loop μ-loop
 mul-e-end c = search needs
 
--- src/counters.rt:14:35
 shared-slice-read-e-end : tie.Need-shared-slice-read-e-end Inv-loop μ-loop
 shared-slice-read-e-end c = search needs
 
--- src/counters.rt:14:35
 cast-e-end : tie.Need-cast-e-end Inv-loop μ-loop
 cast-e-end c = search needs
 
--- src/counters.rt:14:5
 loop-holds : tie.Need-loop-holds Inv-loop μ-loop
 loop-holds c =
     let g = c .before .before .before .before .before in
     let a = g .args in
     (search needs, g .pre .rising, search needs, inside-none (a .offsets .now) (a .targets .now) (a .v) (a .set .now) (g .pre))
 
--- src/counters.rt:15:32
 mul-contains : tie.Need-mul-contains Inv-loop μ-loop
 mul-contains c = search needs
 
--- src/counters.rt:15:32
 shared-slice-read-contains : tie.Need-shared-slice-read-contains Inv-loop μ-loop
 shared-slice-read-contains c = search needs
 
--- src/counters.rt:15:32
 cast-contains : tie.Need-cast-contains Inv-loop μ-loop
 cast-contains c = omega (arith, c .shared-slice-known6 .given (c .before .before .loop .e))
 
--- src/counters.rt:15:12
 contains-requires : tie.Need-contains-requires Inv-loop μ-loop
 contains-requires c κs =
     let d = c .before in
@@ -81,19 +66,15 @@ contains-requires c κs =
     let l = d .before .loop in
     g .pre .bits (l .e) (omega (arith, g .pre .top, d .loop-test .taken))
 
--- src/counters.rt:16:13
 add-inside : tie.Need-add-inside Inv-loop μ-loop
 add-inside c = search needs
 
--- src/counters.rt:14:9
 add-e : tie.Need-add-e Inv-loop μ-loop
 add-e c = search needs
 
--- src/counters.rt:14:5
 loop-less : tie.Need-loop-less Inv-loop μ-loop
 loop-less c = search needs
 
--- src/counters.rt:14:5
 loop-again : tie.Need-loop-again Inv-loop μ-loop
 loop-again c =
     let d = c .before .before .before in
@@ -114,7 +95,6 @@ loop-again c =
     (omega arith, omega arith, omega arith, omega arith))
     (c .if1 .came)
 
--- src/counters.rt:9:1
 returns : tie.Need-returns Inv-loop μ-loop
 returns c =
     let g = start-of (c .before) in

@@ -16,12 +16,6 @@ use Rattle.attractor.specs.Door.{Ran}
 use Rattle.attractor.specs.Answered.{Passed, numbered-checks, checks-passed, run-ready, work-cleared, attracts-refused, attracts-answered}
 use Rattle.attractor.proofs.door.attractor.Statement.{statement}
 use Rattle.attractor.proofs.door.attractor.Tie as tie
-use Rattle.attractor.proofs.door.attractor.Reads as reads
-use Rattle.attractor.proofs.door.attractor.Lts as lts
-use Rattle.attractor.proofs.door.check_all.Reads as check-all-reads
-use Rattle.attractor.proofs.door.run.Reads as run-reads
-use Rattle.attractor.proofs.door.side.Reads as side-reads
-use Rattle.parity_game.proofs.work_words.Reads as work-words-reads
 
 -- the tables and what is lent, where the function begins
 abbrev tables : tie.Start → Tables
@@ -60,45 +54,37 @@ passed c =
     checks-passed (tables g) (g .args .within .now) (g .args .target .now) (length (g .args .result .now)) (length (g .args .strategy .now))
     (length (g .args .work .now)) (no-refusal c)
 
--- src/door.rt:225:9
 check-all-requires : tie.Need-check-all-requires
 check-all-requires c κs = search needs
 
 enum-told : tie.Need-enum-told
 enum-told c = search needs
 
--- src/door.rt:227:9
 returns : tie.Need-returns
 returns c =
     let g = at1 (c .before) in
     attracts-refused (tables g) (is (g .args .player)) (g .args .within .now) (g .args .target .now) (lent g) _ (c .before .check-all .ensures)
     (refusal-not-zero (c .before .check-all .result) (c .match .keys2))
 
--- src/door.rt:229:9
 work-words-requires : tie.Need-work-words-requires
 work-words-requires c κs =
     let f = accepted-sound (tables (at2 c)) (passed c .accepted) in
     (f .few-vertices, f .few-edges)
 
--- src/door.rt:230:9
 side-requires : tie.Need-side-requires
 side-requires c κs = search needs
 
--- src/door.rt:231:93
 sub-run : tie.Need-sub-run
 sub-run c = search needs
 
--- src/door.rt:231:93
 part-run-start : tie.Need-part-run-start
 part-run-start c = search needs
 
--- src/door.rt:231:93
 part-run-end : tie.Need-part-run-end
 part-run-end c =
     let w = c .before .before .before in
     omega (arith, passed (w .before) .sizes .work-size, w .work-words .ensures)
 
--- src/door.rt:231:22
 run-requires : tie.Need-run-requires
 run-requires c κs =
     let d = c .before .before .before in
@@ -108,19 +94,15 @@ run-requires c κs =
     run-ready (tables g) (d .side .result) (w .work-words .result) (a .within .now) (a .target .now) (a .result .now) (a .strategy .now) (a .work .now)
     (d .side .ensures .1) (w .work-words .ensures) (passed (w .before))
 
--- src/door.rt:203:1
 same-length : tie.Need-same-length
 same-length c = search needs
 
--- src/door.rt:203:1
 same-length-2 : tie.Need-same-length-2
 same-length-2 c = search needs
 
--- src/door.rt:203:1
 same-length-3 : tie.Need-same-length-3
 same-length-3 c = search needs
 
--- src/door.rt:203:1
 returns-2 : tie.Need-returns-2
 returns-2 c =
     let r = c .before .before .before .before .before .before in
@@ -134,7 +116,8 @@ returns-2 c =
     (r .run .result)
     (no-refusal e)
     (subst
-    (λ (p : Player). Ran (tables g) p (a .within .now) (a .target .now) (r .run .last .1 .1 .1 .1 .1 .1 .0) (r .run .last .1 .1 .1 .1 .1 .1 .1 .0) (r .run .result))
+    (λ (p : Player). Ran (tables g) p (a .within .now) (a .target .now) (r .run .last .1 .1 .1 .1 .1 .1 .0)
+    (r .run .last .1 .1 .1 .1 .1 .1 .1 .0) (r .run .result))
     (d .side .ensures .0)
     (r .run .ensures .1 (a .priorities .now) (passed e .accepted)))
     (work-cleared (tables g) (w .work-words .result) (a .work .now) _ (w .work-words .ensures) (passed e .sizes .work-size) (r .run .ensures .0))

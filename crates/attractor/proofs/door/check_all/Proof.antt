@@ -13,11 +13,6 @@ use Rattle.attractor.specs.Door.{sizeChecks, checksBy}
 use Rattle.attractor.specs.Answered.{sizes-right}
 use Rattle.attractor.proofs.door.check_all.Statement.{statement}
 use Rattle.attractor.proofs.door.check_all.Tie as tie
-use Rattle.attractor.proofs.door.check_all.Reads as reads
-use Rattle.attractor.proofs.door.check_all.Lts as lts
-use Rattle.attractor.proofs.door.check_bits.Reads as check-bits-reads
-use Rattle.attractor.proofs.door.check_sizes.Reads as check-sizes-reads
-use Rattle.parity_game.proofs.check_tables.Reads as check-tables-reads
 
 -- the tables as lent
 abbrev tables : tie.Start → Tables
@@ -91,35 +86,31 @@ sound : (c : tie.After-enum-told) → Sound (tables (past1 c))
 unfolding Accepted
 sound c = accepted-sound (tables (past1 c)) (none1 c)
 
--- src/door.rt:107:9
 check-tables-requires : tie.Need-check-tables-requires
 check-tables-requires c κs = search needs
 
 enum-told : tie.Need-enum-told
 enum-told c = search needs
 
--- src/door.rt:109:9
 returns : tie.Need-returns
 returns c =
     let g = at1 (c .before) in
-    stopped (c .before .check-tables .result) (tableChecks (tables g)) (sizes g then bits g) (answered 0) (c .match .keys2) (c .before .check-tables .ensures) ∙
+    stopped (c .before .check-tables .result) (tableChecks (tables g)) (sizes g then bits g) (answered 0) (c .match .keys2)
+    (c .before .check-tables .ensures) ∙
     out (in-order g)
 
--- src/door.rt:111:9
 check-sizes-requires : tie.Need-check-sizes-requires
 check-sizes-requires c κs = (sound c .few-vertices, sound c .few-edges)
 
 enum-told-2 : tie.Need-enum-told-2
 enum-told-2 c = search needs
 
--- src/door.rt:113:9
 returns-2 : tie.Need-returns-2
 returns-2 c =
     let g = past1 (c .before .before) in
     stopped (c .before .check-sizes .result) (sizes g) (bits g) (answered 0) (c .match2 .keys2) (c .before .check-sizes .ensures) ∙
     out (is1 (c .before .before))
 
--- src/door.rt:115:5
 check-bits-requires : tie.Need-check-bits-requires
 check-bits-requires c κs =
     let g = past2 c in
@@ -128,7 +119,6 @@ check-bits-requires c κs =
     (g .args .strategy) (g .args .work) (none2 c) in
     (right .within-size, right .target-size, sound (c .before .before .before) .few-vertices)
 
--- src/door.rt:85:1
 returns-3 : tie.Need-returns-3
 returns-3 c = c .check-bits .ensures ∙ out (is2 (c .before))
 

@@ -14,9 +14,6 @@ use Rattle.attractor.specs.Door.{stray}
 use Rattle.attractor.specs.Views.{words-few}
 use Rattle.attractor.proofs.door.check_bits.Statement.{statement}
 use Rattle.attractor.proofs.door.check_bits.Tie as tie
-use Rattle.attractor.proofs.door.check_bits.Reads as reads
-use Rattle.attractor.proofs.door.check_bits.Lts as lts
-use Rattle.attractor.proofs.door.is_stray.Reads as is-stray-reads
 
 abbrev Inv-loop : tie.InvT-loop
 Inv-loop n within target b₀ b-end b = (b ≤ 64 * length within) × FailsBelow b (stray n within target)
@@ -28,21 +25,17 @@ abbrev μ-loop : tie.MeasureT-loop
 abbrev start-of : tie.Else1 Inv-loop μ-loop → tie.Start Inv-loop μ-loop
 start-of c = c .before .before .before .before .before .before
 
--- src/door.rt:49:17
 mul-b-end : tie.Need-mul-b-end Inv-loop μ-loop
 mul-b-end c = let g = c .before .before in omega (arith, g .pre, words-few (g .args .n) (g .pre .2))
 
--- src/door.rt:49:5
 loop-holds : tie.Need-loop-holds Inv-loop μ-loop
 loop-holds c = (search needs, λ k l. absurd (not-suc-le-zero l))
 
--- src/door.rt:50:12
 is-stray-requires : tie.Need-is-stray-requires Inv-loop μ-loop
 is-stray-requires c κs =
     let g = c .before .before .before .before in
     record { first = c .loop-test .taken; second = omega (arith, g .pre .0, g .pre .1, c .loop-test .taken) }
 
--- src/door.rt:51:13
 returns : tie.Need-returns Inv-loop μ-loop
 unfolding check12
 returns c =
@@ -53,21 +46,17 @@ returns c =
     outcome-found 12 (64 * words (a .n)) (stray (a .n) (a .within .now) (a .target .now)) (answered 0) (l .b)
     (omega (arith, g .pre .0, d .loop-test .taken)) (l .inv .1) (sym (c .before .is-stray .ensures) ∙ c .if1 .taken)
 
--- src/door.rt:49:9
 add-b : tie.Need-add-b Inv-loop μ-loop
 add-b c = let g = start-of c in omega (arith, g .pre .0, words-few (g .args .n) (g .pre .2), c .before .before .loop-test .taken)
 
--- src/door.rt:49:5
 loop-less : tie.Need-loop-less Inv-loop μ-loop
 loop-less c = search needs
 
--- src/door.rt:49:5
 loop-again : tie.Need-loop-again Inv-loop μ-loop
 loop-again c =
     let l = c .before .before .before .loop in
     (search needs, below-more _ _ (l .inv .1) (sym (c .before .is-stray .ensures) ∙ c .if1 .left))
 
--- src/door.rt:45:1
 returns-2 : tie.Need-returns-2 Inv-loop μ-loop
 unfolding check12
 returns-2 c =

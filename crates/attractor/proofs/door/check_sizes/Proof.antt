@@ -8,10 +8,6 @@ use Rattle.rules.specs.Tables.{words}
 use Rattle.attractor.specs.DoorLaws.{size-within, size-target, size-result, size-strategy, size-work, size-right}
 use Rattle.attractor.proofs.door.check_sizes.Statement.{statement}
 use Rattle.attractor.proofs.door.check_sizes.Tie as tie
-use Rattle.attractor.proofs.door.check_sizes.Reads as reads
-use Rattle.attractor.proofs.door.check_sizes.Lts as lts
-use Rattle.parity_game.proofs.set_words.Reads as set-words-reads
-use Rattle.parity_game.proofs.work_words.Reads as work-words-reads
 
 -- equal verdicts give equal outcomes
 out : {u v : Verdict} → u ≡ v → outcome u (answered 0) ≡ outcome v (answered 0)
@@ -27,59 +23,57 @@ two c = c .if2 .left ∙ c .before .before .set-words .ensures
 three : (c : tie.Else3) → let a = c .before .before .before .before .args in a .result ≡ words (a .n)
 three c = c .if3 .left ∙ c .before .before .before .set-words .ensures
 
--- src/door.rt:65:9
 set-words-requires : tie.Need-set-words-requires
 set-words-requires c κs = search needs
 
--- src/door.rt:67:9
 returns : tie.Need-returns
 returns c =
     let a = c .before .before .args in
-    out (size-within (a .n) (a .m) (a .within) (a .target) (a .result) (a .strategy) (a .work) (λ e. c .if1 .taken (e ∙ sym (c .before .set-words .ensures))))
+    out (size-within (a .n) (a .m) (a .within) (a .target) (a .result) (a .strategy) (a .work)
+    (λ e. c .if1 .taken (e ∙ sym (c .before .set-words .ensures))))
 
--- src/door.rt:70:9
 returns-2 : tie.Need-returns-2
 returns-2 c =
     let a = c .before .before .before .args in
-    out (size-target (a .n) (a .m) (a .within) (a .target) (a .result) (a .strategy) (a .work) (one (c .before)) (λ e. c .if2 .taken (e ∙ sym (c .before .before .set-words .ensures))))
+    out (size-target (a .n) (a .m) (a .within) (a .target) (a .result) (a .strategy) (a .work)
+    (one (c .before)) (λ e. c .if2 .taken (e ∙ sym (c .before .before .set-words .ensures))))
 
--- src/door.rt:73:9
 returns-3 : tie.Need-returns-3
 returns-3 c =
     let a = c .before .before .before .before .args in
     out
-    (size-result (a .n) (a .m) (a .within) (a .target) (a .result) (a .strategy) (a .work) (one (c .before .before)) (two (c .before))
+    (size-result (a .n) (a .m) (a .within) (a .target) (a .result) (a .strategy) (a .work)
+    (one (c .before .before)) (two (c .before))
     (λ e. c .if3 .taken (e ∙ sym (c .before .before .before .set-words .ensures))))
 
--- src/door.rt:76:9
 returns-4 : tie.Need-returns-4
 returns-4 c =
     let d = c .before in
     let a = d .before .before .before .before .args in
-    out (size-strategy (a .n) (a .m) (a .within) (a .target) (a .result) (a .strategy) (a .work) (one (d .before .before)) (two (d .before)) (three d) (c .if4 .taken))
+    out (size-strategy (a .n) (a .m) (a .within) (a .target) (a .result) (a .strategy) (a .work)
+    (one (d .before .before)) (two (d .before)) (three d) (c .if4 .taken))
 
--- src/door.rt:78:15
 work-words-requires : tie.Need-work-words-requires
 work-words-requires c κs = search needs
 
--- src/door.rt:79:9
 returns-5 : tie.Need-returns-5
 returns-5 c =
     let w = c .before in
     let d = w .before .before in
     let a = d .before .before .before .before .args in
     out
-    (size-work (a .n) (a .m) (a .within) (a .target) (a .result) (a .strategy) (a .work) (one (d .before .before)) (two (d .before)) (three d) (w .before .if4 .left)
+    (size-work (a .n) (a .m) (a .within) (a .target) (a .result) (a .strategy) (a .work)
+    (one (d .before .before)) (two (d .before)) (three d) (w .before .if4 .left)
     (omega (arith, c .if5 .taken, w .work-words .ensures)))
 
--- src/door.rt:61:1
 returns-6 : tie.Need-returns-6
 returns-6 c =
     let w = c .before in
     let d = w .before .before in
     let a = d .before .before .before .before .args in
     out
-    (size-right (a .n) (a .m) (a .within) (a .target) (a .result) (a .strategy) (a .work) (one (d .before .before)) (two (d .before)) (three d) (w .before .if4 .left)
+    (size-right (a .n) (a .m) (a .within) (a .target) (a .result) (a .strategy) (a .work)
+    (one (d .before .before)) (two (d .before)) (three d) (w .before .if4 .left)
     (omega (arith, c .if5 .left, w .work-words .ensures)))
 
 pub check-sizes-spec : {M : Type 1} → statement M

@@ -8,8 +8,6 @@ use borrow.Author.Needs.{needs}
 use lib.ListN.{length, drop, set, replicate, length-set, drop-of-length-le}
 use Rattle.attractor.proofs.door.clear.Statement.{statement}
 use Rattle.attractor.proofs.door.clear.Tie as tie
-use Rattle.attractor.proofs.door.clear.Reads as reads
-use Rattle.attractor.proofs.door.clear.Lts as lts
 
 abbrev Inv-loop : tie.InvT-loop
 Inv-loop work₀ i₀ i-end work i =
@@ -18,27 +16,21 @@ Inv-loop work₀ i₀ i-end work i =
 abbrev μ-loop : tie.MeasureT-loop
 μ-loop work₀ i₀ i-end work i = length work₀ - i
 
--- src/door.rt:121:5
 loop-holds : tie.Need-loop-holds Inv-loop μ-loop
 loop-holds c = (search needs, fill-none _ 0, search needs)
 
--- src/door.rt:122:9
 mul-work : tie.Need-mul-work Inv-loop μ-loop
 mul-work c = search needs
 
--- src/door.rt:122:9
 slice-write-work : tie.Need-slice-write-work Inv-loop μ-loop
 slice-write-work c = search needs
 
--- src/door.rt:121:9
 add-i : tie.Need-add-i Inv-loop μ-loop
 add-i c = search needs
 
--- src/door.rt:121:5
 loop-less : tie.Need-loop-less Inv-loop μ-loop
 loop-less c = search needs
 
--- src/door.rt:121:5
 loop-again : tie.Need-loop-again Inv-loop μ-loop
 loop-again c =
     let at = c .before .loop in
@@ -48,11 +40,9 @@ loop-again c =
       length-set (at .work) (at .i) 0 ∙ at .inv .2,
     )
 
--- src/door.rt:118:1
 same-length : tie.Need-same-length Inv-loop μ-loop
 same-length c = c .before .loop .inv .2
 
--- src/door.rt:118:1
 returns : tie.Need-returns Inv-loop μ-loop
 returns c =
     let at = c .before .loop in

@@ -9,8 +9,6 @@ use lib.Seq.{ext-getD}
 use Rattle.attractor.specs.DoorLaws.{stored-more}
 use Rattle.attractor.proofs.door.copy.Statement.{statement}
 use Rattle.attractor.proofs.door.copy.Tie as tie
-use Rattle.attractor.proofs.door.copy.Reads as reads
-use Rattle.attractor.proofs.door.copy.Lts as lts
 
 abbrev Inv-loop : tie.InvT-loop
 Inv-loop from to₀ i₀ i-end to i =
@@ -19,49 +17,40 @@ Inv-loop from to₀ i₀ i-end to i =
 abbrev μ-loop : tie.MeasureT-loop
 μ-loop from to₀ i₀ i-end to i = length from - i
 
--- src/door.rt:112:5
 loop-holds : tie.Need-loop-holds Inv-loop μ-loop
 loop-holds c = (search needs, search needs, λ k l. absurd (not-suc-le-zero l))
 
--- src/door.rt:113:17
 mul-to : tie.Need-mul-to Inv-loop μ-loop
 mul-to c = search needs
 
--- src/door.rt:113:17
 shared-slice-read-to : tie.Need-shared-slice-read-to Inv-loop μ-loop
 shared-slice-read-to c = search needs
 
--- src/door.rt:113:9
 mul-to-2 : tie.Need-mul-to-2 Inv-loop μ-loop
 mul-to-2 c = search needs
 
--- src/door.rt:113:9
 slice-write-to : tie.Need-slice-write-to Inv-loop μ-loop
 slice-write-to c = search needs
 
--- src/door.rt:112:9
 add-i : tie.Need-add-i Inv-loop μ-loop
 add-i c = search needs
 
--- src/door.rt:112:5
 loop-less : tie.Need-loop-less Inv-loop μ-loop
 loop-less c = search needs
 
--- src/door.rt:112:5
 loop-again : tie.Need-loop-again Inv-loop μ-loop
 loop-again c =
     let at = c .before .before .loop in
     let g = c .before .before .before in (
       search needs,
       length-set (at .to) (at .i) _ ∙ at .inv .1,
-      stored-more (λ k. getD (g .args .from .now) k 0) (at .to) (at .i) _ (omega (arith, at .inv .1, g .pre, c .before .loop-test .taken)) refl (at .inv .2),
+      stored-more (λ k. getD (g .args .from .now) k 0) (at .to) (at .i) _ (omega (arith, at .inv .1, g .pre, c .before .loop-test .taken)) refl
+          (at .inv .2),
     )
 
--- src/door.rt:108:1
 same-length : tie.Need-same-length Inv-loop μ-loop
 same-length c = c .before .loop .inv .1
 
--- src/door.rt:108:1
 returns : tie.Need-returns Inv-loop μ-loop
 returns c =
     let at = c .before .loop in

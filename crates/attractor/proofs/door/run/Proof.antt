@@ -13,13 +13,6 @@ use Rattle.attractor.specs.Running.{tablesOf}
 use Rattle.attractor.specs.Runs.{build-ready, attract-ready, four-long, out-long, enter-ready, ran}
 use Rattle.attractor.proofs.door.run.Statement.{statement}
 use Rattle.attractor.proofs.door.run.Tie as tie
-use Rattle.attractor.proofs.door.run.Reads as reads
-use Rattle.attractor.proofs.door.run.Lts as lts
-use Rattle.attractor.proofs.door.clear.Reads as clear-reads
-use Rattle.attractor.proofs.door.copy.Reads as copy-reads
-use Rattle.attractor.proofs.door.write_strategy.Reads as write-strategy-reads
-use Rattle.attractor.proofs.whole.attract.Reads as attract-reads
-use Rattle.predecessors.proofs.build.Reads as build-reads
 
 -- the calls in order, and where the function begins
 abbrev at1 : tie.After-copy → tie.Start
@@ -60,7 +53,9 @@ long d4 =
     let d1 = copied1 d2 in
     let g = at1 d1 in
     let a = g .args in
-    four-long (a .owners .now) (a .offsets .now) (a .targets .now) (a .alpha) (a .within .now) (a .target .now) (a .result .now) (a .strategy .now) (a .work .now) (g .pre) (d1 .copy .last .1 .0) (d2 .copy2 .last .1 .0) (d1 .copy .ensures) (d2 .copy2 .ensures) (d3 .build .last .1 .1 .1 .0) (d3 .build .ensures) (d4 .attract .last .1 .1 .1 .1 .0) (d4 .attract .result) (d4 .attract .ensures)
+    four-long (a .owners .now) (a .offsets .now) (a .targets .now) (a .alpha) (a .within .now) (a .target .now) (a .result .now) (a .strategy .now)
+    (a .work .now) (g .pre) (d1 .copy .last .1 .0) (d2 .copy2 .last .1 .0) (d1 .copy .ensures) (d2 .copy2 .ensures) (d3 .build .last .1 .1 .1 .0)
+    (d3 .build .ensures) (d4 .attract .last .1 .1 .1 .1 .0) (d4 .attract .result) (d4 .attract .ensures)
 
 -- there is room for both sets
 room :
@@ -70,88 +65,69 @@ room :
     ≤ length (c .attract .last .1 .1 .1 .1 .0)
 room c = omega (arith, long c, at4 c .pre .room, at4 c .pre .within-size)
 
--- src/door.rt:189:19
 add-entries : tie.Need-add-entries
 add-entries c = search needs
 
--- src/door.rt:189:19
 add-entries-2 : tie.Need-add-entries-2
 add-entries-2 c = search needs
 
--- src/door.rt:189:19
 add-entries-3 : tie.Need-add-entries-3
 add-entries-3 c = search needs
 
--- src/door.rt:189:19
 add-entries-4 : tie.Need-add-entries-4
 add-entries-4 c = search needs
 
--- src/door.rt:190:16
 add-base : tie.Need-add-base
 add-base c = search needs
 
--- src/door.rt:191:15
 add-set : tie.Need-add-set
 add-set c = search needs
 
--- src/door.rt:192:34
 add-copy : tie.Need-add-copy
 add-copy c = search needs
 
--- src/door.rt:192:18
 mul-copy : tie.Need-mul-copy
 mul-copy c = search needs
 
--- src/door.rt:192:18
 sub-copy : tie.Need-sub-copy
 sub-copy c = search needs
 
--- src/door.rt:192:18
 part-copy-start : tie.Need-part-copy-start
 part-copy-start c = search needs
 
--- src/door.rt:192:18
 part-copy-end : tie.Need-part-copy-end
 part-copy-end c = search needs
 
--- src/door.rt:192:5
 copy-requires : tie.Need-copy-requires
 copy-requires c κs = search needs
 
--- src/door.rt:193:33
 add-copy-2 : tie.Need-add-copy-2
 add-copy-2 c = search needs
 
--- src/door.rt:193:18
 mul-copy-2 : tie.Need-mul-copy-2
 mul-copy-2 c = search needs
 
--- src/door.rt:193:18
 sub-copy-2 : tie.Need-sub-copy-2
 sub-copy-2 c = search needs
 
--- src/door.rt:193:18
 part-copy-start-2 : tie.Need-part-copy-start-2
 part-copy-start-2 c = search needs
 
--- src/door.rt:193:18
 part-copy-end-2 : tie.Need-part-copy-end-2
 part-copy-end-2 c = search needs
 
--- src/door.rt:193:5
 copy-requires-2 : tie.Need-copy-requires-2
 copy-requires-2 c κs = search needs
 
--- src/door.rt:194:5
 build-requires : tie.Need-build-requires
 build-requires c κs =
     let d2 = c .before .before .before in
     let d1 = copied1 d2 in
     let g = at1 d1 in
     let a = g .args in
-    build-ready (a .owners .now) (a .offsets .now) (a .targets .now) (a .alpha) (a .within .now) (a .target .now) (a .result .now) (a .strategy .now) (a .work .now) (g .pre) (d1 .copy .last .1 .0) (d2 .copy2 .last .1 .0) (d1 .copy .ensures) (d2 .copy2 .ensures)
+    build-ready (a .owners .now) (a .offsets .now) (a .targets .now) (a .alpha) (a .within .now) (a .target .now) (a .result .now) (a .strategy .now)
+    (a .work .now) (g .pre) (d1 .copy .last .1 .0) (d2 .copy2 .last .1 .0) (d1 .copy .ensures) (d2 .copy2 .ensures)
 
--- src/door.rt:195:9
 attract-requires : tie.Need-attract-requires
 attract-requires c κs =
     let d3 = c .before .before .before in
@@ -159,29 +135,25 @@ attract-requires c κs =
     let d1 = copied1 d2 in
     let g = at1 d1 in
     let a = g .args in
-    attract-ready (a .owners .now) (a .offsets .now) (a .targets .now) (a .alpha) (a .within .now) (a .target .now) (a .result .now) (a .strategy .now) (a .work .now) (g .pre) (d1 .copy .last .1 .0) (d2 .copy2 .last .1 .0) (d1 .copy .ensures) (d2 .copy2 .ensures) (d3 .build .last .1 .1 .1 .0) (d3 .build .ensures)
+    attract-ready (a .owners .now) (a .offsets .now) (a .targets .now) (a .alpha) (a .within .now) (a .target .now) (a .result .now)
+    (a .strategy .now) (a .work .now) (g .pre) (d1 .copy .last .1 .0) (d2 .copy2 .last .1 .0) (d1 .copy .ensures) (d2 .copy2 .ensures)
+    (d3 .build .last .1 .1 .1 .0) (d3 .build .ensures)
 
--- src/door.rt:196:21
 add-copy-3 : tie.Need-add-copy-3
 add-copy-3 c = let d = found c in omega (arith, room d, long d, at4 d .good)
 
--- src/door.rt:196:10
 mul-copy-3 : tie.Need-mul-copy-3
 mul-copy-3 c = let d = found c in omega (arith, room d, long d, at4 d .good)
 
--- src/door.rt:196:10
 sub-copy-3 : tie.Need-sub-copy-3
 sub-copy-3 c = search needs
 
--- src/door.rt:196:10
 part-copy-start-3 : tie.Need-part-copy-start-3
 part-copy-start-3 c = search needs
 
--- src/door.rt:196:10
 part-copy-end-3 : tie.Need-part-copy-end-3
 part-copy-end-3 c = search needs
 
--- src/door.rt:196:5
 copy-requires-3 : tie.Need-copy-requires-3
 copy-requires-3 c κs =
     let d4 = found (c .before .before .before) in
@@ -190,49 +162,40 @@ copy-requires-3 c κs =
     let d1 = copied1 d2 in
     let g = at1 d1 in
     let a = g .args in
-    out-long (a .owners .now) (a .offsets .now) (a .targets .now) (a .alpha) (a .within .now) (a .target .now) (a .result .now) (a .strategy .now) (a .work .now) (g .pre) (d1 .copy .last .1 .0) (d2 .copy2 .last .1 .0) (d1 .copy .ensures) (d2 .copy2 .ensures) (d3 .build .last .1 .1 .1 .0) (d3 .build .ensures) (d4 .attract .last .1 .1 .1 .1 .0) (d4 .attract .result) (d4 .attract .ensures)
+    out-long (a .owners .now) (a .offsets .now) (a .targets .now) (a .alpha) (a .within .now) (a .target .now) (a .result .now) (a .strategy .now)
+    (a .work .now) (g .pre) (d1 .copy .last .1 .0) (d2 .copy2 .last .1 .0) (d1 .copy .ensures) (d2 .copy2 .ensures) (d3 .build .last .1 .1 .1 .0)
+    (d3 .build .ensures) (d4 .attract .last .1 .1 .1 .1 .0) (d4 .attract .result) (d4 .attract .ensures)
 
--- src/door.rt:197:54
 add-write-strategy : tie.Need-add-write-strategy
 add-write-strategy c = let d = found8 c in omega (arith, room d, long d, at4 d .good)
 
--- src/door.rt:197:43
 mul-write-strategy : tie.Need-mul-write-strategy
 mul-write-strategy c = let d = found8 c in omega (arith, room d, long d, at4 d .good)
 
--- src/door.rt:197:43
 sub-write-strategy : tie.Need-sub-write-strategy
 sub-write-strategy c = search needs
 
--- src/door.rt:197:43
 part-write-strategy-start : tie.Need-part-write-strategy-start
 part-write-strategy-start c = search needs
 
--- src/door.rt:197:43
 part-write-strategy-end : tie.Need-part-write-strategy-end
 part-write-strategy-end c = let d = found8 (c .before) in omega (arith, room d, long d, at4 d .good)
 
--- src/door.rt:197:79
 add-write-strategy-2 : tie.Need-add-write-strategy-2
 add-write-strategy-2 c = let d = found8 (c .before .before) in omega (arith, room d, long d, at4 d .good)
 
--- src/door.rt:197:64
 mul-write-strategy-2 : tie.Need-mul-write-strategy-2
 mul-write-strategy-2 c = let d = found8 (c .before .before) in omega (arith, room d, long d, at4 d .good)
 
--- src/door.rt:197:64
 sub-write-strategy-2 : tie.Need-sub-write-strategy-2
 sub-write-strategy-2 c = search needs
 
--- src/door.rt:197:64
 part-write-strategy-start-2 : tie.Need-part-write-strategy-start-2
 part-write-strategy-start-2 c = search needs
 
--- src/door.rt:197:64
 part-write-strategy-end-2 : tie.Need-part-write-strategy-end-2
 part-write-strategy-end-2 c = let d = found8 (c .before .before) in omega (arith, room d, long d, at4 d .good)
 
--- src/door.rt:197:5
 write-strategy-requires : tie.Need-write-strategy-requires
 write-strategy-requires c κs =
     let d4 = found8 (c .before .before .before .before) in
@@ -241,25 +204,22 @@ write-strategy-requires c κs =
     let d1 = copied1 d2 in
     let g = at1 d1 in
     let a = g .args in
-    enter-ready (a .owners .now) (a .offsets .now) (a .targets .now) (a .alpha) (a .within .now) (a .target .now) (a .result .now) (a .strategy .now) (a .work .now) (g .pre) (d1 .copy .last .1 .0) (d2 .copy2 .last .1 .0) (d1 .copy .ensures) (d2 .copy2 .ensures) (d3 .build .last .1 .1 .1 .0) (d3 .build .ensures) (d4 .attract .last .1 .1 .1 .1 .0) (d4 .attract .result) (d4 .attract .ensures)
+    enter-ready (a .owners .now) (a .offsets .now) (a .targets .now) (a .alpha) (a .within .now) (a .target .now) (a .result .now) (a .strategy .now)
+    (a .work .now) (g .pre) (d1 .copy .last .1 .0) (d2 .copy2 .last .1 .0) (d1 .copy .ensures) (d2 .copy2 .ensures) (d3 .build .last .1 .1 .1 .0)
+    (d3 .build .ensures) (d4 .attract .last .1 .1 .1 .1 .0) (d4 .attract .result) (d4 .attract .ensures)
 
--- src/door.rt:198:5
 clear-requires : tie.Need-clear-requires
 clear-requires c κs = search needs
 
--- src/door.rt:163:1
 same-length : tie.Need-same-length
 same-length c = search needs
 
--- src/door.rt:163:1
 same-length-2 : tie.Need-same-length-2
 same-length-2 c = search needs
 
--- src/door.rt:163:1
 same-length-3 : tie.Need-same-length-3
 same-length-3 c = ap length (c .before .before .clear .ensures) ∙ length-replicate _ 0 ∙ long (found10 c)
 
--- src/door.rt:163:1
 returns : tie.Need-returns
 returns c =
     let d4 = found10 c in
@@ -269,8 +229,11 @@ returns c =
     let g = at1 d1 in
     let a = g .args in (
       c .before .before .clear .ensures ∙ ap (λ (k : ℕ). replicate k 0) (long d4),
-      ran (a .owners .now) (a .offsets .now) (a .targets .now) (a .alpha) (a .within .now) (a .target .now) (a .result .now) (a .strategy .now) (a .work .now) (g .pre) (d1 .copy .last .1 .0) (d2 .copy2 .last .1 .0) (d1 .copy .ensures) (d2 .copy2 .ensures) (d3 .build .last .1 .1 .1 .0) (d3 .build .ensures) (d4 .attract .last .1 .1 .1 .1 .0) (d4 .attract .result) (d4 .attract .ensures)
-          (copied3 c .copy3 .last .1 .0) (written c .write-strategy .last .1 .1 .1 .1 .1 .0) (copied3 c .copy3 .ensures) (written c .write-strategy .ensures),
+      ran (a .owners .now) (a .offsets .now) (a .targets .now) (a .alpha) (a .within .now) (a .target .now) (a .result .now) (a .strategy .now)
+          (a .work .now) (g .pre) (d1 .copy .last .1 .0) (d2 .copy2 .last .1 .0) (d1 .copy .ensures) (d2 .copy2 .ensures) (d3 .build .last .1 .1 .1 .0)
+          (d3 .build .ensures) (d4 .attract .last .1 .1 .1 .1 .0) (d4 .attract .result) (d4 .attract .ensures)
+          (copied3 c .copy3 .last .1 .0) (written c .write-strategy .last .1 .1 .1 .1 .1 .0) (copied3 c .copy3 .ensures)
+          (written c .write-strategy .ensures),
     )
 
 pub run-spec : {M : Type 1} → statement M

@@ -10,9 +10,6 @@ use Rattle.attractor.specs.DoorLaws.{chosen-out, chosen-target, chosen-o
 use Rattle.attractor.specs.View.{ownBy}
 use Rattle.attractor.proofs.door.strategy_entry.Statement.{statement}
 use Rattle.attractor.proofs.door.strategy_entry.Tie as tie
-use Rattle.attractor.proofs.door.strategy_entry.Reads as reads
-use Rattle.attractor.proofs.door.strategy_entry.Lts as lts
-use Rattle.sets.proofs.contains.Reads as contains-reads
 
 -- where the function begins
 abbrev at1 : tie.After-contains → tie.Start
@@ -25,22 +22,18 @@ in-result c = sym (c .before .contains .ensures) ∙ not-false _ (c .if1 .left)
 out-target : (c : tie.Else2) → let a = at1 (c .before .before .before) .args in setOf (a .target .now) (a .v) ≡ false
 out-target c = sym (c .before .contains2 .ensures) ∙ c .if2 .left
 
--- src/door.rt:134:9
 contains-requires : tie.Need-contains-requires
 contains-requires c κs = search needs
 
--- src/door.rt:135:9
 returns : tie.Need-returns
 returns c =
     let a = at1 (c .before) .args in
     chosen-out (a .owners .now) (a .alpha) (a .target .now) (a .result .now) (a .entries .now) (a .v)
     (sym (c .before .contains .ensures) ∙ not-true _ (c .if1 .taken))
 
--- src/door.rt:137:8
 contains-requires-2 : tie.Need-contains-requires-2
 contains-requires-2 c κs = search needs
 
--- src/door.rt:138:9
 returns-2 : tie.Need-returns-2
 returns-2 c =
     let e = c .before .before in
@@ -48,11 +41,9 @@ returns-2 c =
     chosen-target (a .owners .now) (a .alpha) (a .target .now) (a .result .now) (a .entries .now) (a .v)
     (in-result e) (sym (c .before .contains2 .ensures) ∙ c .if2 .taken)
 
--- src/door.rt:140:8
 shared-slice-read-if3 : tie.Need-shared-slice-read-if3
 shared-slice-read-if3 c = search needs
 
--- src/door.rt:141:9
 returns-3 : tie.Need-returns-3
 returns-3 c =
     let d = c .before .before in
@@ -61,15 +52,12 @@ returns-3 c =
     chosen-other (a .owners .now) (a .alpha) (a .target .now) (a .result .now) (a .entries .now) (a .v)
     (in-result e) (out-target d) (ne-eqb _ _ (c .if3 .taken))
 
--- src/door.rt:143:5
 mul-result : tie.Need-mul-result
 mul-result c = search needs
 
--- src/door.rt:143:5
 shared-slice-read-result : tie.Need-shared-slice-read-result
 shared-slice-read-result c = search needs
 
--- src/door.rt:143:5
 cast-result : tie.Need-cast-result
 cast-result c =
     let d = c .before .before .before in
@@ -83,7 +71,6 @@ cast-result c =
           (in-result e) (out-target d) (eq-eqb _ _ (c .before .if3 .left))),
     )
 
--- src/door.rt:127:1
 returns-4 : tie.Need-returns-4
 returns-4 c =
     let d = c .before .before .before in

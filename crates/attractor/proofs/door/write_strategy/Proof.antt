@@ -9,9 +9,6 @@ use Rattle.attractor.specs.Door.{chosen}
 use Rattle.attractor.specs.DoorLaws.{stored-more}
 use Rattle.attractor.proofs.door.write_strategy.Statement.{statement}
 use Rattle.attractor.proofs.door.write_strategy.Tie as tie
-use Rattle.attractor.proofs.door.write_strategy.Reads as reads
-use Rattle.attractor.proofs.door.write_strategy.Lts as lts
-use Rattle.attractor.proofs.door.strategy_entry.Reads as strategy-entry-reads
 
 abbrev Inv-loop : tie.InvT-loop
 Inv-loop owners alpha target result entries strategy₀ v₀ v-end strategy v =
@@ -27,31 +24,24 @@ start-of c = c .before .before .before .before .before .before
 fits : (c : tie.In-loop Inv-loop μ-loop) → c .before .loop .v < length (c .before .loop .strategy)
 fits c = let g = start-of (c .before) in omega (arith, g .pre .each, c .before .loop .inv .1, c .loop-test .taken)
 
--- src/door.rt:157:5
 loop-holds : tie.Need-loop-holds Inv-loop μ-loop
 loop-holds c = (search needs, search needs, λ k l. absurd (not-suc-le-zero l))
 
--- src/door.rt:158:23
 strategy-entry-requires : tie.Need-strategy-entry-requires Inv-loop μ-loop
 strategy-entry-requires c κs = start-of (c .before) .pre .entered (c .before .loop .v) (c .loop-test .taken)
 
--- src/door.rt:158:9
 mul-strategy : tie.Need-mul-strategy Inv-loop μ-loop
 mul-strategy c = search needs
 
--- src/door.rt:158:9
 slice-write-strategy : tie.Need-slice-write-strategy Inv-loop μ-loop
 slice-write-strategy c = fits (c .before)
 
--- src/door.rt:157:9
 add-v : tie.Need-add-v Inv-loop μ-loop
 add-v c = search needs
 
--- src/door.rt:157:5
 loop-less : tie.Need-loop-less Inv-loop μ-loop
 loop-less c = search needs
 
--- src/door.rt:157:5
 loop-again : tie.Need-loop-again Inv-loop μ-loop
 loop-again c =
     let d = c .before in
@@ -64,11 +54,9 @@ loop-again c =
           (c .strategy-entry .result) (fits d) (c .strategy-entry .ensures) (l .inv .2),
     )
 
--- src/door.rt:149:1
 same-length : tie.Need-same-length Inv-loop μ-loop
 same-length c = c .before .loop .inv .1
 
--- src/door.rt:149:1
 returns : tie.Need-returns Inv-loop μ-loop
 returns c =
     let l = c .before .loop in

@@ -10,10 +10,6 @@ use Rattle.sets.specs.Walk.{left, Walks}
 use Rattle.attractor.specs.Filled.{FillingTo, filling-none, filling-all, filling-more, filling-shorter, part-few, place-fits}
 use Rattle.attractor.proofs.queue.fill_queue.Statement.{statement}
 use Rattle.attractor.proofs.queue.fill_queue.Tie as tie
-use Rattle.attractor.proofs.queue.fill_queue.Reads as reads
-use Rattle.attractor.proofs.queue.fill_queue.Lts as lts
-use Rattle.sets.proofs.members.Members.new.Reads as new-reads
-use Rattle.sets.proofs.members.Members.next.Reads as next-reads
 
 abbrev Inv-loop : tie.InvT-loop
 Inv-loop work₀ queue set s tail₀ walk₀ work tail walk = FillingTo queue set s work₀ walk work tail
@@ -54,58 +50,45 @@ fits c =
     let l = turn c .loop in
     place-fits (a .queue) (a .set) (a .s) (a .work .now) (g .pre) (l .walk) (l .work) (l .tail) (l .inv) (member c) (after c) (moved c)
 
--- src/queue.rt:13:44
 add-new : tie.Need-add-new Inv-loop μ-loop
 add-new c = search needs
 
--- src/queue.rt:13:33
 mul-new : tie.Need-mul-new Inv-loop μ-loop
 mul-new c = search needs
 
--- src/queue.rt:13:33
 sub-new : tie.Need-sub-new Inv-loop μ-loop
 sub-new c = search needs
 
--- src/queue.rt:13:33
 part-new-start : tie.Need-part-new-start Inv-loop μ-loop
 part-new-start c = search needs
 
--- src/queue.rt:13:33
 part-new-end : tie.Need-part-new-end Inv-loop μ-loop
 part-new-end c = search needs
 
--- src/queue.rt:13:9
 new-requires : tie.Need-new-requires Inv-loop μ-loop
 new-requires c κs = search needs
 
--- src/queue.rt:14:5
 loop-holds : tie.Need-loop-holds Inv-loop μ-loop
 loop-holds c =
     let g = c .before .before .before .before in
     let a = g .args in
     filling-none (a .queue) (a .set) (a .s) (a .work .now) (g .pre) (c .new .result) (c .new .ensures)
 
--- src/queue.rt:15:41
 add-next : tie.Need-add-next Inv-loop μ-loop
 add-next c = search needs
 
--- src/queue.rt:15:30
 mul-next : tie.Need-mul-next Inv-loop μ-loop
 mul-next c = search needs
 
--- src/queue.rt:15:30
 sub-next : tie.Need-sub-next Inv-loop μ-loop
 sub-next c = search needs
 
--- src/queue.rt:15:30
 part-next-start : tie.Need-part-next-start Inv-loop μ-loop
 part-next-start c = search needs
 
--- src/queue.rt:15:30
 part-next-end : tie.Need-part-next-end Inv-loop μ-loop
 part-next-end c = search needs
 
--- src/queue.rt:15:13
 next-requires : tie.Need-next-requires Inv-loop μ-loop
 next-requires c κs =
     let d = c .before .before in
@@ -114,19 +97,15 @@ next-requires c κs =
     let l = d .loop in
     (part-few (a .queue) (a .set) (a .s) (a .work .now) (g .pre) (l .walk) (l .work) (l .tail) (l .inv), l .inv .at)
 
--- src/queue.rt:16:26
 enum-known-next : tie.Need-enum-known-next Inv-loop μ-loop
 enum-known-next c = search needs
 
--- src/queue.rt:17:13
 enum-told : tie.Need-enum-told Inv-loop μ-loop
 enum-told c = search needs
 
--- src/queue.rt:17:13
 same-length : tie.Need-same-length Inv-loop μ-loop
 same-length c = search needs
 
--- src/queue.rt:17:13
 returns : tie.Need-returns Inv-loop μ-loop
 returns c =
     let d = c .before .before .before .before .before in
@@ -136,23 +115,18 @@ returns c =
     filling-all (a .queue) (a .set) (a .s) (a .work .now) (g .pre) (l .walk) (l .work) (l .tail) (l .inv)
     (subst (Walks (part d) (l .walk)) (c .enum-told .given .1) (c .before .before .next .ensures))
 
--- src/queue.rt:19:14
 add-work : tie.Need-add-work Inv-loop μ-loop
 add-work c = omega (arith, fits c, turn c .loop .inv .long, start-of (turn c) .good)
 
--- src/queue.rt:19:9
 mul-work : tie.Need-mul-work Inv-loop μ-loop
 mul-work c = omega (arith, fits c, turn c .loop .inv .long, start-of (turn c) .good)
 
--- src/queue.rt:19:9
 slice-write-work : tie.Need-slice-write-work Inv-loop μ-loop
 slice-write-work c = fits c
 
--- src/queue.rt:20:9
 add-tail : tie.Need-add-tail Inv-loop μ-loop
 add-tail c = omega (arith, fits c, turn c .loop .inv .long, start-of (turn c) .good)
 
--- src/queue.rt:14:5
 loop-less : tie.Need-loop-less Inv-loop μ-loop
 loop-less c =
     let g = start-of (turn c) in
@@ -160,7 +134,6 @@ loop-less c =
     let l = turn c .loop in
     filling-shorter (a .queue) (a .set) (a .s) (a .work .now) (g .pre) (l .walk) (l .work) (l .tail) (l .inv) (member c) (after c) (moved c)
 
--- src/queue.rt:14:5
 loop-again : tie.Need-loop-again Inv-loop μ-loop
 loop-again c =
     let g = start-of (turn c) in

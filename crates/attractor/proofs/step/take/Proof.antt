@@ -8,9 +8,6 @@ use Rattle.predecessors.specs.Table.{start}
 use Rattle.attractor.specs.TakeLoop.{Looking, looking-none, look-ready, looking-more, looking-all}
 use Rattle.attractor.proofs.step.take.Statement.{statement}
 use Rattle.attractor.proofs.step.take.Tie as tie
-use Rattle.attractor.proofs.step.take.Reads as reads
-use Rattle.attractor.proofs.step.take.Lts as lts
-use Rattle.attractor.proofs.step.touch.Reads as touch-reads
 
 abbrev Inv-loop : tie.InvT-loop
 Inv-loop owners m s alpha work₀ within set w tail n first last end₀ e₀ work end e =
@@ -23,50 +20,39 @@ abbrev μ-loop : tie.MeasureT-loop
 abbrev start-of : tie.At-loop Inv-loop μ-loop → tie.Start Inv-loop μ-loop
 start-of c = c .before .before .before .before .before
 
--- src/step.rt:65:17
 mul-first : tie.Need-mul-first Inv-loop μ-loop
 mul-first c = search needs
 
--- src/step.rt:65:17
 slice-read-first : tie.Need-slice-read-first Inv-loop μ-loop
 slice-read-first c = search needs
 
--- src/step.rt:66:21
 add-last : tie.Need-add-last Inv-loop μ-loop
 add-last c = search needs
 
--- src/step.rt:66:16
 mul-last : tie.Need-mul-last Inv-loop μ-loop
 mul-last c = search needs
 
--- src/step.rt:66:16
 slice-read-last : tie.Need-slice-read-last Inv-loop μ-loop
 slice-read-last c = search needs
 
--- src/step.rt:68:5
 loop-holds : tie.Need-loop-holds Inv-loop μ-loop
 loop-holds c =
     let g = c .before .before .before .before in
     let a = g .args in
     looking-none (a .owners .now) (a .m) (a .s) (a .alpha) (a .within) (a .set) (a .w) (a .tail) (a .work .now) (g .pre)
 
--- src/step.rt:69:22
 add-v : tie.Need-add-v Inv-loop μ-loop
 add-v c = search needs
 
--- src/step.rt:69:22
 add-v-2 : tie.Need-add-v-2 Inv-loop μ-loop
 add-v-2 c = search needs
 
--- src/step.rt:69:17
 mul-v : tie.Need-mul-v Inv-loop μ-loop
 mul-v c = search needs
 
--- src/step.rt:69:17
 slice-read-v : tie.Need-slice-read-v Inv-loop μ-loop
 slice-read-v c = search needs
 
--- src/step.rt:70:9
 touch-requires : tie.Need-touch-requires Inv-loop μ-loop
 touch-requires c κs =
     let d = c .before .before in
@@ -76,15 +62,12 @@ touch-requires c κs =
     look-ready (a .owners .now) (a .m) (a .s) (a .alpha) (a .within) (a .set) (a .w) (a .tail) (a .work .now) (g .pre)
     (l .e) (l .work) (l .end) (l .inv) (d .loop-test .taken)
 
--- src/step.rt:68:9
 add-e : tie.Need-add-e Inv-loop μ-loop
 add-e c = search needs
 
--- src/step.rt:68:5
 loop-less : tie.Need-loop-less Inv-loop μ-loop
 loop-less c = search needs
 
--- src/step.rt:68:5
 loop-again : tie.Need-loop-again Inv-loop μ-loop
 loop-again c =
     let t = c .before .before in
@@ -95,11 +78,9 @@ loop-again c =
     looking-more (a .owners .now) (a .m) (a .s) (a .alpha) (a .within) (a .set) (a .w) (a .tail) (a .work .now) (g .pre)
     (l .e) (l .work) (l .end) (l .inv) (d .loop-test .taken) _ (t .touch .result) (t .touch .ensures)
 
--- src/step.rt:60:1
 same-length : tie.Need-same-length Inv-loop μ-loop
 same-length c = c .before .loop .inv .becomes .kept .long
 
--- src/step.rt:60:1
 returns : tie.Need-returns Inv-loop μ-loop
 returns c =
     let g = start-of (c .before) in

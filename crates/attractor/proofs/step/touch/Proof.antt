@@ -11,13 +11,10 @@ use Rattle.rules.specs.Counting.{Set}
 use Rattle.attractor.specs.Area.{counters, entries, setAt}
 use Rattle.attractor.specs.State.{State, entered, counted, touched, touched-outside, touched-again, touched-entry, touched-last, touched-count}
 use Rattle.attractor.specs.View.{stateAt, ownBy, Becomes}
-use Rattle.attractor.specs.Views.{bit-fits, part-set, cells-at, becomes-same, becomes-then, becomes-as, placed-room, store-entry, store-counter, kept-room}
+use Rattle.attractor.specs.Views.{bit-fits, part-set, cells-at, becomes-same, becomes-then, becomes-as, placed-room, store-entry, store-counter}
+use Rattle.attractor.specs.Views.{kept-room}
 use Rattle.attractor.proofs.step.touch.Statement.{statement}
 use Rattle.attractor.proofs.step.touch.Tie as tie
-use Rattle.attractor.proofs.step.touch.Reads as reads
-use Rattle.attractor.proofs.step.touch.Lts as lts
-use Rattle.attractor.proofs.step.join.Reads as join-reads
-use Rattle.sets.proofs.contains.Reads as contains-reads
 
 -- the number of vertices, V, the own vertices and the state, where the function begins
 abbrev n : tie.Start → ℕ
@@ -114,37 +111,29 @@ is-counter c z =
     let g = at4 c in
     omega (arith, cells-at (n g) (counters (n g) (g .args .m)) (g .args .work .now) (g .args .v) (g .pre .safe .below))
 
--- src/step.rt:40:38
 add-contains : tie.Need-add-contains
 add-contains c = search needs
 
--- src/step.rt:40:24
 mul-contains : tie.Need-mul-contains
 mul-contains c = search needs
 
--- src/step.rt:40:24
 sub-contains : tie.Need-sub-contains
 sub-contains c = search needs
 
--- src/step.rt:40:24
 part-contains-start : tie.Need-part-contains-start
 part-contains-start c = search needs
 
--- src/step.rt:40:24
 part-contains-end : tie.Need-part-contains-end
 part-contains-end c = search needs
 
--- src/step.rt:40:9
 contains-requires : tie.Need-contains-requires
 contains-requires c κs =
     let g = c .before .before .before .before in
     bit-fits (n g) (g .args .s) (g .args .within) (g .args .v) (g .args .work .now) (g .pre .size) (g .pre .placed .within-high) (g .pre .safe .below)
 
--- src/step.rt:41:9
 same-length : tie.Need-same-length
 same-length c = search needs
 
--- src/step.rt:41:9
 returns : tie.Need-returns
 returns c =
     let g = at1 (c .before) in
@@ -153,37 +142,29 @@ returns c =
     (becomes-same (n g) (g .args .m) (g .args .set) (g .args .work .now) (g .args .tail))
     (touched-outside (inside g) (own g) (g .args .w) (g .args .v) (state g) (sym (is-inside (c .before)) ∙ not-true _ (c .if1 .taken)))
 
--- src/step.rt:43:34
 add-contains-2 : tie.Need-add-contains-2
 add-contains-2 c = search needs
 
--- src/step.rt:43:23
 mul-contains-2 : tie.Need-mul-contains-2
 mul-contains-2 c = search needs
 
--- src/step.rt:43:23
 sub-contains-2 : tie.Need-sub-contains-2
 sub-contains-2 c = search needs
 
--- src/step.rt:43:23
 part-contains-start-2 : tie.Need-part-contains-start-2
 part-contains-start-2 c = search needs
 
--- src/step.rt:43:23
 part-contains-end-2 : tie.Need-part-contains-end-2
 part-contains-end-2 c = search needs
 
--- src/step.rt:43:8
 contains-requires-2 : tie.Need-contains-requires-2
 contains-requires-2 c κs =
     let g = at1 (c .before .before .before) in
     bit-fits (n g) (g .args .s) (g .args .set) (g .args .v) (g .args .work .now) (g .pre .size) (g .pre .placed .set-high) (g .pre .safe .below)
 
--- src/step.rt:44:9
 same-length-2 : tie.Need-same-length-2
 same-length-2 c = search needs
 
--- src/step.rt:44:9
 returns-2 : tie.Need-returns-2
 returns-2 c =
     let g = at2 (c .before) in
@@ -193,39 +174,30 @@ returns-2 c =
     (touched-again (inside g) (own g) (g .args .w) (g .args .v) (state g) (passed1 (c .before .before .before .before))
     (sym (is-member (c .before)) ∙ c .if2 .taken))
 
--- src/step.rt:46:8
 shared-slice-read-if3 : tie.Need-shared-slice-read-if3
 shared-slice-read-if3 c = search needs
 
--- src/step.rt:47:14
 add-work : tie.Need-add-work
 add-work c = search needs
 
--- src/step.rt:47:14
 add-work-2 : tie.Need-add-work-2
 add-work-2 c = search needs
 
--- src/step.rt:47:14
 add-work-3 : tie.Need-add-work-3
 add-work-3 c = search needs
 
--- src/step.rt:47:14
 add-work-4 : tie.Need-add-work-4
 add-work-4 c = search needs
 
--- src/step.rt:47:14
 add-work-5 : tie.Need-add-work-5
 add-work-5 c = search needs
 
--- src/step.rt:47:9
 mul-work : tie.Need-mul-work
 mul-work c = search needs
 
--- src/step.rt:47:9
 slice-write-work : tie.Need-slice-write-work
 slice-write-work c = search needs
 
--- src/step.rt:48:9
 join-requires : tie.Need-join-requires
 join-requires c κs =
     let g = at3 (c .before .before) in
@@ -236,11 +208,9 @@ join-requires c κs =
       next = g .pre .safe .room (in3 (c .before .before)) (out3 (c .before .before));
     }
 
--- src/step.rt:48:9
 same-length-3 : tie.Need-same-length-3
 same-length-3 c = c .before .before .join .ensures .kept .long ∙ entry-given (c .before .before .before .before) .kept .long
 
--- src/step.rt:48:9
 returns-3 : tie.Need-returns-3
 returns-3 c =
     let d = c .before .before .before .before in
@@ -250,27 +220,21 @@ returns-3 c =
     (becomes-then (entry-given d) (c .before .before .join .ensures))
     (touched-entry (inside g) (own g) (g .args .w) (g .args .v) (state g) (in3 (d .before)) (out3 (d .before)) (mine d))
 
--- src/step.rt:50:21
 add-left : tie.Need-add-left
 add-left c = search needs
 
--- src/step.rt:50:21
 add-left-2 : tie.Need-add-left-2
 add-left-2 c = search needs
 
--- src/step.rt:50:21
 add-left-3 : tie.Need-add-left-3
 add-left-3 c = search needs
 
--- src/step.rt:50:16
 mul-left : tie.Need-mul-left
 mul-left c = search needs
 
--- src/step.rt:50:16
 slice-read-left : tie.Need-slice-read-left
 slice-read-left c = search needs
 
--- src/step.rt:50:16
 sub-left : tie.Need-sub-left
 sub-left c =
     let g = at4 c in
@@ -280,31 +244,24 @@ sub-left c =
       cells-at (n g) (counters (n g) (g .args .m)) (g .args .work .now) (g .args .v) (g .pre .safe .below),
     )
 
--- src/step.rt:51:10
 add-work-6 : tie.Need-add-work-6
 add-work-6 c = search needs
 
--- src/step.rt:51:10
 add-work-7 : tie.Need-add-work-7
 add-work-7 c = search needs
 
--- src/step.rt:51:10
 add-work-8 : tie.Need-add-work-8
 add-work-8 c = search needs
 
--- src/step.rt:51:5
 mul-work-2 : tie.Need-mul-work-2
 mul-work-2 c = search needs
 
--- src/step.rt:51:5
 slice-write-work-2 : tie.Need-slice-write-work-2
 slice-write-work-2 c = search needs
 
--- src/step.rt:53:9
 same-length-4 : tie.Need-same-length-4
 same-length-4 c = search needs
 
--- src/step.rt:53:9
 returns-4 : tie.Need-returns-4
 returns-4 c =
     let d = c .before in
@@ -315,7 +272,6 @@ returns-4 c =
     (touched-count (inside g) (own g) (g .args .w) (g .args .v) (state g) (in3 (d .before .before)) (out3 (d .before .before)) (theirs (d .before))
     (λ z. c .if4 .taken (counter-is d z)))
 
--- src/step.rt:55:5
 join-requires-2 : tie.Need-join-requires-2
 join-requires-2 c κs =
     let d = c .before .before in
@@ -327,11 +283,9 @@ join-requires-2 c κs =
       next = g .pre .safe .room (in3 (d .before .before)) (out3 (d .before .before));
     }
 
--- src/step.rt:19:1
 same-length-5 : tie.Need-same-length-5
 same-length-5 c = c .before .before .join2 .ensures .kept .long ∙ count-given (c .before .before .before .before .before) .kept .long
 
--- src/step.rt:19:1
 returns-5 : tie.Need-returns-5
 returns-5 c =
     let e = c .before .before .before .before in

@@ -14,12 +14,6 @@ use Rattle.attractor.specs.View.{Kept}
 use Rattle.attractor.specs.Views.{kept-then}
 use Rattle.attractor.proofs.whole.attract.Statement.{statement}
 use Rattle.attractor.proofs.whole.attract.Tie as tie
-use Rattle.attractor.proofs.whole.attract.Reads as reads
-use Rattle.attractor.proofs.whole.attract.Lts as lts
-use Rattle.attractor.proofs.counters.initialize_attractor_counters.Reads as initialize-attractor-counters-reads
-use Rattle.attractor.proofs.queue.fill_queue.Reads as fill-queue-reads
-use Rattle.attractor.proofs.step.take.Reads as take-reads
-use Rattle.parity_game.proofs.set_words.Reads as set-words-reads
 
 abbrev Inv-loop : tie.InvT-loop
 Inv-loop owners offsets targets alpha work₀ within set n m s queue tail₀ head₀ looks₀ work tail head looks =
@@ -105,7 +99,8 @@ fits c =
     let d = c in
     let a = start-of (d .before) .args in
     let l = d .before .loop in
-    place-fits (a .owners .now) (a .offsets .now) (a .targets .now) (a .alpha) (a .within) (a .set) (begin (d .before)) (given (d .before)) (l .head) (l .work) (l .tail) (l .looks) (l .inv) (d .loop-test .taken)
+    place-fits (a .owners .now) (a .offsets .now) (a .targets .now) (a .alpha) (a .within) (a .set) (begin (d .before)) (given (d .before)) (l .head)
+    (l .work) (l .tail) (l .looks) (l .inv) (d .loop-test .taken)
 
 starts :
     (c : tie.In-loop Inv-loop μ-loop) →
@@ -115,7 +110,8 @@ starts c =
     let d = c in
     let a = start-of (d .before) .args in
     let l = d .before .loop in
-    next-fits (a .owners .now) (a .offsets .now) (a .targets .now) (a .alpha) (a .within) (a .set) (begin (d .before)) (given (d .before)) (l .head) (l .work) (l .tail) (l .looks) (l .inv) (d .loop-test .taken)
+    next-fits (a .owners .now) (a .offsets .now) (a .targets .now) (a .alpha) (a .within) (a .set) (begin (d .before)) (given (d .before)) (l .head)
+    (l .work) (l .tail) (l .looks) (l .inv) (d .loop-test .taken)
 
 rises :
     (c : tie.In-loop Inv-loop μ-loop) →
@@ -125,7 +121,8 @@ rises c =
     let d = c in
     let a = start-of (d .before) .args in
     let l = d .before .loop in
-    row-rises (a .owners .now) (a .offsets .now) (a .targets .now) (a .alpha) (a .within) (a .set) (begin (d .before)) (given (d .before)) (l .head) (l .work) (l .tail) (l .looks) (l .inv) (d .loop-test .taken)
+    row-rises (a .owners .now) (a .offsets .now) (a .targets .now) (a .alpha) (a .within) (a .set) (begin (d .before)) (given (d .before)) (l .head)
+    (l .work) (l .tail) (l .looks) (l .inv) (d .loop-test .taken)
 
 few :
     (c : tie.In-loop Inv-loop μ-loop) →
@@ -135,25 +132,21 @@ few c =
     let d = c in
     let a = start-of (d .before) .args in
     let l = d .before .loop in
-    looks-few (a .owners .now) (a .offsets .now) (a .targets .now) (a .alpha) (a .within) (a .set) (begin (d .before)) (given (d .before)) (l .head) (l .work) (l .tail) (l .looks) (l .inv) (d .loop-test .taken)
+    looks-few (a .owners .now) (a .offsets .now) (a .targets .now) (a .alpha) (a .within) (a .set) (begin (d .before)) (given (d .before)) (l .head)
+    (l .work) (l .tail) (l .looks) (l .inv) (d .loop-test .taken)
 
--- src/whole.rt:25:9
 set-words-requires : tie.Need-set-words-requires Inv-loop μ-loop
 set-words-requires c κs = search needs
 
--- src/whole.rt:26:17
 add-queue : tie.Need-add-queue Inv-loop μ-loop
 add-queue c = search needs
 
--- src/whole.rt:26:17
 add-queue-2 : tie.Need-add-queue-2 Inv-loop μ-loop
 add-queue-2 c = search needs
 
--- src/whole.rt:26:17
 add-queue-3 : tie.Need-add-queue-3 Inv-loop μ-loop
 add-queue-3 c = search needs
 
--- src/whole.rt:27:5
 initialize-attractor-counters-requires :
     tie.Need-initialize-attractor-counters-requires Inv-loop μ-loop
 initialize-attractor-counters-requires c κs =
@@ -162,7 +155,6 @@ initialize-attractor-counters-requires c κs =
     count-ready (a .owners .now) (a .offsets .now) (a .targets .now) (a .alpha) (a .within) (a .set) (c .before .set-words .result) (a .work .now) (g .pre)
     (c .before .set-words .ensures)
 
--- src/whole.rt:28:9
 fill-queue-requires : tie.Need-fill-queue-requires Inv-loop μ-loop
 fill-queue-requires c κs =
     let i = c .before .before .before in
@@ -172,7 +164,6 @@ fill-queue-requires c κs =
     fill-ready (a .owners .now) (a .offsets .now) (a .targets .now) (a .alpha) (a .within) (a .set) (w .set-words .result) (a .work .now) (g .pre)
     (w .set-words .ensures) _ (i .initialize-attractor-counters .ensures)
 
--- src/whole.rt:31:5
 loop-holds : tie.Need-loop-holds Inv-loop μ-loop
 loop-holds c =
     let f = c .before .before in
@@ -183,60 +174,48 @@ loop-holds c =
     started (a .owners .now) (a .offsets .now) (a .targets .now) (a .alpha) (a .within) (a .set) (w .set-words .result) (a .work .now) (g .pre)
     (w .set-words .ensures) _ (i .initialize-attractor-counters .ensures) _ (f .fill-queue .result) (f .fill-queue .ensures)
 
--- src/whole.rt:32:22
 add-w : tie.Need-add-w Inv-loop μ-loop
 add-w c = omega (arith, fits c, long (c .before), start-of (c .before) .good)
 
--- src/whole.rt:32:17
 mul-w : tie.Need-mul-w Inv-loop μ-loop
 mul-w c = omega (arith, fits c, long (c .before), start-of (c .before) .good)
 
--- src/whole.rt:32:17
 slice-read-w : tie.Need-slice-read-w Inv-loop μ-loop
 slice-read-w c = fits (c .before)
 
--- src/whole.rt:33:23
 add-looks : tie.Need-add-looks Inv-loop μ-loop
 add-looks c = omega (arith, starts (c .before), long (c .before .before), start-of (c .before .before) .good)
 
--- src/whole.rt:33:18
 mul-looks : tie.Need-mul-looks Inv-loop μ-loop
 mul-looks c = omega (arith, starts (c .before), long (c .before .before), start-of (c .before .before) .good)
 
--- src/whole.rt:33:18
 slice-read-looks : tie.Need-slice-read-looks Inv-loop μ-loop
 slice-read-looks c = starts (c .before .before)
 
--- src/whole.rt:33:32
 mul-looks-2 : tie.Need-mul-looks-2 Inv-loop μ-loop
 mul-looks-2 c = omega (arith, starts (c .before .before), long (c .before .before .before), start-of (c .before .before .before) .good)
 
--- src/whole.rt:33:32
 slice-read-looks-2 : tie.Need-slice-read-looks-2 Inv-loop μ-loop
 slice-read-looks-2 c = omega (arith, starts (c .before .before .before))
 
--- src/whole.rt:33:18
 sub-looks : tie.Need-sub-looks Inv-loop μ-loop
 sub-looks c = rises (c .before .before .before)
 
--- src/whole.rt:33:9
 add-looks-2 : tie.Need-add-looks-2 Inv-loop μ-loop
 add-looks-2 c = omega (arith, few (c .before .before .before))
 
--- src/whole.rt:34:9
 take-requires : tie.Need-take-requires Inv-loop μ-loop
 take-requires c κs =
     let d = c .before .before .before .before in
     let a = start-of (d .before) .args in
     let l = d .before .loop in
-    take-ready (a .owners .now) (a .offsets .now) (a .targets .now) (a .alpha) (a .within) (a .set) (begin (d .before)) (given (d .before)) (l .head) (l .work) (l .tail) (l .looks) (l .inv) (d .loop-test .taken)
+    take-ready (a .owners .now) (a .offsets .now) (a .targets .now) (a .alpha) (a .within) (a .set) (begin (d .before)) (given (d .before)) (l .head)
+    (l .work) (l .tail) (l .looks) (l .inv) (d .loop-test .taken)
     (sized (d .before) .set-words .result) (sized (d .before) .set-words .ensures)
 
--- src/whole.rt:35:9
 add-head : tie.Need-add-head Inv-loop μ-loop
 add-head c = omega (arith, fits (turn c), long (turn c .before), start-of (turn c .before) .good)
 
--- src/whole.rt:31:5
 loop-less : tie.Need-loop-less Inv-loop μ-loop
 loop-less c =
     let d = turn c in
@@ -245,32 +224,33 @@ loop-less c =
     omega (
       arith,
       d .loop-test .taken,
-      tail-few (a .owners .now) (a .offsets .now) (a .targets .now) (a .alpha) (a .within) (a .set) (begin (d .before)) (given (d .before)) (l .head) (l .work) (l .tail) (l .looks) (l .inv),
+      tail-few (a .owners .now) (a .offsets .now) (a .targets .now) (a .alpha) (a .within) (a .set) (begin (d .before)) (given (d .before)) (l .head)
+          (l .work) (l .tail) (l .looks) (l .inv),
     )
 
--- src/whole.rt:31:5
 loop-again : tie.Need-loop-again Inv-loop μ-loop
 loop-again c =
     let d = turn c in
     let t = c .before .before in
     let a = start-of (d .before) .args in
     let l = d .before .loop in
-    running-more (a .owners .now) (a .offsets .now) (a .targets .now) (a .alpha) (a .within) (a .set) (begin (d .before)) (given (d .before)) (l .head) (l .work) (l .tail) (l .looks) (l .inv) (d .loop-test .taken)
+    running-more (a .owners .now) (a .offsets .now) (a .targets .now) (a .alpha) (a .within) (a .set) (begin (d .before)) (given (d .before))
+    (l .head) (l .work) (l .tail) (l .looks) (l .inv) (d .loop-test .taken)
     _ (t .take .result) (t .take .ensures)
 
--- src/whole.rt:12:1
 same-length : tie.Need-same-length Inv-loop μ-loop
 same-length c = long (c .before)
 
--- src/whole.rt:12:1
 returns : tie.Need-returns Inv-loop μ-loop
 returns c priorities ok =
     let d = c .before in
     let g = start-of d in
     let a = g .args in
     let l = d .loop in
-    running-all (a .owners .now) (a .offsets .now) (a .targets .now) (a .alpha) (a .within) (a .set) (a .work .now) (g .pre) (l .head) (l .work) (l .tail) (l .looks)
-    (running-moved (a .owners .now) (a .offsets .now) (a .targets .now) (a .alpha) (a .within) (a .set) (begin d) (a .work .now) (l .head) (l .work) (l .tail) (l .looks) (same-back (same d))
+    running-all (a .owners .now) (a .offsets .now) (a .targets .now) (a .alpha) (a .within) (a .set) (a .work .now) (g .pre) (l .head) (l .work)
+    (l .tail) (l .looks)
+    (running-moved (a .owners .now) (a .offsets .now) (a .targets .now) (a .alpha) (a .within) (a .set)
+    (begin d) (a .work .now) (l .head) (l .work) (l .tail) (l .looks) (same-back (same d))
     (kept-then (kept d) (l .inv .kept)) (l .inv))
     (c .loop-test .left) priorities ok
 
