@@ -1,10 +1,13 @@
 // The doors: every public function, exported for C and Rust. Each returns the number of document 01's table, 0 for
 // an answer, and writes place and count through the last two references. None has a `requires`.
 use parity_game::Answer;
+use parity_game::Player;
 ghost use mathlib.Core.Path.{_≡_};
+ghost use Rattle.rules.specs.Game.{playerOf};
 ghost use Rattle.rules.specs.Outcome.{outcome, answered};
 ghost use Rattle.rules.specs.Tables.{tableChecks};
 ghost use Rattle.parity_game.specs.Said.{said};
+ghost use Rattle.attractor.specs.Attracts.{Attracts};
 ghost use Rattle.compaction.specs.Compacts.{Compacts};
 ghost use Rattle.reckonbough.specs.Doors.{told};
 
@@ -68,6 +71,53 @@ pub extern "C" fn reckonbough_compact(
 {
     tell(
         compaction::compact(owners, priorities, offsets, targets, new_priorities),
+        place,
+        count,
+    )
+}
+
+#[no_mangle]
+pub extern "C" fn reckonbough_attractor(
+    owners: &[u8],
+    priorities: &[u16],
+    offsets: &[u16],
+    targets: &[u16],
+    player: u8,
+    within: &[u64],
+    target: &[u64],
+    result: &mut [u64],
+    strategy: &mut [u16],
+    work: &mut [u64],
+    place: &mut u64,
+    count: &mut u64,
+) -> u64
+    ensures { λ n.
+        ⌜ Attracts
+        (record {
+          owners = now (owners .entry);
+          priorities = now (priorities .entry);
+          offsets = now (offsets .entry);
+          targets = now (targets .entry);
+        })
+        (playerOf player) (now (within .entry)) (now (target .entry))
+        (record { result = now (result .entry); strategy = now (strategy .entry); work = now (work .entry) })
+        (record { result = now (result .exit); strategy = now (strategy .exit); work = now (work .exit) })
+        (told n (now (place .exit)) (now (count .exit))) ⌝ }
+{
+    let alpha = Player::from_index(player);
+    tell(
+        attractor::attractor(
+            owners,
+            priorities,
+            offsets,
+            targets,
+            alpha,
+            within,
+            target,
+            result,
+            strategy,
+            work,
+        ),
         place,
         count,
     )

@@ -1,0 +1,40 @@
+// C5's attractor run: the number, place and looks given back, then the set as a word and the two entries.
+use libc::STDOUT_FILENO;
+use parity_game::Player;
+
+fn put(n: u64) {
+    io::print_decimal(STDOUT_FILENO, n);
+    io::write_all(STDOUT_FILENO, b" ");
+}
+
+fn put_entry(w: u16) {
+    put(w as u64);
+}
+
+fn main() {
+    let mut result = [0u64; 1];
+    let mut strategy = [0u16; 2];
+    let mut work = [7u64; 318];
+    let r = attractor::attractor(
+        &[1, 0],
+        &[1, 2],
+        &[0, 2, 3],
+        &[1, 1, 1],
+        Player::Even,
+        &[3],
+        &[2],
+        &mut result,
+        &mut strategy,
+        &mut work,
+    );
+    io::write_all(STDOUT_FILENO, b"C5 ");
+    put(r.number());
+    put(r.place());
+    put(r.count());
+    put(result[0]);
+    put_entry(strategy[0]);
+    put_entry(strategy[1]);
+    put(work[0]);
+    put(work[317]);
+    io::write_all(STDOUT_FILENO, b"\n");
+}
