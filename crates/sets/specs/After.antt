@@ -4,7 +4,7 @@ use mathlib.Core.List.{List}
 use mathlib.Core.Logic.{_⊎_}
 use mathlib.Core.Path.{_≡_}
 use Prim.Native.Nat.{ℕ, _+_, _*_, _≤_, _<_}
-use lib.Dec.{eqb}
+use lib.Dec.{eqb, ltb}
 use lib.ListN.{length, getD, drop}
 use Rattle.rules.specs.Words.{bit}
 
@@ -24,3 +24,18 @@ pub record Combined (f : ℕ → ℕ → ℕ) (into from s : ℕ) (before after 
   pub long : length after ≡ length before
   pub bits : (v : ℕ) → v < 64 * s → bit (drop into after) v ≡ f (bit (drop into before) v) (bit (drop from before) v)
   pub rest : (i : ℕ) → (i < into) ⊎ (into + s ≤ i) → getD after i 0 ≡ getD before i 0
+
+-- the other part's bit: what a copy makes of two
+abbrev pub other : ℕ → ℕ → ℕ
+other x y = y
+
+-- the s words from `at` on are now 0, and every other word is as it was
+pub record Cleared (at s : ℕ) (before after : List ℕ) : Type 0 where
+  pub long : length after ≡ length before
+  pub zeros : (i : ℕ) → at ≤ i → i < at + s → getD after i 0 ≡ 0
+  pub rest : (i : ℕ) → (i < at) ⊎ (at + s ≤ i) → getD after i 0 ≡ getD before i 0
+
+-- every bit below n is now 1, and every other bit is as it was
+pub record Filled (n : ℕ) (before after : List ℕ) : Type 0 where
+  pub long : length after ≡ length before
+  pub bits : (u : ℕ) → bit after u ≡ cond (ltb u n) 1 (bit before u)

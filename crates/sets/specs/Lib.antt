@@ -8,3 +8,4 @@ pub mod Steps
 pub mod Walk
 pub mod Whole
 pub mod Wordwise
+pub mod Filling

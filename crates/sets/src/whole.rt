@@ -1,5 +1,6 @@
 // Whole sets, word by word. The binary operations stand on two parts of one slice, `into` and `from`, of `s` words
 // each: the solvers keep all their sets in one work area.
+use crate::bits::insert;
 ghost use mathlib.Core.Path.{_≡_};
 ghost use mathlib.Core.Bool.{not};
 ghost use Prim.Native.Nat.{_+_, _-_, _*_, _≤_, min, max};
@@ -7,7 +8,7 @@ ghost use lib.ListN.{length};
 ghost use lib.Dec.{eqb};
 ghost use Rattle.rules.specs.Counting.{some, every, count};
 ghost use Rattle.rules.specs.Words.{bit, setOf};
-ghost use Rattle.sets.specs.After.{Combined, Parts};
+ghost use Rattle.sets.specs.After.{Combined, Parts, Cleared, Filled, other};
 
 pub fn union_with(words: &mut [u64], into: usize, from: usize, s: usize)
     requires { ⌜ Parts into from s (now words) ⌝ }
@@ -33,6 +34,45 @@ pub fn difference_with(words: &mut [u64], into: usize, from: usize, s: usize)
 {
     for i in 0..s {
         words[into + i] &= !words[from + i];
+    }
+}
+
+pub fn copy_with(words: &mut [u64], into: usize, from: usize, s: usize)
+    requires { ⌜ Parts into from s (now words) ⌝ }
+    ensures { λ r. ⌜ Combined other into from s (now (words .entry)) (now (words .exit)) ⌝ }
+{
+    for i in 0..s {
+        words[into + i] = words[from + i];
+    }
+}
+
+// The s words from `at` on become 0.
+pub fn clear(words: &mut [u64], at: usize, s: usize)
+    requires { ⌜ at + s ≤ length (now words) ⌝ }
+    ensures { λ r. ⌜ Cleared at s (now (words .entry)) (now (words .exit)) ⌝ }
+{
+    for i in 0..s {
+        words[at + i] = 0;
+    }
+}
+
+// A set becomes another, of as many words.
+pub fn copy_from(set: &mut [u64], from: &[u64])
+    requires { ⌜ length (now set) ≡ length (now from) ⌝ }
+    ensures { λ r. ⌜ now (set .exit) ≡ now (from .entry) ⌝ }
+{
+    for i in 0..from.len() {
+        set[i] = from[i];
+    }
+}
+
+// The vertices below n come in.
+pub fn fill(set: &mut [u64], n: usize)
+    requires { ⌜ n ≤ 64 * length (now set) ⌝ }
+    ensures { λ r. ⌜ Filled n (now (set .entry)) (now (set .exit)) ⌝ }
+{
+    for v in 0..n {
+        insert(set, v);
     }
 }
 
