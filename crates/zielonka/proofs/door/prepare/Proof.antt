@@ -1,0 +1,55 @@
+-- `prepare` meets its contract.
+use native.Mathlib.Omega.{arith}
+use Rattle.zielonka.specs.Preparing.{fill-fits, prepared-full}
+use borrow.Author.Needs.{needs}
+use Rattle.zielonka.proofs.door.prepare.Statement.{statement}
+use Rattle.zielonka.proofs.door.prepare.Tie as tie
+
+build-requires : tie.Need-build-requires
+build-requires c κs =
+    let g = c .before .before .before .before in
+    let low = g .pre .low in
+    let high = g .pre .high in
+    record { edges = g .pre .edges; room = omega arith }
+
+clear-requires : tie.Need-clear-requires
+clear-requires c κs = omega (arith, c .before .before .before .before .before .before .before .before .pre .high, c .before .before .before .build .kept .1 .1 .1 .0)
+
+add-fill : tie.Need-add-fill
+add-fill c = search needs
+
+mul-fill : tie.Need-mul-fill
+mul-fill c = search needs
+
+sub-fill : tie.Need-sub-fill
+sub-fill c = search needs
+
+part-fill-start : tie.Need-part-fill-start
+part-fill-start c = search needs
+
+part-fill-end : tie.Need-part-fill-end
+part-fill-end c = search needs
+
+fill-requires : tie.Need-fill-requires
+fill-requires c κs = fill-fits (c .before .before .before .before .before .before .before .before .before .before .before .before .pre) (c .before .before .before .before .before .before .before .build .ensures) (c .before .before .before .clear .ensures)
+
+same-length : tie.Need-same-length
+same-length c = search needs
+
+returns : tie.Need-returns
+returns c = prepared-full (c .before .before .before .before .before .before .before .before .before .before .before .before .before .before .before .pre) (c .before .before .before .before .before .before .before .before .before .before .build .ensures) (c .before .before .before .before .before .before .clear .ensures) (c .before .before .fill .last .0) (c .before .before .fill .kept .0) (c .before .before .fill .ensures)
+
+pub prepare-spec : {M : Type 1} → statement M
+prepare-spec =
+    tie.close
+    (tie.spec
+    build-requires
+    clear-requires
+    add-fill
+    mul-fill
+    sub-fill
+    part-fill-start
+    part-fill-end
+    fill-requires
+    same-length
+    returns)

@@ -1,0 +1,65 @@
+-- `cut` meets its contract: what was drawn, copied and taken away is a cut.
+use native.Mathlib.Omega.{arith}
+use mathlib.Core.Logic.{inl, inr}
+use Rattle.zielonka.specs.PiecesHold.{cut-attractable, cut-done}
+use borrow.Author.Needs.{needs}
+use Rattle.zielonka.proofs.level.cut.Statement.{statement}
+use Rattle.zielonka.proofs.level.cut.Tie as tie
+
+add-attract : tie.Need-add-attract
+add-attract c = search needs
+
+attract-requires : tie.Need-attract-requires
+attract-requires c κs = cut-attractable (c .before .before .before .before .before .pre)
+
+mul-copy-with : tie.Need-mul-copy-with
+mul-copy-with c = search needs
+
+add-copy-with : tie.Need-add-copy-with
+add-copy-with c = search needs
+
+copy-with-requires : tie.Need-copy-with-requires
+copy-with-requires c κs =
+    let high = c .before .before .before .before .before .before .before .before .before .pre .ready .high in
+    let long = c .before .before .before .attract .kept .1 .1 .1 .1 .0 in
+    record { into-fits = omega arith; from-fits = omega arith; apart = inr (omega arith) }
+
+mul-difference-with : tie.Need-mul-difference-with
+mul-difference-with c = search needs
+
+add-difference-with : tie.Need-add-difference-with
+add-difference-with c = search needs
+
+add-difference-with-2 : tie.Need-add-difference-with-2
+add-difference-with-2 c = search needs
+
+difference-with-requires : tie.Need-difference-with-requires
+difference-with-requires c κs =
+    let high = c .before .before .before .before .before .before .before .before .before .before .before .before .before .pre .ready .high in
+    let long = c .before .before .before .before .before .before .before .attract .kept .1 .1 .1 .1 .0 in
+    let long′ = c .before .before .before .copy-with .kept .0 in
+    record { into-fits = omega arith; from-fits = omega arith; apart = inr (omega arith) }
+
+same-length : tie.Need-same-length
+same-length c = search needs
+
+returns : tie.Need-returns
+returns c =
+    λ priorities ok.
+    cut-done (c .before .before .before .before .before .before .before .before .before .before .before .before .before .before .before .before .pre) priorities ok (c .before .before .before .before .before .before .before .before .before .before .attract .ensures priorities ok) (c .before .before .before .before .before .before .copy-with .ensures) (c .before .before .difference-with .ensures)
+
+pub cut-spec : {M : Type 1} → statement M
+cut-spec =
+    tie.close
+    (tie.spec
+    add-attract
+    attract-requires
+    mul-copy-with
+    add-copy-with
+    copy-with-requires
+    mul-difference-with
+    add-difference-with
+    add-difference-with-2
+    difference-with-requires
+    same-length
+    returns)

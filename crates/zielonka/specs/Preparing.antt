@@ -1,0 +1,71 @@
+-- The first level is made ready: the predecessor table is listed, and the set of all vertices stands at the base.
+use mathlib.Core.Bool.{Bool, true, false, cond}
+use mathlib.Core.List.{List}
+use mathlib.Core.Logic.{_⊎_, inl, inr}
+use mathlib.Core.Path.{_≡_, refl, sym, ap, _∙_}
+use Prim.Native.Nat.{ℕ, _+_, _-_, _*_, _≤_, _<_}
+use native.Mathlib.Omega.{arith}
+use lib.Dec.{eqb, ltb}
+use lib.ListN.{length, getD, take, drop}
+use Rattle.rules.specs.Tables.{words}
+use Rattle.rules.specs.Words.{bit, setOf}
+use Rattle.sets.specs.After.{Cleared, Filled}
+use Rattle.sets.specs.Laws.{other-bit}
+use Rattle.predecessors.specs.Table.{Predecessors}
+use Rattle.attractor.specs.Area.{free, setAt, wordsAt}
+use Rattle.attractor.specs.Running.{listed-kept}
+use Rattle.attractor.specs.Runs.{built-listed}
+use Rattle.attractor.specs.Views.{part-is, part-length, back, back-long, back-front, back-part}
+use Rattle.zielonka.specs.SetsAt.{set-cleared}
+use Rattle.zielonka.specs.Walking.{lent-part}
+use Rattle.zielonka.specs.Door.{Preparable, Prepared}
+
+-- a digit that is 1 where a test holds, and else 0, is the test
+test-digit : (t : Bool) → eqb (cond t 1 0) 1 ≡ t
+test-digit true = refl
+test-digit false = refl
+
+module _ {n : ℕ} {offsets targets : List ℕ} {s base : ℕ} {w₀ w₁ w₂ : List ℕ}
+    (ready : Preparable n offsets targets s base w₀)
+    (built : Predecessors n offsets targets w₀ w₁)
+    (cleared : Cleared base s w₁ w₂)
+  where
+    fits : base + s ≤ length w₂
+    fits = omega (arith, ready .high, built .long, cleared .long)
+
+    -- what `fill` asks for
+    pub fill-fits : n ≤ 64 * length (take ((base + s) - base) (drop base w₂))
+    unfolding words
+    fill-fits = omega (arith, ready .size, ap length (part-is base s w₂), part-length base s w₂ fits)
+
+    pub prepared-full :
+        (ys : List ℕ) →
+        length ys ≡ length (take ((base + s) - base) (drop base w₂)) →
+        Filled n (take ((base + s) - base) (drop base w₂)) ys →
+        Prepared n offsets targets base w₀ (back base s w₂ ys)
+    unfolding setOf
+    prepared-full ys long filled =
+        record {
+          long = back-long base s w₂ ys fits as-long ∙ cleared .long ∙ built .long;
+          listed =
+              listed-kept n offsets targets w₁ (back base s w₂ ys) (back-long base s w₂ ys fits as-long ∙ cleared .long)
+              (λ i l. back-front base s w₂ ys fits as-long i (omega (arith, ready .low)) ∙ cleared .rest i (inl (omega (arith, ready .low))))
+              (built-listed n offsets targets w₀ w₁ built);
+          full =
+              λ v.
+              ap (λ (xs : List ℕ). eqb (bit xs v) 1) part ∙
+              ap (λ (x : ℕ). eqb x 1) (filled .bits v ∙ ap (λ (x : ℕ). cond (ltb v n) 1 x) (nothing v)) ∙
+              test-digit (ltb v n);
+        }
+      where
+        as-long : length ys ≡ s
+        as-long = long ∙ ap length (part-is base s w₂) ∙ part-length base s w₂ fits
+
+        part : wordsAt n base (back base s w₂ ys) ≡ ys
+        part =
+            ap (λ (k : ℕ). take k (drop base (back base s w₂ ys))) (sym (ready .size)) ∙ back-part base s w₂ ys fits as-long
+
+        nothing : (v : ℕ) → bit (take ((base + s) - base) (drop base w₂)) v ≡ 0
+        nothing v =
+            ap (λ (xs : List ℕ). bit xs v) (lent-part n s base w₂ (ready .size)) ∙
+            other-bit (wordsAt n base w₂) v (set-cleared n base s base cleared (omega arith) (omega (arith, ready .size)) v)

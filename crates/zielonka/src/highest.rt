@@ -1,0 +1,96 @@
+// The highest priority in V, the vertices that have it, and an edge inside V for each of them.
+use parity_game::Priority;
+use sets::Members;
+use sets::Next;
+ghost use mathlib.Core.Path.{_≡_};
+ghost use Prim.Native.Nat.{_*_, _≤_};
+ghost use lib.ListN.{length};
+ghost use Rattle.rules.specs.Words.{setOf};
+ghost use Rattle.zielonka.specs.Parts.{highestOf, Collects, Collected, Inside, Ends};
+ghost use Rattle.zielonka.specs.Level.{tablesOf};
+ghost use Rattle.zielonka.specs.Extending.{Extends, Extended};
+
+// Tests vertex by vertex.
+pub fn get_highest_prio(priorities: &[u16], set: &[u64]) -> Priority
+    requires { ⌜ length (now priorities) ≤ 64 * length (now set) ⌝ }
+    ensures { λ r. ⌜ r .0 ≡ highestOf (now (priorities .entry)) (setOf (now (set .entry))) ⌝ }
+{
+    let mut highest: u16 = 0;
+    for v in 0..priorities.len() {
+        if sets::contains(set, v) {
+            if highest < priorities[v] {
+                highest = priorities[v];
+            }
+        }
+    }
+    Priority(highest as usize)
+}
+
+// U: the members of V with priority p, found by words.
+pub fn collect(priorities: &[u16], p: usize, s: usize, work: &mut [u64], within: usize, into: usize)
+    requires { ⌜ Collects (length (now priorities)) s within into (now work) ⌝ }
+    ensures { λ r. ⌜ Collected (now (priorities .entry)) p within into (now (work .entry)) (now (work .exit)) ⌝ }
+{
+    let mut walk = Members::new(&work[within..within + s]);
+    loop {
+        let next = walk.next(&work[within..within + s]);
+        let Next::Member(member, rest) = next else {
+            return;
+        };
+        let v = member.0;
+        if priorities[v] as usize == p {
+            sets::insert(&mut work[into..into + s], v);
+        }
+        walk = rest;
+    }
+}
+
+// The end of the first edge of v that ends inside the set.
+fn first_inside(offsets: &[u16], targets: &[u16], v: usize, set: &[u64]) -> u16
+    requires { ⌜ Inside (now offsets) (now targets) v (now set) ⌝ }
+    ensures { λ r. ⌜ Ends (now (offsets .entry)) (now (targets .entry)) v (now (set .entry)) r ⌝ }
+{
+    for e in offsets[v]..offsets[v + 1] {
+        let w = targets[e as usize];
+        if sets::contains(set, w as usize) {
+            return w;
+        }
+    }
+    0
+}
+
+// Each vertex of V of priority p that p's player owns takes an edge inside V, found by words.
+pub fn extend_arbitrary(
+    owners: &[u8],
+    priorities: &[u16],
+    offsets: &[u16],
+    targets: &[u16],
+    p: usize,
+    s: usize,
+    work: &mut [u64],
+    base: usize,
+)
+    requires { ⌜ Extends (tablesOf (now owners) (now priorities) (now offsets) (now targets)) s base (now work) ⌝ }
+    ensures { λ r.
+        ⌜ Extended
+        (tablesOf (now (owners .entry)) (now (priorities .entry)) (now (offsets .entry)) (now (targets .entry)))
+        p base (now (work .entry)) (now (work .exit)) ⌝ }
+{
+    let n = owners.len();
+    let m = targets.len();
+    let mut walk = Members::new(&work[base..base + s]);
+    loop {
+        let next = walk.next(&work[base..base + s]);
+        let Next::Member(member, rest) = next else {
+            return;
+        };
+        let v = member.0;
+        if priorities[v] as usize == p {
+            if owners[v] as usize == p % 2 {
+                let w = first_inside(offsets, targets, v, &work[base..base + s]);
+                work[n + 1 + m + n + n + v] = w as u64;
+            }
+        }
+        walk = rest;
+    }
+}

@@ -1,0 +1,74 @@
+// One call on the set V at `base`, its sets at its own level, the calls below it one level up.
+use crate::highest::get_highest_prio;
+use crate::level::attract_highest;
+use crate::level::attract_lost;
+use crate::level::join;
+use crate::level::lost_nothing;
+use crate::level::win_everything;
+ghost use Rattle.zielonka.specs.Level.{tablesOf, Called, Ends};
+
+// The calls made so far, or that more are needed than the budget allows.
+pub enum Ran {
+    Calls(u64),
+    OverBudget,
+}
+
+pub fn zielonka_rec(
+    owners: &[u8],
+    priorities: &[u16],
+    offsets: &[u16],
+    targets: &[u16],
+    work: &mut [u64],
+    base: usize,
+    calls: u64,
+    budget: u64,
+) -> Ran
+    requires { ⌜ Called (tablesOf (now owners) (now priorities) (now offsets) (now targets)) base (now work) ⌝ }
+    ensures { λ r.
+        ⌜ Ends (tablesOf (now (owners .entry)) (now (priorities .entry)) (now (offsets .entry)) (now (targets .entry))) base calls budget
+        (now (work .entry)) (now (work .exit)) r ⌝ }
+{
+    if budget <= calls {
+        return Ran::OverBudget;
+    }
+    let s = parity_game::set_words(owners.len());
+    if sets::is_empty(&work[base..base + s]) {
+        sets::clear(work, base + 2 * s, 2 * s);
+        return Ran::Calls(calls + 1);
+    }
+    let p = get_highest_prio(priorities, &work[base..base + s]).0;
+    attract_highest(owners, priorities, offsets, targets, p, s, work, base);
+    let first = zielonka_rec(
+        owners,
+        priorities,
+        offsets,
+        targets,
+        work,
+        base + 4 * s,
+        calls + 1,
+        budget,
+    );
+    let Ran::Calls(made) = first else {
+        return Ran::OverBudget;
+    };
+    if lost_nothing(p, s, work, base + 4 * s) {
+        win_everything(owners, priorities, offsets, targets, p, s, work, base);
+        return Ran::Calls(made);
+    }
+    attract_lost(owners, offsets, targets, p, s, work, base);
+    let second = zielonka_rec(
+        owners,
+        priorities,
+        offsets,
+        targets,
+        work,
+        base + 4 * s,
+        made,
+        budget,
+    );
+    let Ran::Calls(all) = second else {
+        return Ran::OverBudget;
+    };
+    join(p, s, work, base);
+    Ran::Calls(all)
+}
