@@ -14,3 +14,4 @@ pub mod Door
 pub mod DoorLaws
 pub mod Preparing
 pub mod Solving
+pub mod Promises
