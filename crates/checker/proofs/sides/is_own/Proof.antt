@@ -1,0 +1,39 @@
+-- `is_own` meets its contract.
+use mathlib.Core.Path.{_≡_, sym, _∙_}
+use Rattle.checker.specs.Sides.{own-even, own-odd}
+use native.Mathlib.Omega.{arith}
+use borrow.Author.Needs.{needs}
+use Rattle.checker.proofs.sides.is_own.Statement.{statement}
+use Rattle.checker.proofs.sides.is_own.Tie as tie
+use Rattle.checker.proofs.sides.is_own.Reads as reads
+use Rattle.checker.proofs.sides.is_own.Lts as lts
+use Rattle.sets.proofs.contains.Reads as contains-reads
+
+contains-requires : tie.Need-contains-requires
+contains-requires c κs = search needs
+
+shared-slice-read-result : tie.Need-shared-slice-read-result
+shared-slice-read-result c = search needs
+
+returns : tie.Need-returns
+returns c =
+    let a = c .before .before .before .before .before .args in
+    own-even (a .owners .now) (a .even .now) (a .v) (sym (c .before .before .contains .ensures) ∙ c .before .if1 .taken)
+
+shared-slice-read-result-2 : tie.Need-shared-slice-read-result-2
+shared-slice-read-result-2 c = search needs
+
+returns-2 : tie.Need-returns-2
+returns-2 c =
+    let a = c .before .before .before .before .before .args in
+    own-odd (a .owners .now) (a .even .now) (a .v) (sym (c .before .before .contains .ensures) ∙ c .before .if1 .left)
+
+pub is-own-spec : {M : Type 1} → statement M
+is-own-spec =
+    tie.close
+    (tie.spec
+    contains-requires
+    shared-slice-read-result
+    returns
+    shared-slice-read-result-2
+    returns-2)

@@ -1,0 +1,408 @@
+-- What the checker promises for every input: the outcome by the refusals 1 to 10 and the kinds 21 to 24, and the work area, which is
+-- untouched after a refusal and else cleared.
+use mathlib.Core.Bool.{Bool, true, false, _&&_, not, cond}
+use mathlib.Core.List.{List, [], _∷_, _++_}
+use mathlib.Core.Logic.{_⊎_, inl, inr, ⊎-elim}
+use mathlib.Core.Path.{_≡_, refl, sym, ap, ap₂, subst, fun-ext, _∙_}
+use Prim.Native.Nat.{ℕ, zero, suc, _+_, _-_, _*_, _/_, _%_, _≤_, _<_}
+use native.Mathlib.Nat.{mul-suc}
+use native.Mathlib.Omega.{arith}
+use borrow.Author.Tests.{eqb-true, eq-eqb, ne-eqb, lt-ltb}
+use lib.Dec.{eqb}
+use lib.ListN.{length, getD, drop, replicate, length-append, length-drop, length-replicate, getD-replicate, List·getD-append}
+use lib.Seq.{ext-getD, getD-drop, getD-append-add}
+use Rattle.rules.specs.Counting.{Set, some}
+use Rattle.rules.specs.Game.{Player, Even, Odd, playerOf, parity, same, everywhere}
+use Rattle.rules.specs.Outcome.{Outcome, Verdict, none, refused, outcome, answered, givenAt, _then_}
+use Rattle.rules.specs.Tables.{Tables, vertices, edgesIn, words, workWords, gameOf, Accepted, tableChecks, check9, check10}
+use Rattle.rules.specs.Words.{setOf, entry, noEntry}
+use Rattle.rules.specs.Zielonka.{highestIn}
+use Rattle.rules.specs.Solver.{cleared}
+use Rattle.rules.specs.Checker.{winnerOf, check21, check22, check23, check24, certificateChecks}
+use Rattle.theory.specs.Basics.{bool-cases, bool-ext, clash, and-intro, and-left, and-right, some-intro, some-elim, lt-or-ge, same-true}
+use Rattle.theory.specs.Checker.{after22}
+use Rattle.theory.specs.Chosen.{chosenPart, check24-chosen, givenAt-cong}
+use Rattle.theory.specs.Dominion.{owner-cases}
+use Rattle.theory.specs.Greatest.{greatest-le}
+use Rattle.theory.specs.Tables.{accepted-total, accepted-priority}
+use Rattle.parity_game.specs.Laws.{accepted-sound, outcome-pass, then-assoc, then-none, check9-set, check9-set-none, check9-table-none, check10-none}
+use Rattle.parity_game.specs.Laws.{Numbered, numbered-givenAt, numbered-then, numbered-tables, numbered-check9, numbered-check10}
+use Rattle.predecessors.specs.Whole.{accepted-edges}
+use Rattle.parts.specs.Area.{behind, Cleared, marked, true-marked, false-marked, marked-true}
+use Rattle.checker.specs.Sides.{Sets, Given, Sided, ownBy, sideOf, wrongEntry, leavesSet, entry-is}
+use Rattle.checker.specs.Cycles.{losingAt, Scannable, MarksReady, CyclesMarked}
+
+-- 1 to 10
+abbrev pub refusals : Tables → ℕ → ℕ → ℕ → ℕ → Verdict
+refusals t even odd strategy work =
+    tableChecks t then
+    check9 (vertices t) (even ∷ odd ∷ []) (strategy ∷ []) then
+    check10 (vertices t) (edgesIn t) work
+
+-- the work area: as it was after a refusal, else cleared
+abbrev pub leftBy : Verdict → Tables → List ℕ → List ℕ
+leftBy none t before = cleared t before
+leftBy (refused k p) t before = before
+
+pub record Checks (t : Tables) (even odd strategy before after : List ℕ) (o : Outcome) : Type 0 where
+  pub gives :
+      o ≡
+      outcome
+      (refusals t (length even) (length odd) (length strategy) (length before) then certificateChecks (gameOf t) even odd strategy)
+      (answered 0)
+  pub work : after ≡ leftBy (refusals t (length even) (length odd) (length strategy) (length before)) t before
+
+pub record CyclesReady (t : Tables) (even strategy work : List ℕ) : Type 0 where
+  pub accepted : Accepted t
+  pub sets : vertices t ≤ 64 * length even
+  pub ok22 : check22 (gameOf t) even strategy ≡ none
+  pub ok23 : check23 (gameOf t) even strategy ≡ none
+  pub room : workWords (vertices t) (edgesIn t) ≤ length work
+
+pub record CyclesTold (t : Tables) (even strategy before after : List ℕ) (o : Outcome) : Type 0 where
+  pub gives : o ≡ outcome (check24 (gameOf t) even strategy) (answered 0)
+  pub long : length after ≡ length before
+  pub beyond : (i : ℕ) → workWords (vertices t) (edgesIn t) ≤ i → getD after i 0 ≡ getD before i 0
+
+pub record Certifiable (t : Tables) (even odd strategy work : List ℕ) : Type 0 where
+  pub accepted : Accepted t
+  pub even-long : length even ≡ words (vertices t)
+  pub odd-long : length odd ≡ words (vertices t)
+  pub strategy-long : length strategy ≡ vertices t
+  pub room : workWords (vertices t) (edgesIn t) ≤ length work
+
+pub record Certifies (t : Tables) (even odd strategy before after : List ℕ) (o : Outcome) : Type 0 where
+  pub gives : o ≡ outcome (certificateChecks (gameOf t) even odd strategy) (answered 0)
+  pub long : length after ≡ length before
+  pub beyond : (i : ℕ) → workWords (vertices t) (edgesIn t) ≤ i → getD after i 0 ≡ getD before i 0
+
+-- ---- 24
+
+-- the words that the search for cycles uses are within W
+rows-fit : (n m : ℕ) → behind n m + n + n ≤ workWords n m
+unfolding workWords words
+rows-fit zero m = omega arith
+rows-fit (suc n) m = go ((suc n + 63) / 64) (omega arith)
+  where
+    go : (s : ℕ) → 0 < s → behind (suc n) m + suc n + suc n ≤ 8 * (suc n + 2) * s + 4 * suc n + 2 * m + 272
+    go zero l = absurd (omega arith)
+    go (suc s) l = rw (mul-suc (8 * (suc n + 2)) s) (omega arith)
+
+-- a priority below 256 of one parity is 2 j + q
+parity-some : (q : ℕ) (f : Set) → q ≤ 1 → some 128 (λ j. f (2 * j + q)) ≡ some 256 (λ p. eqb (p % 2) q && f p)
+parity-some q f l =
+    bool-ext (some 128 (λ j. f (2 * j + q))) (some 256 (λ p. eqb (p % 2) q && f p))
+    (λ e.
+    let (j, k, h) = some-elim 128 (λ j. f (2 * j + q)) e in
+    let is : (2 * j + q) % 2 ≡ q = omega arith in
+    some-intro 256 (λ p. eqb (p % 2) q && f p) (2 * j + q) (omega arith) (and-intro (eq-eqb ((2 * j + q) % 2) q is) h))
+    (λ e.
+    let (p, k, h) = some-elim 256 (λ p. eqb (p % 2) q && f p) e in
+    let is = eqb-true (p % 2) q (and-left (eqb (p % 2) q) (f p) h) in
+    let at : 2 * (p / 2) + q ≡ p = omega arith in
+    some-intro 128 (λ j. f (2 * j + q)) (p / 2) (omega arith) (ap f at ∙ and-right (eqb (p % 2) q) (f p) h))
+
+other-of-even : (p : ℕ) → eqb (p % 2) 1 ≡ not (same (parity p) Even)
+other-of-even p = go (p % 2) (omega arith)
+  where
+    go : (x : ℕ) → x < 2 → eqb x 1 ≡ not (same (playerOf x) Even)
+    go zero l = refl
+    go (suc zero) l = refl
+    go (suc (suc x)) l = absurd (omega arith)
+
+other-of-odd : (p : ℕ) → eqb (p % 2) 0 ≡ not (same (parity p) Odd)
+other-of-odd p = go (p % 2) (omega arith)
+  where
+    go : (x : ℕ) → x < 2 → eqb x 0 ≡ not (same (playerOf x) Odd)
+    go zero l = refl
+    go (suc x) l = ne-eqb (suc x) 0 (λ e. omega arith)
+
+-- a word of a row that is not 0
+word-marked : (n base v : ℕ) (work : List ℕ) → v < n → not (eqb (getD work (base + v) 0) 0) ≡ marked n base work v
+unfolding marked
+word-marked n base v work l = rw (lt-ltb v n l)
+
+module _ (t : Tables) (even strategy before : List ℕ) (given : CyclesReady t even strategy before) where
+  abbrev n : ℕ
+  n = vertices t
+
+  abbrev m : ℕ
+  m = edgesIn t
+
+  each : length (t .priorities) ≡ n
+  each = accepted-sound t (given .accepted) .priority-each
+
+  fits : behind (length (t .priorities)) m + length (t .priorities) + length (t .priorities) ≤ workWords n m
+  fits = rw each (rows-fit n m)
+
+  pub cycles-ready : MarksReady (t .owners) (t .priorities) (t .offsets) (t .targets) strategy before
+  unfolding gameOf
+  cycles-ready =
+      record {
+        accepted = given .accepted;
+        entries =
+            λ v l d.
+            ⊎-elim
+            (λ mine. after22 (gameOf t) even strategy (given .ok22) .0 v l mine)
+            (λ theirs. absurd (d (after22 (gameOf t) even strategy (given .ok22) .1 v l theirs)))
+            (owner-cases (gameOf t) (winnerOf even v) v);
+        room = omega (arith, fits, given .room);
+      }
+
+  module _ (after : List ℕ) (done : CyclesMarked (t .owners) (t .priorities) (t .offsets) (t .targets) strategy before after) where
+    abbrev rows : ℕ
+    rows = behind (length (t .priorities)) m
+
+    pub scan-ready : Scannable even after rows (length (t .priorities))
+    scan-ready =
+        record { sets = omega (arith, given .sets, each); room = omega (arith, fits, given .room, done .long) }
+
+    losing-says :
+        (v : ℕ) → v < length (t .priorities) →
+        losingAt even after rows (length (t .priorities)) v ≡
+        some 256 (λ p. not (same (parity p) (winnerOf even v)) && chosenPart (gameOf t) strategy p v)
+    unfolding losingAt
+    losing-says v l = go (setOf even v) refl
+      where
+        test : Player → Set
+        test a p = not (same (parity p) a) && chosenPart (gameOf t) strategy p v
+
+        go :
+            (b : Bool) → setOf even v ≡ b →
+            cond b (not (eqb (getD after (rows + length (t .priorities) + v) 0) 0)) (not (eqb (getD after (rows + v) 0) 0)) ≡
+            some 256 (λ p. not (same (parity p) (cond b Even Odd)) && chosenPart (gameOf t) strategy p v)
+        go true e =
+            word-marked (length (t .priorities)) (rows + length (t .priorities)) v after l ∙ done .odds v l ∙
+            parity-some 1 (λ p. chosenPart (gameOf t) strategy p v) (omega arith) ∙
+            ap (some 256) (fun-ext (λ p. ap (λ (b : Bool). b && chosenPart (gameOf t) strategy p v) (other-of-even p)))
+        go false e =
+            word-marked (length (t .priorities)) rows v after l ∙ done .evens v l ∙
+            parity-some 0 (λ p. chosenPart (gameOf t) strategy p v) (omega arith) ∙
+            ap (some 256) (fun-ext (λ p. ap (λ (b : Bool). b && chosenPart (gameOf t) strategy p v) (other-of-odd p)))
+
+    -- **The search over the two rows is the rule's 24.**
+    pub cycles-told :
+        (o : Outcome) → o ≡ outcome (givenAt 24 (length (t .priorities)) (losingAt even after rows (length (t .priorities)))) (answered 0) →
+        CyclesTold t even strategy before after o
+    unfolding gameOf
+    cycles-told o e =
+        record {
+          gives =
+              e ∙
+              ap (λ (v : Verdict). outcome v (answered 0))
+              (givenAt-cong 24 (length (t .priorities)) (losingAt even after rows (length (t .priorities))) chosen losing-says ∙
+              ap (λ (k : ℕ). givenAt 24 k chosen) each ∙
+              sym
+              (check24-chosen (gameOf t) (accepted-total t (given .accepted)) (omega (arith, accepted-sound t (given .accepted) .few-vertices)) even strategy
+              (given .ok22) (given .ok23) 256 highest));
+          long = done .long;
+          beyond = λ i l. done .beyond i (omega (arith, fits));
+        }
+      where
+        chosen : Set
+        chosen v = some 256 (λ p. not (same (parity p) (winnerOf even v)) && chosenPart (gameOf t) strategy p v)
+
+        highest : highestIn (gameOf t) (everywhere (gameOf t)) < 256
+        highest =
+            let h = greatest-le (gameOf t .size) (everywhere (gameOf t)) (gameOf t .priority) 255 (λ v l p. accepted-priority t (given .accepted) v) in
+            omega arith
+
+-- ---- the kinds in order
+
+-- a check that gave nothing leaves the outcome to those after it
+pub past : (x o : Outcome) (u w : Verdict) → u ≡ none → x ≡ outcome w o → x ≡ outcome (u then w) o
+past x o u w e h = h ∙ sym (outcome-pass u w o e)
+
+pub numbered21 : (n : ℕ) (even odd : List ℕ) → Numbered (check21 n even odd)
+unfolding check21
+numbered21 n even odd = numbered-givenAt 21 _ _ (omega arith)
+
+words-cover : (n : ℕ) → n ≤ 64 * words n
+unfolding words
+words-cover n = omega arith
+
+words-few : (n : ℕ) → n ≤ 4096 → words n ≤ 64
+unfolding words
+words-few n l = omega arith
+
+module _ (t : Tables) (even odd strategy before : List ℕ) (given : Certifiable t even odd strategy before) where
+  abbrev vs : ℕ
+  vs = vertices t
+
+  covers : vs ≤ 64 * length even
+  covers = rw (given .even-long) (words-cover vs)
+
+  pub partition-ready : Sets vs even odd
+  partition-ready =
+      record {
+        even-long = given .even-long;
+        odd-long = given .odd-long;
+        few = rw (given .even-long) (words-few vs (accepted-sound t (given .accepted) .few-vertices));
+      }
+
+  pub entries-ready : Given (t .owners) (t .offsets) (t .targets) even strategy
+  entries-ready = record { edges = accepted-edges t (given .accepted); strategy-long = given .strategy-long; even-long = covers }
+
+  -- 22 and 23 as the code checks them
+  pub check22-is :
+      givenAt 22 vs (wrongEntry (t .owners) (t .offsets) (t .targets) even strategy) ≡ check22 (gameOf t) even strategy
+  unfolding check22 wrongEntry ownBy gameOf
+  check22-is = refl
+
+  pub check23-is :
+      givenAt 23 vs (leavesSet (t .owners) (t .offsets) (t .targets) even strategy) ≡ check23 (gameOf t) even strategy
+  unfolding check23 leavesSet ownBy sideOf gameOf
+  check23-is = refl
+
+  pub sides-ready : check22 (gameOf t) even strategy ≡ none → Sided (t .owners) (t .offsets) (t .targets) even strategy
+  unfolding ownBy gameOf
+  sides-ready ok =
+      record {
+        given = entries-ready;
+        entries =
+            λ v l own.
+            let edge = after22 (gameOf t) even strategy ok .0 v l (same-true (gameOf t .owner v) (winnerOf even v) own) in
+            subst (λ (x : ℕ). x < vs) (sym (entry-is (t .owners) (t .offsets) (t .targets) even strategy entries-ready v l))
+            (accepted-total t (given .accepted) .ends v (entry strategy v) edge);
+      }
+
+  pub cycles-given : check22 (gameOf t) even strategy ≡ none → check23 (gameOf t) even strategy ≡ none → CyclesReady t even strategy before
+  cycles-given ok22 ok23 = record { accepted = given .accepted; sets = covers; ok22 = ok22; ok23 = ok23; room = given .room }
+
+  -- 21, 22 or 23: the work area was not touched
+  pub certify-stops : (o : Outcome) → o ≡ outcome (certificateChecks (gameOf t) even odd strategy) (answered 0) → Certifies t even odd strategy before before o
+  certify-stops o e = record { gives = e; long = refl; beyond = λ i l. refl }
+
+  -- the outcome from each kind on
+  pub from21 :
+      (o : Outcome) →
+      o ≡
+      outcome
+      (check21 vs even odd then (check22 (gameOf t) even strategy then (check23 (gameOf t) even strategy then check24 (gameOf t) even strategy)))
+      (answered 0) →
+      o ≡ outcome (certificateChecks (gameOf t) even odd strategy) (answered 0)
+  unfolding certificateChecks gameOf
+  from21 o e = e
+
+-- ---- 1 to 10 one by one
+
+pub refusals-grouped :
+    (t : Tables) (even odd strategy work : ℕ) →
+    refusals t even odd strategy work ≡
+    (tableChecks t then
+    (check9 (vertices t) (even ∷ []) [] then
+    (check9 (vertices t) (odd ∷ []) [] then (check9 (vertices t) [] (strategy ∷ []) then check10 (vertices t) (edgesIn t) work))))
+refusals-grouped t even odd strategy work =
+    let n = vertices t in
+    let last = check10 n (edgesIn t) work in
+    let a = check9 n (even ∷ []) [] in
+    let b = check9 n (odd ∷ []) [] in
+    let c = check9 n [] (strategy ∷ []) in
+    ap (λ (v : Verdict). tableChecks t then v)
+    (ap (λ (v : Verdict). v then last)
+    (check9-set n even (odd ∷ []) (strategy ∷ []) ∙ ap (λ (v : Verdict). a then v) (check9-set n odd [] (strategy ∷ []))) ∙
+    then-assoc a (b then c) last ∙
+    ap (λ (v : Verdict). a then v) (then-assoc b c last))
+
+pub accepted-is : (t : Tables) → tableChecks t ≡ none → Accepted t
+unfolding Accepted
+accepted-is t e = e
+
+-- past all of them
+pub record Passed (t : Tables) (even odd strategy work : ℕ) : Type 0 where
+  pub accepted : Accepted t
+  pub even-long : even ≡ words (vertices t)
+  pub odd-long : odd ≡ words (vertices t)
+  pub strategy-long : strategy ≡ vertices t
+  pub room : workWords (vertices t) (edgesIn t) ≤ work
+
+pub all-passed : (t : Tables) (even odd strategy work : ℕ) → refusals t even odd strategy work ≡ none → Passed t even odd strategy work
+unfolding Accepted
+all-passed t even odd strategy work e =
+    let n = vertices t in
+    let h1 = then-none (tableChecks t) _ (sym (refusals-grouped t even odd strategy work) ∙ e) in
+    let h2 = then-none (check9 n (even ∷ []) []) _ (h1 .1) in
+    let h3 = then-none (check9 n (odd ∷ []) []) _ (h2 .1) in
+    let h4 = then-none (check9 n [] (strategy ∷ [])) _ (h3 .1) in
+    record {
+      accepted = h1 .0;
+      even-long = check9-set-none n even (h2 .0);
+      odd-long = check9-set-none n odd (h3 .0);
+      strategy-long = check9-table-none n strategy (h4 .0);
+      room = check10-none n (edgesIn t) work (h4 .1);
+    }
+
+pub numbered-refusals : (t : Tables) (even odd strategy work : ℕ) → Numbered (refusals t even odd strategy work)
+numbered-refusals t even odd strategy work =
+    numbered-then (tableChecks t) _ (numbered-tables t)
+    (numbered-then (check9 (vertices t) (even ∷ odd ∷ []) (strategy ∷ [])) _ (numbered-check9 _ _ _) (numbered-check10 _ _ _))
+
+-- ---- the whole
+
+module _ (t : Tables) (even odd strategy before : List ℕ) where
+  abbrev R : Verdict
+  R = refusals t (length even) (length odd) (length strategy) (length before)
+
+  pub checks-refused :
+      (o : Outcome) →
+      o ≡ outcome (R then certificateChecks (gameOf t) even odd strategy) (answered 0) →
+      o ≡ outcome R (answered 0) →
+      (o .number ≡ 0 → ⊥) →
+      Checks t even odd strategy before before o
+  checks-refused o e h d =
+      record { gives = e; work = untouched R (λ z. d (ap (λ (x : Outcome). x .number) (h ∙ ap (λ (v : Verdict). outcome v (answered 0)) z))) }
+    where
+      untouched : (v : Verdict) → (v ≡ none → ⊥) → before ≡ leftBy v t before
+      untouched none f = absurd (f refl)
+      untouched (refused k p) f = refl
+
+  pub certify-given : R ≡ none → Certifiable t even odd strategy before
+  certify-given e =
+      let p = all-passed t (length even) (length odd) (length strategy) (length before) e in
+      record { accepted = p .accepted; even-long = p .even-long; odd-long = p .odd-long; strategy-long = p .strategy-long; room = p .room }
+
+  pub work-fits : R ≡ none → (vertices t ≤ 4096) × (edgesIn t ≤ 16384)
+  work-fits e =
+      let s = accepted-sound t (certify-given e .accepted) in
+      (s .few-vertices, s .few-edges)
+
+  pub checks-done :
+      (ok : R ≡ none) (middle after : List ℕ) (o : Outcome) →
+      Certifies t even odd strategy before middle o →
+      Cleared 0 (workWords (vertices t) (edgesIn t)) middle after →
+      Checks t even odd strategy before after o
+  checks-done ok middle after o c z =
+      record {
+        gives = past o (answered 0) R (certificateChecks (gameOf t) even odd strategy) ok (c .gives);
+        work = all-clear ∙ ap (λ (v : Verdict). leftBy v t before) (sym ok);
+      }
+    where
+      long : length after ≡ length (cleared t before)
+      long =
+          let room = certify-given ok .room in
+          z .within .long ∙ c .long ∙ sym
+          (length-append (replicate (workWords (vertices t) (edgesIn t)) 0) (drop (workWords (vertices t) (edgesIn t)) before) ∙ simp
+          (length-replicate, length-drop) (omega arith))
+
+      word : (i : ℕ) → i < length after → getD after i 0 ≡ getD (cleared t before) i 0
+      word i l =
+          ⊎-elim
+          (λ k.
+          z .zeros i (omega arith) k ∙
+          sym
+          (List·getD-append (replicate (workWords (vertices t) (edgesIn t)) 0) (drop (workWords (vertices t) (edgesIn t)) before) 0 i
+          (rw (length-replicate {A = ℕ} (workWords (vertices t) (edgesIn t)) 0) k) ∙ getD-replicate (workWords (vertices t) (edgesIn t)) i 0 0 k))
+          (λ (k : workWords (vertices t) (edgesIn t) ≤ i).
+          let at : length (replicate {A = ℕ} (workWords (vertices t) (edgesIn t)) 0) + (i - (workWords (vertices t) (edgesIn t))) ≡ i = rw
+          (length-replicate {A = ℕ} (workWords (vertices t) (edgesIn t)) 0) (omega arith) in
+          let back : (workWords (vertices t) (edgesIn t)) + (i - (workWords (vertices t) (edgesIn t))) ≡ i = omega arith in
+          z .within .rest i (inr k) ∙ c .beyond i k ∙
+          sym
+          (sym (ap (λ (j : ℕ). getD (cleared t before) j 0) at) ∙ getD-append-add (replicate (workWords (vertices t) (edgesIn t)) 0)
+          (drop (workWords (vertices t) (edgesIn t)) before) (i - (workWords (vertices t) (edgesIn t))) 0 ∙ getD-drop
+          (workWords (vertices t) (edgesIn t)) before (i - (workWords (vertices t) (edgesIn t))) 0 ∙
+          ap (λ (j : ℕ). getD before j 0) back))
+          (lt-or-ge i (workWords (vertices t) (edgesIn t)))
+
+      all-clear : after ≡ cleared t before
+      all-clear = ext-getD 0 after (cleared t before) long word

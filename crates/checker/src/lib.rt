@@ -1,0 +1,122 @@
+// The certificate checker: two sets and a strategy, checked without trust in any solver. Yes, or the first of 21 to 24 that applies.
+mod cycles;
+mod sides;
+
+use parity_game::Answer;
+ghost use mathlib.Core.Path.{_≡_};
+ghost use lib.ListN.{length};
+ghost use Rattle.rules.specs.Outcome.{outcome, answered};
+ghost use Rattle.parity_game.specs.Said.{said};
+ghost use Rattle.checker.specs.Cycles.{tablesOf};
+ghost use Rattle.checker.specs.Checks.{Certifiable, Certifies, refusals, Checks};
+
+// The kinds 21 to 24 in order.
+fn certify(
+    owners: &[u8],
+    priorities: &[u16],
+    offsets: &[u16],
+    targets: &[u16],
+    even: &[u64],
+    odd: &[u64],
+    strategy: &[u16],
+    work: &mut [u64],
+) -> Answer
+    requires { ⌜ Certifiable (tablesOf (now owners) (now priorities) (now offsets) (now targets)) (now even) (now odd) (now strategy) (now work) ⌝ }
+    ensures { λ r.
+        ⌜ Certifies (tablesOf (now (owners .entry)) (now (priorities .entry)) (now (offsets .entry)) (now (targets .entry))) (now (even .entry)) (now (odd .entry))
+        (now (strategy .entry)) (now (work .entry)) (now (work .exit)) (said r) ⌝ }
+{
+    let r = sides::check_partition(owners.len(), even, odd);
+    let Answer::Answered(_) = r else {
+        return r;
+    };
+    let r = sides::check_entries(owners, offsets, targets, even, strategy);
+    let Answer::Answered(_) = r else {
+        return r;
+    };
+    let r = sides::check_sides(owners, offsets, targets, even, strategy);
+    let Answer::Answered(_) = r else {
+        return r;
+    };
+    cycles::check_cycles(owners, priorities, offsets, targets, even, strategy, work)
+}
+
+// The refusals 1 to 10.
+fn refuse(
+    owners: &[u8],
+    priorities: &[u16],
+    offsets: &[u16],
+    targets: &[u16],
+    even: usize,
+    odd: usize,
+    strategy: usize,
+    work: usize,
+) -> Answer
+    ensures { λ r.
+        ⌜ said r ≡ outcome (refusals (tablesOf (now (owners .entry)) (now (priorities .entry)) (now (offsets .entry)) (now (targets .entry))) even odd strategy work) (answered 0) ⌝ }
+{
+    let r = parity_game::check_tables(owners, priorities, offsets, targets);
+    let Answer::Answered(_) = r else {
+        return r;
+    };
+    let n = owners.len();
+    let r = parity_game::check_set(n, even);
+    let Answer::Answered(_) = r else {
+        return r;
+    };
+    let r = parity_game::check_set(n, odd);
+    let Answer::Answered(_) = r else {
+        return r;
+    };
+    let r = parity_game::check_table(n, strategy);
+    let Answer::Answered(_) = r else {
+        return r;
+    };
+    parity_game::check_work(n, targets.len(), work)
+}
+
+// Checks the two sets and the strategy against the game, for every input.
+pub fn check(
+    owners: &[u8],
+    priorities: &[u16],
+    offsets: &[u16],
+    targets: &[u16],
+    even: &[u64],
+    odd: &[u64],
+    strategy: &[u16],
+    work: &mut [u64],
+) -> Answer
+    ensures { λ r.
+        ⌜ Checks (tablesOf (now (owners .entry)) (now (priorities .entry)) (now (offsets .entry)) (now (targets .entry))) (now (even .entry)) (now (odd .entry))
+        (now (strategy .entry)) (now (work .entry)) (now (work .exit)) (said r) ⌝ }
+{
+    let r = refuse(
+        owners,
+        priorities,
+        offsets,
+        targets,
+        even.len(),
+        odd.len(),
+        strategy.len(),
+        work.len(),
+    );
+    let Answer::Answered(_) = r else {
+        return r;
+    };
+    let r = certify(
+        owners,
+        priorities,
+        offsets,
+        targets,
+        even,
+        odd,
+        strategy,
+        work,
+    );
+    parts::clear(
+        work,
+        0,
+        parity_game::work_words(owners.len(), targets.len()),
+    );
+    r
+}

@@ -1,0 +1,170 @@
+-- `mark_parts` meets its contract: each stage leaves what the next one needs.
+use Rattle.parts.specs.Graph.{Graph, graph}
+use Rattle.parts.specs.Whole.{passes, labelling, hits-noteable, pairs-noteable, collectable, marked-parts}
+use native.Mathlib.Omega.{arith}
+use borrow.Author.Needs.{needs}
+use Rattle.parts.proofs.mark_parts.Statement.{statement}
+use Rattle.parts.proofs.mark_parts.Tie as tie
+use Rattle.parts.proofs.mark_parts.Reads as reads
+use Rattle.parts.proofs.mark_parts.Lts as lts
+use Rattle.parts.proofs.collect.clear.Reads as clear-reads
+use Rattle.parts.proofs.collect.collect.Reads as collect-reads
+use Rattle.parts.proofs.collect.note.Reads as note-reads
+use Rattle.parts.proofs.first.first_pass.Reads as first-pass-reads
+use Rattle.parts.proofs.second.second_pass.Reads as second-pass-reads
+
+abbrev graph-of : tie.Start → Graph
+graph-of s = graph (s .args .priorities .now) (s .args .offsets .now) (s .args .targets .now) (s .args .entries .now) (s .args .p)
+
+-- where the function begins, from each call on
+abbrev at1 : tie.After-clear → tie.Start
+at1 c = c .before .before .before .before .before .before .before
+
+abbrev at2 : tie.After-first-pass → tie.After-clear
+at2 c = c .before .before .before .before
+
+abbrev at3 : tie.After-second-pass → tie.After-first-pass
+at3 c = c .before .before .before .before
+
+abbrev at4 : tie.After-note → tie.After-second-pass
+at4 c = c .before .before .before .before
+
+abbrev at5 : tie.After-note2 → tie.After-note
+at5 c = c .before .before .before .before
+
+add-marks : tie.Need-add-marks
+add-marks c = search needs
+
+add-marks-2 : tie.Need-add-marks-2
+add-marks-2 c = search needs
+
+add-hits : tie.Need-add-hits
+add-hits c = search needs
+
+add-hits-2 : tie.Need-add-hits-2
+add-hits-2 c = search needs
+
+add-hits-3 : tie.Need-add-hits-3
+add-hits-3 c = search needs
+
+add-hits-4 : tie.Need-add-hits-4
+add-hits-4 c = search needs
+
+add-clear : tie.Need-add-clear
+add-clear c = search needs
+
+add-clear-2 : tie.Need-add-clear-2
+add-clear-2 c = search needs
+
+clear-requires : tie.Need-clear-requires
+clear-requires c κs = search needs
+
+first-pass-requires : tie.Need-first-pass-requires
+first-pass-requires c κs =
+    let d1 = c .before .before .before in
+    let s = at1 d1 in
+    passes (graph-of s) (s .args .work .now) (s .args .base) (s .pre) (d1 .clear .last .0) (d1 .clear .ensures)
+
+second-pass-requires : tie.Need-second-pass-requires
+second-pass-requires c κs =
+    let d2 = c .before .before .before in
+    let d1 = at2 d2 in
+    let s = at1 d1 in
+    labelling (graph-of s) (s .args .work .now) (s .args .base) (s .pre) (d1 .clear .last .0) (d1 .clear .ensures)
+    (d2 .first-pass .last .1 .1 .1 .1 .1 .0) (d2 .first-pass .result) (d2 .first-pass .ensures)
+
+note-requires : tie.Need-note-requires
+note-requires c κs =
+    let d3 = c .before .before .before in
+    let d2 = at3 d3 in
+    let d1 = at2 d2 in
+    let s = at1 d1 in
+    hits-noteable (graph-of s) (s .args .work .now) (s .args .base) (s .pre) (d1 .clear .last .0) (d1 .clear .ensures)
+    (d2 .first-pass .last .1 .1 .1 .1 .1 .0) (d2 .first-pass .result) (d2 .first-pass .ensures) (d3 .second-pass .last .1 .1 .1 .1 .1 .0)
+    (d3 .second-pass .ensures)
+
+add-note : tie.Need-add-note
+add-note c =
+    let d4 = c .before .before .before in
+    let d3 = at4 d4 in
+    let d2 = at3 d3 in
+    let d1 = at2 d2 in
+    let s = at1 d1 in
+    omega (arith, s .pre .low-end, s .pre .fits, s .good .1 .1 .1 .1 .1 .0)
+
+note-requires-2 : tie.Need-note-requires-2
+note-requires-2 c κs =
+    let d4 = c .before .before .before in
+    let d3 = at4 d4 in
+    let d2 = at3 d3 in
+    let d1 = at2 d2 in
+    let s = at1 d1 in
+    pairs-noteable (graph-of s) (s .args .work .now) (s .args .base) (s .pre) (d1 .clear .last .0) (d1 .clear .ensures)
+    (d2 .first-pass .last .1 .1 .1 .1 .1 .0) (d2 .first-pass .result) (d2 .first-pass .ensures) (d3 .second-pass .last .1 .1 .1 .1 .1 .0)
+    (d3 .second-pass .ensures)
+    (d4 .note .last .1 .1 .1 .0) (d4 .note .ensures)
+
+collect-requires : tie.Need-collect-requires
+collect-requires c κs =
+    let d5 = c .before .before .before in
+    let d4 = at5 d5 in
+    let d3 = at4 d4 in
+    let d2 = at3 d3 in
+    let d1 = at2 d2 in
+    let s = at1 d1 in
+    collectable (graph-of s) (s .args .work .now) (s .args .base) (s .pre) (d1 .clear .last .0) (d1 .clear .ensures)
+    (d2 .first-pass .last .1 .1 .1 .1 .1 .0) (d2 .first-pass .result) (d2 .first-pass .ensures) (d3 .second-pass .last .1 .1 .1 .1 .1 .0)
+    (d3 .second-pass .ensures)
+    (d4 .note .last .1 .1 .1 .0) (d4 .note .ensures) (d5 .note2 .last .1 .1 .1 .0) (d5 .note2 .ensures)
+
+same-length : tie.Need-same-length
+same-length c =
+    let d6 = c .before .before in
+    let d5 = d6 .before .before .before .before in
+    let d4 = at5 d5 in
+    let d3 = at4 d4 in
+    let d2 = at3 d3 in
+    let d1 = at2 d2 in
+    let s = at1 d1 in
+    marked-parts (graph-of s) (s .args .work .now) (s .args .base) (s .pre) (d1 .clear .last .0) (d1 .clear .ensures)
+    (d2 .first-pass .last .1 .1 .1 .1 .1 .0) (d2 .first-pass .result) (d2 .first-pass .ensures) (d3 .second-pass .last .1 .1 .1 .1 .1 .0)
+    (d3 .second-pass .ensures)
+    (d4 .note .last .1 .1 .1 .0) (d4 .note .ensures) (d5 .note2 .last .1 .1 .1 .0) (d5 .note2 .ensures) (d6 .collect .last .1 .1 .1 .1 .1 .0)
+    (d6 .collect .ensures) .long
+
+returns : tie.Need-returns
+returns c =
+    let d6 = c .before .before in
+    let d5 = d6 .before .before .before .before in
+    let d4 = at5 d5 in
+    let d3 = at4 d4 in
+    let d2 = at3 d3 in
+    let d1 = at2 d2 in
+    let s = at1 d1 in
+    marked-parts (graph-of s) (s .args .work .now) (s .args .base) (s .pre) (d1 .clear .last .0) (d1 .clear .ensures)
+    (d2 .first-pass .last .1 .1 .1 .1 .1 .0) (d2 .first-pass .result) (d2 .first-pass .ensures) (d3 .second-pass .last .1 .1 .1 .1 .1 .0)
+    (d3 .second-pass .ensures)
+    (d4 .note .last .1 .1 .1 .0) (d4 .note .ensures) (d5 .note2 .last .1 .1 .1 .0) (d5 .note2 .ensures) (d6 .collect .last .1 .1 .1 .1 .1 .0)
+    (d6 .collect .ensures)
+
+pub mark-parts-spec : {M : Type 1} → statement M
+mark-parts-spec =
+    tie.close
+    (tie.spec
+    add-marks
+    add-marks-2
+    add-hits
+    add-hits-2
+    add-hits-3
+    add-hits-4
+    add-clear
+    add-clear-2
+    clear-requires
+    first-pass-requires
+    second-pass-requires
+    note-requires
+    add-note
+    note-requires-2
+    collect-requires
+    same-length
+    returns)

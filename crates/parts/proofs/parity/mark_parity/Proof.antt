@@ -1,0 +1,85 @@
+-- `mark_parity` meets its contract. The loop's invariant: the priorities 2 j + parity for j below k were gone through.
+use mathlib.Core.Path.{_≡_, refl, subst}
+use Prim.Native.Nat.{ℕ, _+_, _-_, _≤_}
+use lib.ListN.{length}
+use Rattle.parts.specs.Parity.{Swept, swept-none, sweep-ready, swept-more}
+use native.Mathlib.Omega.{arith}
+use borrow.Author.Needs.{needs}
+use Rattle.parts.proofs.parity.mark_parity.Statement.{statement}
+use Rattle.parts.proofs.parity.mark_parity.Tie as tie
+use Rattle.parts.proofs.parity.mark_parity.Reads as reads
+use Rattle.parts.proofs.parity.mark_parity.Lts as lts
+use Rattle.parts.proofs.mark_parts.Reads as mark-parts-reads
+
+abbrev Inv-loop : tie.InvT-loop
+Inv-loop priorities offsets targets entries parity work₀ base k₀ work k =
+    (k ≤ 128) × (length work ≡ length work₀) × Swept priorities offsets targets entries parity base k work₀ work
+
+abbrev μ-loop : tie.MeasureT-loop
+μ-loop priorities offsets targets entries parity work₀ base k₀ work k = 128 - k
+
+loop-holds : tie.Need-loop-holds Inv-loop μ-loop
+loop-holds c =
+    let s = c .before .before .before .before .before in
+    let a = s .args in
+    (search needs, refl, swept-none (a .priorities .now) (a .offsets .now) (a .targets .now) (a .entries .now) (a .parity) (a .work .now) (a .base) (s .pre))
+
+mul-mark-parts : tie.Need-mul-mark-parts Inv-loop μ-loop
+mul-mark-parts c = search needs
+
+add-mark-parts : tie.Need-add-mark-parts Inv-loop μ-loop
+add-mark-parts c = search needs
+
+mark-parts-requires : tie.Need-mark-parts-requires Inv-loop μ-loop
+mark-parts-requires c κs =
+    let s = c .before .before .before .before .before .before .before .before in
+    let a = s .args in
+    let l = c .before .before .loop in
+    sweep-ready (a .priorities .now) (a .offsets .now) (a .targets .now) (a .entries .now) (a .parity) (a .work .now) (a .base) (s .pre) (l .k)
+    (l .work) (l .inv .2)
+
+add-k : tie.Need-add-k Inv-loop μ-loop
+add-k c = search needs
+
+loop-less : tie.Need-loop-less Inv-loop μ-loop
+loop-less c = search needs
+
+loop-again : tie.Need-loop-again Inv-loop μ-loop
+loop-again c =
+    let s = c .before .before .before .before .before .before .before .before .before .before .before in
+    let a = s .args in
+    let l = c .before .before .before .before .before .loop in
+    let f = c .before .before .mark-parts in
+    let next = swept-more (a .priorities .now) (a .offsets .now) (a .targets .now) (a .entries .now) (a .parity) (a .work .now) (a .base) (s .pre)
+    (l .k) (l .work) (l .inv .2) (f .last .1 .1 .1 .1 .1 .0) (f .ensures) in
+    (omega arith, next .long, next)
+
+same-length : tie.Need-same-length Inv-loop μ-loop
+same-length c = c .before .loop .inv .1
+
+returns : tie.Need-returns Inv-loop μ-loop
+returns c =
+    let s = c .before .before .before .before .before .before .before in
+    let a = s .args in
+    let l = c .before .loop in
+    let end : l .k ≡ 128 = omega arith in
+    subst
+    (λ (j : ℕ).
+    Swept (a .priorities .now) (a .offsets .now) (a .targets .now) (a .entries .now) (a .parity) (a .base) j (a .work .now) (l .work))
+    end (l .inv .2)
+
+pub mark-parity-spec : {M : Type 1} → statement M
+mark-parity-spec =
+    tie.close
+    (tie.spec
+    Inv-loop
+    μ-loop
+    loop-holds
+    mul-mark-parts
+    add-mark-parts
+    mark-parts-requires
+    add-k
+    loop-less
+    loop-again
+    same-length
+    returns)
