@@ -278,7 +278,7 @@ pub fn attractor(
         (record { result = now (result .exit); strategy = now (strategy .exit); work = now (work .exit) })
         (said r) ⌝ }
 {
-    let r = check_all(
+    let verdict = check_all(
         owners,
         priorities,
         offsets,
@@ -289,8 +289,8 @@ pub fn attractor(
         strategy.len(),
         work.len(),
     );
-    let Answer::Answered(_) = r else {
-        return r;
+    let Answer::Answered(_) = verdict else {
+        return verdict;
     };
     let w = parity_game::work_words(owners.len(), targets.len());
     let alpha = side(player);
