@@ -145,11 +145,11 @@ pub fn attractor(
     strategy: &mut [u16],
     work: &mut [u64],
 ) -> Answer {
-    call!(
+    call! {
         reckonbough_attractor, tables, player,
         within.as_ptr(), within.len(), target.as_ptr(), target.len(), result.as_mut_ptr(), result.len(),
         strategy.as_mut_ptr(), strategy.len(), work.as_mut_ptr(), work.len()
-    )
+    }
 }
 
 /// Solves by Zielonka's recursion: 0, 1 to 10 or 13; the count is calls.
@@ -162,11 +162,11 @@ pub fn zielonka(
     strategy: &mut [u16],
     work: &mut [u64],
 ) -> Answer {
-    call!(
+    call! {
         reckonbough_zielonka, tables, u8::from(compute_strategy), budget,
         even.as_mut_ptr(), even.len(), odd.as_mut_ptr(), odd.len(),
         strategy.as_mut_ptr(), strategy.len(), work.as_mut_ptr(), work.len()
-    )
+    }
 }
 
 /// Solves by priority promotion: 0, 1 to 10 or 13; the count is rounds.
@@ -179,11 +179,11 @@ pub fn priority_promotion(
     strategy: &mut [u16],
     work: &mut [u64],
 ) -> Answer {
-    call!(
+    call! {
         reckonbough_priority_promotion, tables, u8::from(compute_strategy), budget,
         even.as_mut_ptr(), even.len(), odd.as_mut_ptr(), odd.len(),
         strategy.as_mut_ptr(), strategy.len(), work.as_mut_ptr(), work.len()
-    )
+    }
 }
 
 /// Solves a game with one owner, whose winning set is written: 0 or 1 to 11; the count is 0.
@@ -193,11 +193,11 @@ pub fn solitaire(tables: Tables<'_>, set: &mut [u64], work: &mut [u64]) -> Answe
 
 /// Checks a claim of winning sets and strategy: 0 for yes, 1 to 10 or 21 to 24; the count is 0.
 pub fn check(tables: Tables<'_>, even: &[u64], odd: &[u64], strategy: &[u16], work: &mut [u64]) -> Answer {
-    call!(
+    call! {
         reckonbough_check, tables,
         even.as_ptr(), even.len(), odd.as_ptr(), odd.len(),
         strategy.as_ptr(), strategy.len(), work.as_mut_ptr(), work.len()
-    )
+    }
 }
 
 /// Writes the compacted priorities: 0 or 1 to 9; the count is 0.

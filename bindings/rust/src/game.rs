@@ -138,8 +138,7 @@ impl Game {
     fn solve(&self, solver: Solver, compute_strategy: bool, budget: u64) -> Result<Solved, Refusal> {
         let (mut even, mut odd) = (self.set(), self.set());
         let (mut strategy, mut work) = (self.strategy(), self.work());
-        let answer =
-            solver(self.tables(), compute_strategy, budget, &mut even, &mut odd, &mut strategy, &mut work);
+        let answer = solver(self.tables(), compute_strategy, budget, &mut even, &mut odd, &mut strategy, &mut work);
         let count = answer.result()?;
         Ok(Solved { even: self.members(&even), odd: self.members(&odd), strategy: choices(&strategy), count })
     }
@@ -155,15 +154,8 @@ impl Game {
     pub fn attractor(&self, player: Player, within: &[bool], target: &[bool]) -> Result<Attracted, Refusal> {
         let (mut set, mut strategy) = (self.set(), self.strategy());
         let (within, target) = (self.words(within)?, self.words(target)?);
-        let answer = doors::attractor(
-            self.tables(),
-            player as u8,
-            &within,
-            &target,
-            &mut set,
-            &mut strategy,
-            &mut self.work(),
-        );
+        let answer =
+            doors::attractor(self.tables(), player as u8, &within, &target, &mut set, &mut strategy, &mut self.work());
         let looks = answer.result()?;
         Ok(Attracted { set: self.members(&set), strategy: choices(&strategy), looks })
     }

@@ -142,7 +142,7 @@ fn a_set_of_more_than_one_word() {
     assert_eq!(ring.solve_solitaire_game(), Ok(vec![false; 100]));
 
     let only: Vec<bool> = (0..100).map(|v| v == 70).collect();
-    let attracted = ring.attractor(Odd, &vec![true; 100], &only).unwrap();
+    let attracted = ring.attractor(Odd, &[true; 100], &only).unwrap();
     assert_eq!((attracted.set, attracted.looks), (vec![true; 100], 100));
     assert_eq!((attracted.strategy[69], attracted.strategy[70], attracted.strategy[71]), (Some(70), None, Some(72)));
 }
