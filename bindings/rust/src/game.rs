@@ -2,7 +2,7 @@
 #![forbid(unsafe_code)]
 
 use crate::doors::{self, set_words, work_words, Answer, Tables};
-use crate::{Refusal, MAX_EDGES, MAX_VERTICES, NONE};
+use crate::{Refusal, NONE};
 
 /// Even or Odd.
 #[derive(Clone, Copy, Debug, PartialEq, Eq)]
@@ -60,18 +60,11 @@ pub struct Attracted {
 impl Game {
     /// From the vertices in order: owner, priority and where its edges go.
     pub fn new(vertices: &[(Player, u16, &[u16])]) -> Result<Game, Refusal> {
-        let edges: usize = vertices.iter().map(|(_, _, successors)| successors.len()).sum();
-        // these two first, as the library would: beyond them an offset might not fit its table
-        if vertices.len() > MAX_VERTICES {
-            return Err(Refusal::TooManyVertices);
-        }
-        if edges > MAX_EDGES {
-            return Err(Refusal::TooManyEdges);
-        }
         let mut offsets = vec![0];
-        let mut targets = Vec::with_capacity(edges);
+        let mut targets = Vec::new();
         for (_, _, successors) in vertices {
             targets.extend_from_slice(successors);
+            // one that does not fit is never looked at: there are too many edges then, which is refused first
             offsets.push(targets.len() as u16);
         }
         let owners = vertices.iter().map(|(owner, _, _)| *owner as u8).collect();

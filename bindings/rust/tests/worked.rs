@@ -129,20 +129,27 @@ fn compaction_keeps_parity_and_winners() {
 }
 
 #[test]
-fn a_set_of_more_than_one_word() {
-    // a ring of 100 vertices, each of Odd's, with one vertex of priority 2 among priorities 1
-    let targets: Vec<u16> = (0..100).map(|v| (v + 1) % 100).collect();
-    let vertices: Vec<(Player, u16, &[u16])> =
-        (0..100).map(|v| (Odd, if v == 70 { 2 } else { 1 }, &targets[v..v + 1])).collect();
-    let ring = game(&vertices);
-    let solved = ring.solve_zielonka(true, ANY).unwrap();
-    assert_eq!(solved.even, vec![true; 100]);
-    assert_eq!(ring.check(&solved.even, &solved.odd, &solved.strategy), Ok(()));
-    assert_eq!(ring.solve_priority_promotion(true, ANY).unwrap().even, solved.even);
-    assert_eq!(ring.solve_solitaire_game(), Ok(vec![false; 100]));
+fn sets_of_two_words() {
+    // 100 vertices of Odd's, each with a loop; every third has priority 2, the others 1
+    let itself: Vec<u16> = (0..100).collect();
+    let thirds: Vec<bool> = (0..100).map(|v| v % 3 == 0).collect();
+    let others: Vec<bool> = thirds.iter().map(|third| !third).collect();
+    let loops: Vec<(Player, u16, &[u16])> =
+        (0..100).map(|v| (Odd, if thirds[v] { 2 } else { 1 }, &itself[v..v + 1])).collect();
+    let loops = game(&loops);
+    for solved in [loops.solve_zielonka(true, ANY).unwrap(), loops.solve_priority_promotion(true, ANY).unwrap()] {
+        assert_eq!((&solved.even, &solved.odd), (&thirds, &others));
+        assert_eq!(loops.check(&solved.even, &solved.odd, &solved.strategy), Ok(()));
+    }
+    assert_eq!(loops.solve_solitaire_game(), Ok(others));
 
+    // a ring of 100 vertices of Odd's, drawn to vertex 70
+    let next: Vec<u16> = (0..100).map(|v| (v + 1) % 100).collect();
+    let ring: Vec<(Player, u16, &[u16])> = (0..100).map(|v| (Odd, 1, &next[v..v + 1])).collect();
     let only: Vec<bool> = (0..100).map(|v| v == 70).collect();
-    let attracted = ring.attractor(Odd, &[true; 100], &only).unwrap();
+    let attracted = game(&ring).attractor(Odd, &[true; 100], &only).unwrap();
     assert_eq!((attracted.set, attracted.looks), (vec![true; 100], 100));
-    assert_eq!((attracted.strategy[69], attracted.strategy[70], attracted.strategy[71]), (Some(70), None, Some(72)));
+    assert_eq!(attracted.strategy[69..72], [Some(70), None, Some(72)]);
+    let attracted = game(&ring).attractor(Even, &thirds, &[false; 100]).unwrap();
+    assert_eq!((attracted.set, attracted.looks), (vec![false; 100], 0));
 }
