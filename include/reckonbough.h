@@ -16,7 +16,7 @@
  * overlaps nothing else that it is lent in that call. Apart from that every content and every length is answered.
  * Nothing of it is kept after the call.
  *
- * Each function returns a number and writes a place and a count. The first that applies, in this order:
+ * Each function returns a number and writes a place and a count. Of 1 to 24 it is the first that applies, else 0:
  *   number                                                                              place
  *    0  answered, the checker's yes included                                            0
  *    1  n above 4096                                                                    0

@@ -38,7 +38,7 @@ static void no_vertices(void)
     print("compact of C1", reckonbough_compact(C1, NULL, 0, &place, &count));
 }
 
-/* A player and a flag by other numbers than 0 and 1. In C7 Odd's attractor of vertex 0 has vertex 1 in it, Even's has not. */
+/* Players and flags other than 0 and 1. In C7 Odd's attractor of vertex 0 has vertex 1 in it, Even's has not. */
 static void players_and_flags(void)
 {
     static const uint8_t owners[] = {0, 1};
