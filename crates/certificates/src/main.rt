@@ -1,0 +1,68 @@
+// The checker on the worked games: C10 and C11, and right results of C6 and C7. Each line is a name, then the number and place
+// given back.
+use libc::STDOUT_FILENO;
+
+// C6: E2→1; O1→1.
+fn on_c6(name: &[u8], even: &[u64], odd: &[u64], strategy: &[u16]) {
+    let mut work = [0u64; 316];
+    let r = checker::check(
+        &[0, 1],
+        &[2, 1],
+        &[0, 1, 2],
+        &[1, 1],
+        even,
+        odd,
+        strategy,
+        &mut work,
+    );
+    report(name, r.number(), r.place());
+}
+
+// C7: E2→1; O0→0,1.
+fn on_c7(name: &[u8], even: &[u64], odd: &[u64], strategy: &[u16]) {
+    let mut work = [0u64; 318];
+    let r = checker::check(
+        &[0, 1],
+        &[2, 0],
+        &[0, 1, 3],
+        &[1, 0, 1],
+        even,
+        odd,
+        strategy,
+        &mut work,
+    );
+    report(name, r.number(), r.place());
+}
+
+// C5: O1→1,1; E2→1.
+fn on_c5(name: &[u8], even: &[u64], odd: &[u64], strategy: &[u16]) {
+    let mut work = [0u64; 318];
+    let r = checker::check(
+        &[1, 0],
+        &[1, 2],
+        &[0, 2, 3],
+        &[1, 1, 1],
+        even,
+        odd,
+        strategy,
+        &mut work,
+    );
+    report(name, r.number(), r.place());
+}
+
+fn report(name: &[u8], number: u64, place: u64) {
+    io::write_all(STDOUT_FILENO, name);
+    io::print_decimal(STDOUT_FILENO, number);
+    io::write_all(STDOUT_FILENO, b" ");
+    io::print_decimal(STDOUT_FILENO, place);
+    io::write_all(STDOUT_FILENO, b"\n");
+}
+
+fn main() {
+    on_c6(b"C10, Even claims both: ", &[3], &[0], &[1, 65535]);
+    on_c6(b"C10, one each: ", &[1], &[2], &[1, 1]);
+    on_c7(b"C11, 0 to 0: ", &[3], &[0], &[0, 65535]);
+    on_c5(b"C11, vertex 0 in no set: ", &[2], &[0], &[65535, 1]);
+    on_c6(b"C6 as it is: ", &[0], &[3], &[65535, 1]);
+    on_c7(b"C7 as it is: ", &[3], &[0], &[1, 65535]);
+}
