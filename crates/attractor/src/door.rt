@@ -148,7 +148,7 @@ fn copy(from: &[u64], to: &mut [u64])
 fn clear(work: &mut [u64])
     ensures { λ _. ⌜ now (work .exit) ≡ replicate (length (now (work .entry))) 0 ⌝ }
 {
-    for i in 1..work.len() {
+    for i in 0..work.len() {
         work[i] = 0;
     }
 }
