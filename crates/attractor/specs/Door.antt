@@ -8,13 +8,12 @@ use lib.ListN.{length, getD, replicate}
 use Rattle.rules.specs.Counting.{Set}
 use Rattle.rules.specs.Game.{Player, playerOf}
 use Rattle.rules.specs.Outcome.{Verdict, _then_}
-use Rattle.rules.specs.Tables.{Tables, gameOf, vertices, edgesIn, words, tableChecks, Accepted, check9, check10}
+use Rattle.rules.specs.Tables.{Tables, gameOf, vertices, edgesIn, words, tableChecks, Accepted, check9, check10, tablesOf}
 use Rattle.rules.specs.Words.{setOf, Holds, noEntry, entry}
 use Rattle.rules.specs.Attractor.{looksOf, AttractorEntries, check12}
 use Rattle.attractor.specs.Area.{free}
 use Rattle.attractor.specs.Attracts.{wanted}
 use Rattle.attractor.specs.View.{ownBy}
-use Rattle.attractor.specs.Running.{tablesOf}
 
 -- the test of check 12
 abbrev pub stray : ℕ → List ℕ → List ℕ → ℕ → Bool
@@ -67,7 +66,7 @@ pub record Written (owners : List ℕ) (alpha : ℕ) (target result entries befo
 -- what `run` asks for: tables that some priorities make accepted, sets and outputs of the right sizes, and room
 pub record Runnable (owners offsets targets : List ℕ) (alpha : ℕ) (within target result strategy work : List ℕ) : Type 0 where
   pub priorities : List ℕ
-  pub accepted : Accepted (tablesOf owners offsets targets priorities)
+  pub accepted : Accepted (tablesOf owners priorities offsets targets)
   pub side : alpha ≤ 1
   pub within-size : length within ≡ words (length owners)
   pub target-size : length target ≡ words (length owners)

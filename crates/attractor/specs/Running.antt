@@ -13,7 +13,7 @@ use lib.Dec.{eqb}
 use lib.ListN.{length, getD, take, drop, List·getD-eq-default}
 use Rattle.rules.specs.Counting.{Set, some, count, times}
 use Rattle.rules.specs.Game.{Player, Game, Edge, playerOf, same}
-use Rattle.rules.specs.Tables.{Tables, gameOf, vertices, edgesIn, words, targetsOf, Accepted}
+use Rattle.rules.specs.Tables.{Tables, gameOf, vertices, edgesIn, words, targetsOf, Accepted, tablesOf}
 use Rattle.rules.specs.Words.{setOf}
 use Rattle.rules.specs.Attractor.{attractor, atFirst, Growing, TakesOne, Takes, stop, looksOf}
 use Rattle.theory.specs.Basics.{clash, not-true-is-false, count-le, member-place, lt-or-ge}
@@ -83,10 +83,6 @@ own-is (suc (suc x)) alpha h l = absurd (omega arith)
 own-is zero (suc (suc y)) h l = absurd (omega arith)
 own-is (suc zero) (suc (suc y)) h l = absurd (omega arith)
 
--- the tables with some priorities
-abbrev pub tablesOf : List ℕ → List ℕ → List ℕ → List ℕ → Tables
-tablesOf owners offsets targets priorities = record { owners = owners; priorities = priorities; offsets = offsets; targets = targets }
-
 -- the members before head are taken; every game of these tables has come here by the rules' steps
 pub record Running (owners offsets targets : List ℕ) (alpha within set : ℕ) (before : List ℕ) (head : ℕ) (after : List ℕ) (tail looks : ℕ) : Type 0 where
   pub kept : Kept (length owners) (length targets) set before after
@@ -98,8 +94,8 @@ pub record Running (owners offsets targets : List ℕ) (alpha within set : ℕ) 
   pub run :
       let n = length owners in
       (priorities : List ℕ) →
-      Accepted (tablesOf owners offsets targets priorities) →
-      Takes (gameOf (tablesOf owners offsets targets priorities)) (playerOf alpha) (setAt n within before)
+      Accepted (tablesOf owners priorities offsets targets) →
+      Takes (gameOf (tablesOf owners priorities offsets targets)) (playerOf alpha) (setAt n within before)
       (atFirst (setAt n set before))
       (growing head looks (stateAt n (length targets) set after tail))
 
@@ -141,11 +137,11 @@ running-moved owners offsets targets alpha within set x y head after tail looks 
           λ priorities ok.
           subst
           (λ (S : Set).
-          Takes (gameOf (tablesOf owners offsets targets priorities)) (playerOf alpha) S (atFirst (setAt n set y)) (growing head looks now))
+          Takes (gameOf (tablesOf owners priorities offsets targets)) (playerOf alpha) S (atFirst (setAt n set y)) (growing head looks now))
           (sym (same .inside))
           (subst
           (λ (S : Set).
-          Takes (gameOf (tablesOf owners offsets targets priorities)) (playerOf alpha) (setAt n within x) (atFirst S) (growing head looks now))
+          Takes (gameOf (tablesOf owners priorities offsets targets)) (playerOf alpha) (setAt n within x) (atFirst S) (growing head looks now))
           (sym (same .target))
           (r .run priorities ok));
     }
@@ -205,13 +201,13 @@ module _ (owners offsets targets : List ℕ) (alpha within set : ℕ) (before : 
   Runs head after tail looks = Running owners offsets targets alpha within set before head after tail looks
 
   pub owned :
-      (priorities : List ℕ) → Accepted (tablesOf owners offsets targets priorities) → (v : ℕ) →
-      own v ≡ same (gameOf (tablesOf owners offsets targets priorities) .owner v) (playerOf alpha)
+      (priorities : List ℕ) → Accepted (tablesOf owners priorities offsets targets) → (v : ℕ) →
+      own v ≡ same (gameOf (tablesOf owners priorities offsets targets) .owner v) (playerOf alpha)
   unfolding gameOf
   owned priorities ok v = own-is (getD owners v 0) alpha (small (lt-or-ge v n)) (given .side)
     where
       small : (v < n) ⊎ (n ≤ v) → getD owners v 0 ≤ 1
-      small (inl l) = accepted-sound (tablesOf owners offsets targets priorities) ok .owner-small v l
+      small (inl l) = accepted-sound (tablesOf owners priorities offsets targets) ok .owner-small v l
       small (inr l) = rw (List·getD-eq-default owners 0 l) zero-le
 
   -- nothing is taken yet
@@ -231,7 +227,7 @@ module _ (owners offsets targets : List ℕ) (alpha within set : ℕ) (before : 
             λ priorities ok.
             subst
             (λ (S : Set).
-            Takes (gameOf (tablesOf owners offsets targets priorities)) (playerOf alpha) V' (atFirst T)
+            Takes (gameOf (tablesOf owners priorities offsets targets)) (playerOf alpha) V' (atFirst T)
             (record { members = S; taken = λ v. false; looks = 0 }))
             (sym same-members)
             stop;
@@ -326,11 +322,11 @@ module _ (owners offsets targets : List ℕ) (alpha within set : ℕ) (before : 
             run =
                 λ priorities ok.
                 subst
-                (λ (k : ℕ). Takes (gameOf (tablesOf owners offsets targets priorities)) (playerOf alpha) V' (atFirst T)
+                (λ (k : ℕ). Takes (gameOf (tablesOf owners priorities offsets targets)) (playerOf alpha) V' (atFirst T)
                 (growing k (looks + (start after (w + 1) - start after w)) later))
                 (sym (add-one head))
                 (subst
-                (λ (k : ℕ). Takes (gameOf (tablesOf owners offsets targets priorities)) (playerOf alpha) V' (atFirst T) (growing (suc head) (looks + k) later))
+                (λ (k : ℕ). Takes (gameOf (tablesOf owners priorities offsets targets)) (playerOf alpha) V' (atFirst T) (growing (suc head) (looks + k) later))
                 row-is
                 (takes-then (c .run priorities ok) (step-later priorities ok)));
           }
@@ -350,16 +346,16 @@ module _ (owners offsets targets : List ℕ) (alpha within set : ℕ) (before : 
               (row-next next-small)))
 
           step-later :
-              (priorities : List ℕ) (ok : Accepted (tablesOf owners offsets targets priorities)) →
-              TakesOne (gameOf (tablesOf owners offsets targets priorities)) (playerOf alpha) V' (growing head looks now)
+              (priorities : List ℕ) (ok : Accepted (tablesOf owners priorities offsets targets)) →
+              TakesOne (gameOf (tablesOf owners priorities offsets targets)) (playerOf alpha) V' (growing head looks now)
               (growing (suc head) (looks + length (row n after w)) later)
           step-later priorities ok =
               subst
               (λ (S : Set).
-              TakesOne (gameOf (tablesOf owners offsets targets priorities)) (playerOf alpha) S (growing head looks now)
+              TakesOne (gameOf (tablesOf owners priorities offsets targets)) (playerOf alpha) S (growing head looks now)
               (growing (suc head) (looks + length (row n after w)) later))
               same-inside
-              (took .step (gameOf (tablesOf owners offsets targets priorities)) (playerOf alpha) T entry head looks refl (owned priorities ok) stands-now left
+              (took .step (gameOf (tablesOf owners priorities offsets targets)) (playerOf alpha) T entry head looks refl (owned priorities ok) stands-now left
               is-next (row-next next-small))
 
     -- no member is left
@@ -373,8 +369,8 @@ module _ (owners offsets targets : List ℕ) (alpha within set : ℕ) (before : 
       -- **what is left is the attractor**
       pub running-all :
           (priorities : List ℕ) →
-          Accepted (tablesOf owners offsets targets priorities) →
-          Attracted (tablesOf owners offsets targets priorities) (playerOf alpha) within set before after looks
+          Accepted (tablesOf owners priorities offsets targets) →
+          Attracted (tablesOf owners priorities offsets targets) (playerOf alpha) within set before after looks
       unfolding gameOf
       running-all priorities ok =
           record {
@@ -404,7 +400,7 @@ module _ (owners offsets targets : List ℕ) (alpha within set : ℕ) (before : 
           }
         where
           g : Game
-          g = gameOf (tablesOf owners offsets targets priorities)
+          g = gameOf (tablesOf owners priorities offsets targets)
 
           a : Player
           a = playerOf alpha
@@ -413,7 +409,7 @@ module _ (owners offsets targets : List ℕ) (alpha within set : ℕ) (before : 
           is = owned priorities ok
 
           starts : (v w : ℕ) → Edge g v w → v < g .size
-          starts = accepted-total (tablesOf owners offsets targets priorities) ok .starts
+          starts = accepted-total (tablesOf owners priorities offsets targets) ok .starts
 
           fits : Fits g V' T
           fits = record { part = given .nested .part; below = given .nested .below }

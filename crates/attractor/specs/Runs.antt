@@ -11,7 +11,7 @@ use lib.ListN.{length, getD, take, drop, length-take, length-drop}
 use lib.Seq.{getD-take, getD-drop, take-length, take-all}
 use Rattle.rules.specs.Counting.{Set, times}
 use Rattle.rules.specs.Game.{Player, Game, Edge, playerOf, same}
-use Rattle.rules.specs.Tables.{Tables, gameOf, vertices, edgesIn, words, targetsOf, Accepted}
+use Rattle.rules.specs.Tables.{Tables, gameOf, vertices, edgesIn, words, targetsOf, Accepted, tablesOf}
 use Rattle.rules.specs.Words.{setOf, Holds, noEntry, entry}
 use Rattle.rules.specs.Attractor.{attractor, looksOf, AttractorEntries}
 use Rattle.theory.specs.Basics.{clash, and-left, and-right, not-true-is-false, same-true, true-same}
@@ -24,7 +24,7 @@ use Rattle.attractor.specs.Attracted.{Placed, Nested, Listed, Attractabl
 use Rattle.attractor.specs.Attracts.{wanted}
 use Rattle.attractor.specs.View.{ownBy}
 use Rattle.attractor.specs.Views.{back, back-long, back-front, back-behind, back-part, part-is, part-length, slice-alike, words-enough}
-use Rattle.attractor.specs.Running.{tablesOf, owned}
+use Rattle.attractor.specs.Running.{owned}
 use Rattle.attractor.specs.Door.{Runnable, Ran, Entered, Enterable, Written, drawnIn, chosen}
 
 -- offsets and targets of accepted tables
@@ -103,7 +103,7 @@ module _ (owners offsets targets : List ℕ) (alpha : ℕ) (within target result
     fits = omega (arith, given .room, given .within-size)
 
     sound-edges : SoundEdges n offsets targets
-    sound-edges = edges-sound (tablesOf owners offsets targets (given .priorities)) (given .accepted)
+    sound-edges = edges-sound (tablesOf owners (given .priorities) offsets targets) (given .accepted)
 
     -- V and the target were copied in
     module _ (first second : List ℕ) (is-first : first ≡ within) (is-second : second ≡ target) where
@@ -195,8 +195,8 @@ module _ (owners offsets targets : List ℕ) (alpha : ℕ) (within target result
         module _ (four : List ℕ) (looks : ℕ)
             (found :
             (priorities : List ℕ) →
-            Accepted (tablesOf owners offsets targets priorities) →
-            Attracted (tablesOf owners offsets targets priorities) (playerOf alpha) base set three four looks)
+            Accepted (tablesOf owners priorities offsets targets) →
+            Attracted (tablesOf owners priorities offsets targets) (playerOf alpha) base set three four looks)
           where
             pub four-long : length four ≡ length work
             four-long = found (given .priorities) (given .accepted) .long ∙ three-long
@@ -230,20 +230,20 @@ module _ (owners offsets targets : List ℕ) (alpha : ℕ) (within target result
 
             drawn :
                 (priorities : List ℕ) →
-                Accepted (tablesOf owners offsets targets priorities) →
-                Drawn (tablesOf owners offsets targets priorities) (playerOf alpha) (setOf within) (setOf target) (wordsAt n set four) looks
+                Accepted (tablesOf owners priorities offsets targets) →
+                Drawn (tablesOf owners priorities offsets targets) (playerOf alpha) (setOf within) (setOf target) (wordsAt n set four) looks
                 (entryAt n m four)
             drawn priorities ok =
                 subst₂
                 (λ (V' T : Set).
-                Drawn (tablesOf owners offsets targets priorities) (playerOf alpha) V' T (wordsAt n set four) looks (entryAt n m four))
+                Drawn (tablesOf owners priorities offsets targets) (playerOf alpha) V' T (wordsAt n set four) looks (entryAt n m four))
                 within-set
                 target-set
-                (drawn-of (tablesOf owners offsets targets priorities) (playerOf alpha) base set three four looks (found priorities ok))
+                (drawn-of (tablesOf owners priorities offsets targets) (playerOf alpha) base set three four looks (found priorities ok))
 
-            module _ (priorities : List ℕ) (ok : Accepted (tablesOf owners offsets targets priorities)) where
+            module _ (priorities : List ℕ) (ok : Accepted (tablesOf owners priorities offsets targets)) where
               abbrev t : Tables
-              t = tablesOf owners offsets targets priorities
+              t = tablesOf owners priorities offsets targets
 
               abbrev g : Game
               g = gameOf t
@@ -307,8 +307,8 @@ module _ (owners offsets targets : List ℕ) (alpha : ℕ) (within target result
                 out ≡ words-out →
                 Written owners alpha target words-out entries-out strategy strategy' →
                 (priorities : List ℕ) →
-                Accepted (tablesOf owners offsets targets priorities) →
-                Ran (tablesOf owners offsets targets priorities) (playerOf alpha) within target out strategy' looks
+                Accepted (tablesOf owners priorities offsets targets) →
+                Ran (tablesOf owners priorities offsets targets) (playerOf alpha) within target out strategy' looks
             unfolding gameOf
             ran out strategy' is-out written priorities ok =
                 record {

@@ -10,7 +10,7 @@ ghost use lib.ListN.{length, replicate};
 ghost use Rattle.rules.specs.Game.{playerOf};
 ghost use Rattle.rules.specs.Outcome.{outcome, answered};
 ghost use Rattle.rules.specs.Attractor.{check12};
-ghost use Rattle.rules.specs.Tables.{words, Accepted};
+ghost use Rattle.rules.specs.Tables.{words, Accepted, tablesOf};
 ghost use Rattle.parity_game.specs.Said.{said, is};
 ghost use Rattle.attractor.specs.Attracts.{Attracts};
 ghost use Rattle.attractor.specs.Door.{stray, Bits, sizeChecks, checksBy, Entered, chosen, Enterable, Written, Runnable, Ran};
@@ -105,12 +105,7 @@ fn check_all(
         ⌜ said r
         ≡ outcome
         (checksBy
-        (record {
-          owners = now (owners .entry);
-          priorities = now (priorities .entry);
-          offsets = now (offsets .entry);
-          targets = now (targets .entry);
-        })
+        (tablesOf (now (owners .entry)) (now (priorities .entry)) (now (offsets .entry)) (now (targets .entry)))
         (now (within .entry)) (now (target .entry)) result strategy work)
         (answered 0) ⌝ }
 {
@@ -267,12 +262,7 @@ pub fn attractor(
 ) -> Answer
     ensures { λ r.
         ⌜ Attracts
-        (record {
-          owners = now (owners .entry);
-          priorities = now (priorities .entry);
-          offsets = now (offsets .entry);
-          targets = now (targets .entry);
-        })
+        (tablesOf (now (owners .entry)) (now (priorities .entry)) (now (offsets .entry)) (now (targets .entry)))
         (is player) (now (within .entry)) (now (target .entry))
         (record { result = now (result .entry); strategy = now (strategy .entry); work = now (work .entry) })
         (record { result = now (result .exit); strategy = now (strategy .exit); work = now (work .exit) })

@@ -12,7 +12,7 @@ use lib.ListN.{length, getD, drop}
 use lib.Seq.{getD-drop}
 use Rattle.rules.specs.Counting.{Set, some}
 use Rattle.rules.specs.Game.{Even, Odd, playerOf, parity, same, Edge}
-use Rattle.rules.specs.Tables.{Tables, vertices, gameOf, Accepted}
+use Rattle.rules.specs.Tables.{Tables, vertices, gameOf, Accepted, tablesOf}
 use Rattle.rules.specs.Words.{setOf, entry, noEntry}
 use Rattle.rules.specs.Checker.{winnerOf}
 use Rattle.theory.specs.Basics.{bool-cases, bool-ext, clash, and-intro, and-left, and-right, not-true-is-false, some-intro, some-elim}
@@ -42,10 +42,6 @@ module _ (even work : List ℕ) (rows n v : ℕ) where
   pub losing-odd : setOf even v ≡ false → not (eqb (getD work (rows + v) 0) 0) ≡ losingAt even work rows n v
   unfolding losingAt
   losing-odd e = rw e
-
--- the tables as lent
-abbrev pub tablesOf : List ℕ → List ℕ → List ℕ → List ℕ → Tables
-tablesOf owners priorities offsets targets = record { owners = owners; priorities = priorities; offsets = offsets; targets = targets }
 
 pub record MarksReady (owners priorities offsets targets strategy work : List ℕ) : Type 0 where
   pub accepted : Accepted (tablesOf owners priorities offsets targets)

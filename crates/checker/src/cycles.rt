@@ -6,8 +6,9 @@ ghost use Prim.Native.Nat.{_+_, _*_, _<_};
 ghost use lib.ListN.{length};
 ghost use Rattle.rules.specs.Outcome.{outcome, answered, givenAt};
 ghost use Rattle.parity_game.specs.Said.{said};
-ghost use Rattle.checker.specs.Cycles.{losingAt, Scannable, MarksReady, CyclesMarked, tablesOf};
+ghost use Rattle.checker.specs.Cycles.{losingAt, Scannable, MarksReady, CyclesMarked};
 ghost use Rattle.checker.specs.Checks.{CyclesReady, CyclesTold};
+ghost use Rattle.rules.specs.Tables.{tablesOf};
 
 // Whether v is marked in the row of the other parity: the even priorities from rows on, then the odd ones.
 fn is_losing(even: &[u64], work: &[u64], rows: usize, n: usize, v: usize) -> bool

@@ -7,8 +7,8 @@ ghost use mathlib.Core.Path.{_≡_};
 ghost use lib.ListN.{length};
 ghost use Rattle.rules.specs.Outcome.{outcome, answered};
 ghost use Rattle.parity_game.specs.Said.{said};
-ghost use Rattle.checker.specs.Cycles.{tablesOf};
 ghost use Rattle.checker.specs.Checks.{Certifiable, Certifies, refusals, Checks};
+ghost use Rattle.rules.specs.Tables.{tablesOf};
 
 // The kinds 21 to 24 in order.
 fn certify(

@@ -8,6 +8,7 @@ ghost use lib.ListN.{length, getD};
 ghost use Rattle.rules.specs.Compaction.{nextNumber};
 ghost use Rattle.parity_game.specs.Said.{said};
 ghost use Rattle.compaction.specs.Compacts.{Small, Marks, Numbers, lastGiven, Compacts};
+ghost use Rattle.rules.specs.Tables.{tablesOf};
 
 // Which priorities are used: 1 at each.
 fn mark(priorities: &[u16]) -> [u8; 256]
@@ -75,12 +76,7 @@ pub fn compact(
 ) -> Answer
     ensures { λ r.
         ⌜ Compacts
-        (record {
-          owners = now (owners .entry);
-          priorities = now (priorities .entry);
-          offsets = now (offsets .entry);
-          targets = now (targets .entry);
-        })
+        (tablesOf (now (owners .entry)) (now (priorities .entry)) (now (offsets .entry)) (now (targets .entry)))
         (now («new_priorities» .entry))
         (now («new_priorities» .exit))
         (said r) ⌝ }

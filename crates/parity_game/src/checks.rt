@@ -5,7 +5,7 @@ ghost use mathlib.Core.Path.{_≡_};
 ghost use mathlib.Core.List.{_∷_, []};
 ghost use Prim.Native.Nat.{_+_, _≤_};
 ghost use lib.ListN.{length};
-ghost use Rattle.rules.specs.Tables.{words, workWords, check1, check2, check3, check4, check5, check6, check7, check8, check9, check10, tableChecks};
+ghost use Rattle.rules.specs.Tables.{words, workWords, check1, check2, check3, check4, check5, check6, check7, check8, check9, check10, tableChecks, tablesOf};
 ghost use Rattle.rules.specs.Outcome.{outcome, answered, _then_};
 ghost use Rattle.parity_game.specs.Said.{said};
 
@@ -134,12 +134,7 @@ pub fn check_tables(owners: &[u8], priorities: &[u16], offsets: &[u16], targets:
         ⌜ said r
         ≡ outcome
         (tableChecks
-        (record {
-          owners = now (owners .entry);
-          priorities = now (priorities .entry);
-          offsets = now (offsets .entry);
-          targets = now (targets .entry);
-        }))
+        (tablesOf (now (owners .entry)) (now (priorities .entry)) (now (offsets .entry)) (now (targets .entry))))
         (answered 0) ⌝ }
 {
     let n = owners.len();

@@ -5,7 +5,7 @@ use parity_game::Player;
 ghost use mathlib.Core.Path.{_≡_};
 ghost use Rattle.rules.specs.Game.{playerOf};
 ghost use Rattle.rules.specs.Outcome.{outcome, answered};
-ghost use Rattle.rules.specs.Tables.{tableChecks};
+ghost use Rattle.rules.specs.Tables.{tableChecks, tablesOf};
 ghost use Rattle.parity_game.specs.Said.{said};
 ghost use Rattle.attractor.specs.Attracts.{Attracts};
 ghost use Rattle.compaction.specs.Compacts.{Compacts};
@@ -33,12 +33,7 @@ pub extern "C" fn reckonbough_check_tables(
         ⌜ told n (now (place .exit)) (now (count .exit)) ≡
         outcome
         (tableChecks
-        (record {
-          owners = now (owners .entry);
-          priorities = now (priorities .entry);
-          offsets = now (offsets .entry);
-          targets = now (targets .entry);
-        }))
+        (tablesOf (now (owners .entry)) (now (priorities .entry)) (now (offsets .entry)) (now (targets .entry))))
         (answered 0) ⌝ }
 {
     tell(
@@ -60,12 +55,7 @@ pub extern "C" fn reckonbough_compact(
 ) -> u64
     ensures { λ n.
         ⌜ Compacts
-        (record {
-          owners = now (owners .entry);
-          priorities = now (priorities .entry);
-          offsets = now (offsets .entry);
-          targets = now (targets .entry);
-        })
+        (tablesOf (now (owners .entry)) (now (priorities .entry)) (now (offsets .entry)) (now (targets .entry)))
         (now («new_priorities» .entry)) (now («new_priorities» .exit))
         (told n (now (place .exit)) (now (count .exit))) ⌝ }
 {
@@ -93,12 +83,7 @@ pub extern "C" fn reckonbough_attractor(
 ) -> u64
     ensures { λ n.
         ⌜ Attracts
-        (record {
-          owners = now (owners .entry);
-          priorities = now (priorities .entry);
-          offsets = now (offsets .entry);
-          targets = now (targets .entry);
-        })
+        (tablesOf (now (owners .entry)) (now (priorities .entry)) (now (offsets .entry)) (now (targets .entry)))
         (playerOf player) (now (within .entry)) (now (target .entry))
         (record { result = now (result .entry); strategy = now (strategy .entry); work = now (work .entry) })
         (record { result = now (result .exit); strategy = now (strategy .exit); work = now (work .exit) })

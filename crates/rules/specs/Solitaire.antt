@@ -1,12 +1,16 @@
 -- Solitaire: all owners equal. Strongly connected parts, and the set of vertices that can reach a good one.
 use mathlib.Core.Bool.{Bool, _&&_, _||_, not}
-use mathlib.Core.List.{List}
+use mathlib.Core.List.{List, [], _∷_}
+use mathlib.Core.Path.{_≡_}
 use Prim.Native.Nat.{ℕ, zero, suc}
 use lib.Dec.{eqb, ltb, leb}
-use lib.ListN.{getD}
+use lib.ListN.{length, getD}
 use Rattle.rules.specs.Counting.{Set, some, someOf, within}
-use Rattle.rules.specs.Game.{Player, Game, everywhere, parity, same}
-use Rattle.rules.specs.Outcome.{Verdict, given}
+use Rattle.rules.specs.Game.{Player, Game, everywhere, parity, same, playerOf}
+use Rattle.rules.specs.Outcome.{Outcome, Verdict, none, refused, given, outcome, answered, _then_}
+use Rattle.rules.specs.Solver.{cleared}
+use Rattle.rules.specs.Tables.{Tables, gameOf, vertices, edgesIn, tableChecks, check9, check10}
+use Rattle.rules.specs.Words.{Holds}
 use Rattle.rules.specs.Zielonka.{highestIn}
 
 -- 11: two owners differ
@@ -55,3 +59,33 @@ unfoldable pub solitaire : Game → Player → Set
 solitaire g a =
     let parts = within (g .size) (λ v. some (suc (highestIn g (everywhere g))) (λ p. same (parity p) a && onPart g p v)) in
     within (g .size) (λ v. some (g .size) (λ w. reached (g .size) (inside g (everywhere g)) v w && parts w))
+
+-- what the solver is lent to write in
+pub record LentSet : Type 0 where
+  pub set : List ℕ
+  pub work : List ℕ
+
+-- 1 to 11
+abbrev pub solitaireChecks : Tables → LentSet → Verdict
+solitaireChecks t lent =
+    tableChecks t then
+    check9 (vertices t) (length (lent .set) ∷ []) [] then
+    check10 (vertices t) (edgesIn t) (length (lent .work)) then
+    check11 (vertices t) (t .owners)
+
+-- the owner of all vertices; without a vertex there is none, and either will do
+abbrev pub soleOwner : Tables → Player
+soleOwner t = playerOf (getD (t .owners) 0 0)
+
+-- by cases: a refusal writes nothing; an answer leaves the set, and the work area cleared
+pub record SolitaireAnswered (t : Tables) (before after : LentSet) : Type 0 where
+  pub set : Holds (vertices t) (solitaire (gameOf t) (soleOwner t)) (after .set)
+  pub work : after .work ≡ cleared t (before .work)
+
+abbrev pub SolitaireLeaves : Verdict → Tables → LentSet → LentSet → Type 0
+SolitaireLeaves (refused k p) t before after = after ≡ before
+SolitaireLeaves none t before after = SolitaireAnswered t before after
+
+pub record SolvesSolitaire (t : Tables) (before after : LentSet) (o : Outcome) : Type 0 where
+  pub gives : o ≡ outcome (solitaireChecks t before) (answered 0)
+  pub leaves : SolitaireLeaves (solitaireChecks t before) t before after

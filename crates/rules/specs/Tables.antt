@@ -15,6 +15,10 @@ pub record Tables : Type 0 where
   pub offsets : List ℕ
   pub targets : List ℕ
 
+abbrev pub tablesOf : List ℕ → List ℕ → List ℕ → List ℕ → Tables
+tablesOf owners priorities offsets targets =
+    record { owners = owners; priorities = priorities; offsets = offsets; targets = targets }
+
 -- n vertices, m edges
 abbrev pub vertices : Tables → ℕ
 vertices t = length (t .owners)

@@ -8,11 +8,10 @@ use native.Mathlib.Numerals.{add-one}
 use native.Mathlib.Omega.{arith}
 use lib.ListN.{length, getD}
 use Rattle.rules.specs.Counting.{Set, greatest, someOf}
-use Rattle.rules.specs.Tables.{Tables, gameOf, targetsOf}
+use Rattle.rules.specs.Tables.{Tables, gameOf, targetsOf, tablesOf}
 use Rattle.rules.specs.Words.{setOf}
 use Rattle.theory.specs.Basics.{clash, someOf-elim}
 use Rattle.theory.specs.Tables.{edge-place, place-edge}
-use Rattle.zielonka.specs.Level.{tablesOf}
 use Rattle.zielonka.specs.Parts.{Inside, Ends}
 
 pub greatest-none : (S : Set) (f : ℕ → ℕ) → 0 ≡ greatest 0 S f

@@ -16,11 +16,6 @@ use Rattle.theory.specs.RunSame.{Needs}
 use Rattle.zielonka.specs.declared.recursion.Ran.{Ran}
 use Rattle.zielonka.specs.declared.recursion.Ran.the-variants.{Calls, OverBudget}
 
--- the four tables together
-abbrev pub tablesOf : List ℕ → List ℕ → List ℕ → List ℕ → Tables
-tablesOf owners priorities offsets targets =
-    record { owners = owners; priorities = priorities; offsets = offsets; targets = targets }
-
 -- where the next level begins
 abbrev pub nextLevel : ℕ → ℕ → ℕ
 nextLevel s base = base + 4 * s

@@ -5,8 +5,8 @@ use mathlib.Core.Path.{_≡_}
 use Prim.Native.Nat.{ℕ, _+_, _*_, _≤_}
 use lib.ListN.{length}
 use Rattle.rules.specs.Game.{opponent, parity}
-use Rattle.rules.specs.Tables.{Tables, vertices, words}
-use Rattle.zielonka.specs.Level.{tablesOf, nextLevel, onLevel, drawnAt, wonAt, Called}
+use Rattle.rules.specs.Tables.{Tables, vertices, words, tablesOf}
+use Rattle.zielonka.specs.Level.{nextLevel, onLevel, drawnAt, wonAt, Called}
 
 -- a call with room for the level above it
 pub record Ready (t : Tables) (s base : ℕ) (work : List ℕ) : Type 0 where

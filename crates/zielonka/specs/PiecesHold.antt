@@ -9,7 +9,7 @@ use lib.Dec.{eqb}
 use lib.ListN.{length, getD, take, drop}
 use Rattle.rules.specs.Counting.{Set, without, some}
 use Rattle.rules.specs.Game.{Player, Even, Odd, opponent, parity, playerOf, Edge}
-use Rattle.rules.specs.Tables.{Tables, gameOf, vertices, edgesIn, words, Accepted}
+use Rattle.rules.specs.Tables.{Tables, gameOf, vertices, edgesIn, words, Accepted, tablesOf}
 use Rattle.rules.specs.Attractor.{attractor}
 use Rattle.rules.specs.Words.{setOf}
 use Rattle.rules.specs.Zielonka.{withPriority}
@@ -25,7 +25,7 @@ use Rattle.attractor.specs.Running.{listed-kept}
 use Rattle.attractor.specs.Views.{part-is, part-length}
 use Rattle.predecessors.specs.Table.{SoundEdges}
 use Rattle.zielonka.specs.SetsAt.{set-kept, set-cleared, set-copied, set-copied-here, set-united, set-reduced}
-use Rattle.zielonka.specs.Level.{tablesOf, nextLevel, wonPlace, onLevel, drawnAt, wonAt, entriesOf, Called, Stays}
+use Rattle.zielonka.specs.Level.{nextLevel, wonPlace, onLevel, drawnAt, wonAt, entriesOf, Called, Stays}
 use Rattle.zielonka.specs.Steps.{CutBy, AllAt, JoinedAt, stays-on, level-stays, cut-over}
 use Rattle.zielonka.specs.Parts.{Collects, Collected}
 use Rattle.zielonka.specs.Extending.{Extends, Extended}

@@ -8,10 +8,9 @@ ghost use Prim.Native.Nat.{_≤_};
 ghost use lib.ListN.{length, replicate};
 ghost use Rattle.rules.specs.Outcome.{outcome, answered};
 ghost use Rattle.rules.specs.Solver.{Solves};
-ghost use Rattle.rules.specs.Tables.{gameOf};
+ghost use Rattle.rules.specs.Tables.{gameOf, tablesOf};
 ghost use Rattle.rules.specs.Zielonka.{zielonka};
 ghost use Rattle.parity_game.specs.Said.{said};
-ghost use Rattle.zielonka.specs.Level.{tablesOf};
 ghost use Rattle.zielonka.specs.Door.{checksBy, Preparable, Prepared, Entered, chosen, Enterable, Written, Runnable, Runs};
 
 // 1 to 10, by the lengths of what is lent.
@@ -168,28 +167,13 @@ pub fn solve_zielonka(
 ) -> Answer
     ensures { λ r.
         ⌜ Solves «compute_strategy» budget
-        (record {
-          owners = now (owners .entry);
-          priorities = now (priorities .entry);
-          offsets = now (offsets .entry);
-          targets = now (targets .entry);
-        })
+        (tablesOf (now (owners .entry)) (now (priorities .entry)) (now (offsets .entry)) (now (targets .entry)))
         (zielonka
         (gameOf
-        (record {
-          owners = now (owners .entry);
-          priorities = now (priorities .entry);
-          offsets = now (offsets .entry);
-          targets = now (targets .entry);
-        })) .calls)
+        (tablesOf (now (owners .entry)) (now (priorities .entry)) (now (offsets .entry)) (now (targets .entry)))) .calls)
         (zielonka
         (gameOf
-        (record {
-          owners = now (owners .entry);
-          priorities = now (priorities .entry);
-          offsets = now (offsets .entry);
-          targets = now (targets .entry);
-        })) .won)
+        (tablesOf (now (owners .entry)) (now (priorities .entry)) (now (offsets .entry)) (now (targets .entry)))) .won)
         (record { even = now (even .entry); odd = now (odd .entry); strategy = now (strategy .entry); work = now (work .entry) })
         (record { even = now (even .exit); odd = now (odd .exit); strategy = now (strategy .exit); work = now (work .exit) })
         (said r) ⌝ }

@@ -7,8 +7,8 @@ ghost use Prim.Native.Nat.{_*_, _≤_};
 ghost use lib.ListN.{length};
 ghost use Rattle.rules.specs.Words.{setOf};
 ghost use Rattle.zielonka.specs.Parts.{highestOf, Collects, Collected, Inside, Ends};
-ghost use Rattle.zielonka.specs.Level.{tablesOf};
 ghost use Rattle.zielonka.specs.Extending.{Extends, Extended};
+ghost use Rattle.rules.specs.Tables.{tablesOf};
 
 // Tests vertex by vertex.
 pub fn get_highest_prio(priorities: &[u16], set: &[u64]) -> Priority

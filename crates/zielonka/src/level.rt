@@ -9,11 +9,11 @@ ghost use Prim.Native.Nat.{ℕ, _+_, _*_, _-_, _%_, _^_, _≤_, _<_};
 ghost use lib.ListN.{length, take, drop};
 ghost use Rattle.rules.specs.Counting.{some};
 ghost use Rattle.rules.specs.Game.{opponent, parity, playerOf};
-ghost use Rattle.rules.specs.Tables.{Tables, Accepted, gameOf, vertices, edgesIn, words};
+ghost use Rattle.rules.specs.Tables.{Tables, Accepted, gameOf, vertices, edgesIn, words, tablesOf};
 ghost use Rattle.rules.specs.Words.{setOf};
 ghost use Rattle.rules.specs.Zielonka.{withPriority};
 ghost use Rattle.attractor.specs.Area.{free};
-ghost use Rattle.zielonka.specs.Level.{tablesOf, nextLevel, wonPlace, onLevel, drawnAt, wonAt, Called};
+ghost use Rattle.zielonka.specs.Level.{nextLevel, wonPlace, onLevel, drawnAt, wonAt, Called};
 ghost use Rattle.zielonka.specs.Steps.{CutBy, AllAt, JoinedAt};
 ghost use Rattle.zielonka.specs.Pieces.{Ready, Cuttable, Losable};
 

@@ -5,7 +5,8 @@ use crate::level::attract_lost;
 use crate::level::join;
 use crate::level::lost_nothing;
 use crate::level::win_everything;
-ghost use Rattle.zielonka.specs.Level.{tablesOf, Called, Ends};
+ghost use Rattle.zielonka.specs.Level.{Called, Ends};
+ghost use Rattle.rules.specs.Tables.{tablesOf};
 
 // The calls made so far, or that more are needed than the budget allows.
 pub enum Ran {

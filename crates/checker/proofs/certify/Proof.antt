@@ -1,12 +1,11 @@
 -- `certify` meets its contract: kind by kind, the first that applies gives the answer.
 use mathlib.Core.Path.{_≡_, sym, ap, _∙_}
 use Rattle.rules.specs.Outcome.{Verdict, none, outcome, answered, _then_}
-use Rattle.rules.specs.Tables.{Tables, vertices, gameOf}
+use Rattle.rules.specs.Tables.{Tables, vertices, gameOf, tablesOf}
 use Rattle.rules.specs.Checker.{check21, check22, check23, check24}
 use Rattle.parity_game.specs.Laws.{numbered-givenAt}
 use Rattle.parity_game.proofs.Matched.{went-on, stopped}
 use Rattle.parity_game.specs.Said.{said}
-use Rattle.checker.specs.Cycles.{tablesOf}
 use Rattle.checker.specs.Checks.{partition-ready, entries-ready, sides-ready, cycles-given, certify-stops}
 use Rattle.checker.specs.Checks.{from21, check22-is, check23-is, past, numbered21}
 use native.Mathlib.Omega.{arith}

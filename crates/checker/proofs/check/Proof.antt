@@ -4,11 +4,10 @@ use Prim.Native.Nat.{ℕ}
 use lib.ListN.{length}
 use Rattle.rules.specs.Outcome.{none, answered}
 use Rattle.rules.specs.Checker.{certificateChecks}
-use Rattle.rules.specs.Tables.{Tables, gameOf}
+use Rattle.rules.specs.Tables.{Tables, gameOf, tablesOf}
 use Rattle.parity_game.proofs.Matched.{went-on, stopped, refusal-not-zero}
 use Rattle.parity_game.specs.Said.{said}
 use Rattle.parts.specs.Area.{Cleared}
-use Rattle.checker.specs.Cycles.{tablesOf}
 use Rattle.checker.specs.Checks.{refusals, numbered-refusals, checks-refused, certify-given, work-fits, checks-done}
 use native.Mathlib.Omega.{arith}
 use borrow.Author.Needs.{needs}

@@ -2,11 +2,10 @@
 use mathlib.Core.List.{[], _∷_}
 use mathlib.Core.Path.{_≡_, sym, ap, _∙_}
 use Rattle.rules.specs.Outcome.{Outcome, Verdict, none, outcome, answered, _then_}
-use Rattle.rules.specs.Tables.{Tables, vertices, edgesIn, tableChecks, check9, check10, Accepted}
+use Rattle.rules.specs.Tables.{Tables, vertices, edgesIn, tableChecks, check9, check10, Accepted, tablesOf}
 use Rattle.parity_game.specs.Laws.{accepted-sound, numbered-tables, numbered-check9}
 use Rattle.parity_game.proofs.Matched.{went-on, stopped}
 use Rattle.parity_game.specs.Said.{said}
-use Rattle.checker.specs.Cycles.{tablesOf}
 use Rattle.checker.specs.Checks.{refusals, refusals-grouped, past, accepted-is}
 use native.Mathlib.Omega.{arith}
 use borrow.Author.Needs.{needs}

@@ -9,7 +9,6 @@ use Rattle.rules.specs.Tables.{Accepted}
 use Rattle.rules.specs.Game.{playerOf}
 use Rattle.attractor.specs.Area.{free, entries}
 use Rattle.attractor.specs.Attracted.{Attracted}
-use Rattle.attractor.specs.Running.{tablesOf}
 use Rattle.attractor.specs.Runs.{build-ready, attract-ready, four-long, out-long, enter-ready, ran}
 use Rattle.attractor.proofs.door.run.Statement.{statement}
 use Rattle.attractor.proofs.door.run.Tie as tie

@@ -1,7 +1,6 @@
 -- `check_cycles` meets its contract: the search over the marks is the rule's 24.
-use Rattle.rules.specs.Tables.{Tables}
+use Rattle.rules.specs.Tables.{Tables, tablesOf}
 use Rattle.parity_game.specs.Said.{said}
-use Rattle.checker.specs.Cycles.{tablesOf}
 use Rattle.checker.specs.Checks.{cycles-ready, scan-ready, cycles-told}
 use native.Mathlib.Omega.{arith}
 use borrow.Author.Needs.{needs}

@@ -4,12 +4,11 @@ use mathlib.Core.Path.{_≡_, _∙_, ap}
 use borrow.Author.Needs.{needs}
 use lib.ListN.{length}
 use Rattle.rules.specs.Outcome.{Verdict, none, _then_, outcome, answered}
-use Rattle.rules.specs.Tables.{Tables, vertices, edgesIn, tableChecks, Accepted, check10}
+use Rattle.rules.specs.Tables.{Tables, vertices, edgesIn, tableChecks, Accepted, check10, tablesOf}
 use Rattle.parity_game.specs.Laws.{Sound, accepted-sound, passed, numbered-tables, numbered-check9}
 use Rattle.parity_game.proofs.Matched.{went-on, stopped}
 use Rattle.zielonka.specs.Door.{checksBy}
 use Rattle.zielonka.specs.DoorLaws.{oneSet, oneTable, afterOdd, afterEven, afterTables, checks-in-order}
-use Rattle.zielonka.specs.Level.{tablesOf}
 use Rattle.zielonka.proofs.door.check_all.Statement.{statement}
 use Rattle.zielonka.proofs.door.check_all.Tie as tie
 

@@ -3,10 +3,10 @@ use mathlib.Core.Path.{_≡_, refl, subst, _∙_}
 use Prim.Native.Nat.{ℕ, _+_, _*_, _≤_}
 use native.Mathlib.Omega.{arith}
 use lib.ListN.{length}
-use Rattle.rules.specs.Tables.{Tables}
+use Rattle.rules.specs.Tables.{Tables, tablesOf}
 use Rattle.theory.specs.Tables.{accepted-sound}
 use Rattle.attractor.specs.Area.{free}
-use Rattle.zielonka.specs.Level.{tablesOf, Done, Ends}
+use Rattle.zielonka.specs.Level.{Done, Ends}
 use Rattle.zielonka.specs.Solving.{run-preparable, run-called, run-over-budget, lent-room, even-long, odd-long, lent-enterable, run-finished, all-zero}
 use borrow.Author.Needs.{needs}
 use Rattle.zielonka.proofs.door.run.Statement.{statement}

@@ -4,13 +4,12 @@ use native.Mathlib.Omega.{arith}
 use lib.ListN.{length}
 use Rattle.rules.specs.Outcome.{none}
 use Rattle.rules.specs.Solver.{Lent, solverChecks}
-use Rattle.rules.specs.Tables.{Tables, gameOf}
+use Rattle.rules.specs.Tables.{Tables, gameOf, tablesOf}
 use Rattle.rules.specs.Zielonka.{zielonka}
 use Rattle.theory.specs.Tables.{accepted-sound}
 use Rattle.parity_game.proofs.Matched.{went-on, refusal-not-zero}
 use Rattle.attractor.specs.Answered.{work-cleared}
 use Rattle.zielonka.specs.declared.recursion.Ran.{Ran}
-use Rattle.zielonka.specs.Level.{tablesOf}
 use Rattle.zielonka.specs.Door.{Runs}
 use Rattle.zielonka.specs.Solving.{numbered-checks, Passed, checks-passed, run-ready, solves-refused, solves-answered, solves-stopped}
 use borrow.Author.Needs.{needs}

@@ -7,12 +7,12 @@ use lib.ListN.{length, take, drop}
 use Rattle.sets.specs.declared.members.Members.{Members}
 use Rattle.sets.specs.Walk.{left, Walks}
 use Rattle.attractor.specs.Area.{entries, wordsAt}
-use Rattle.zielonka.specs.Level.{tablesOf}
 use Rattle.zielonka.specs.Extending.{ExtendingTo, extending-none, extending-all, extending-one, extending-other, extend-shorter}
 use Rattle.zielonka.specs.Extending.{extend-small, extend-few, extend-inside, entry-fits, priorities-as-many, chooses, other-priority, other-owner}
 use borrow.Author.Needs.{needs}
 use Rattle.zielonka.proofs.highest.extend_arbitrary.Statement.{statement}
 use Rattle.zielonka.proofs.highest.extend_arbitrary.Tie as tie
+use Rattle.rules.specs.Tables.{tablesOf}
 
 abbrev Inv-loop : tie.InvT-loop
 Inv-loop owners priorities offsets targets p s work₀ base n m walk₀ work walk = ExtendingTo (tablesOf owners priorities offsets targets) p base work₀ walk work

@@ -5,9 +5,9 @@ use Prim.Native.Nat.{_+_, _*_, _-_, _≤_}
 use native.Mathlib.Omega.{arith}
 use lib.ListN.{length}
 use Rattle.rules.specs.Counting.{count}
-use Rattle.rules.specs.Tables.{Tables}
+use Rattle.rules.specs.Tables.{Tables, tablesOf}
 use Rattle.attractor.specs.Area.{setAt}
-use Rattle.zielonka.specs.Level.{tablesOf, Ends}
+use Rattle.zielonka.specs.Level.{Ends}
 use Rattle.zielonka.specs.Steps.{over-first}
 use Rattle.zielonka.specs.Calling.{level-fits, highest-fits, level-empty, level-some, empty-done, member-ready, member-top}
 use Rattle.zielonka.specs.Calling.{Begun, begun-less, begun-called, begun-came, begun-over}
