@@ -8,6 +8,8 @@ pub mod Taking
 pub mod Ended
 pub mod View
 pub mod Views
+pub mod SetsAt
+pub mod Walking
 pub mod TakeLoop
 pub mod Counters
 pub mod Filled

@@ -20,8 +20,8 @@ use Rattle.theory.specs.RunSound.{run-sound}
 use Rattle.theory.specs.Tables.{accepted-sound}
 use Rattle.attractor.specs.Area.{free, setAt, wordsAt}
 use Rattle.attractor.specs.Views.{part-length, words-enough}
-use Rattle.zielonka.specs.SetsAt.{set-cleared, set-inside}
-use Rattle.zielonka.specs.Walking.{lent-part}
+use Rattle.attractor.specs.SetsAt.{set-cleared, set-inside}
+use Rattle.attractor.specs.Walking.{lent-part}
 use Rattle.zielonka.specs.Parts.{highestOf}
 use Rattle.zielonka.specs.Level.{nextLevel, wonPlace, onLevel, drawnAt, wonAt, entriesOf, Called, Stays, Done, Over}
 use Rattle.zielonka.specs.Steps.{CutBy, AllAt, JoinedAt, stays-on, stays-next, level-stays, cut-over, nested-called, first-less, cut-less}

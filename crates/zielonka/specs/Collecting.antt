@@ -17,8 +17,8 @@ use Rattle.sets.specs.Laws.{bit-other, other-bit, member-bit, times-members}
 use Rattle.sets.specs.Walk.{members, left}
 use Rattle.sets.specs.declared.members.Members.{Members}
 use Rattle.attractor.specs.Area.{wordsAt, setAt}
-use Rattle.attractor.specs.Views.{words-alike, bit-fits, part-is, part-length, back, back-long, back-front, back-behind, back-part}
-use Rattle.zielonka.specs.Walking.{lent-part, words-few, times-there, times-gone, Walking, walking-start, walking-next, next-member, next-once, next-shorter}
+use Rattle.attractor.specs.Views.{words-alike, bit-fits, part-is, part-length, back, back-long, back-front, back-behind, back-part, words-few}
+use Rattle.attractor.specs.Walking.{lent-part, times-there, times-gone, Walking, walking-start, walking-next, next-member, next-once, next-shorter}
 use Rattle.zielonka.specs.Parts.{Collects, Collected}
 
 -- the vertices of priority p that the walk has passed are in the set

@@ -22,10 +22,10 @@ use Rattle.theory.specs.AttractorComplement.{TotalIn}
 use Rattle.theory.specs.Basics.{clash, and-left, and-right, and-intro, someOf-intro}
 use Rattle.theory.specs.Tables.{Sound, accepted-sound, offset-top}
 use Rattle.attractor.specs.Area.{entries, free, wordsAt, setAt, entryAt}
-use Rattle.attractor.specs.Views.{words-alike, words-enough, part-length}
+use Rattle.attractor.specs.Views.{words-alike, words-enough, part-length, words-few}
 use Rattle.zielonka.specs.Level.{onLevel, entriesOf}
 use Rattle.zielonka.specs.Parts.{Inside, Ends}
-use Rattle.zielonka.specs.Walking.{lent-part, words-few, times-there, times-gone, Walking, walking-start, walking-next, next-member, next-shorter}
+use Rattle.attractor.specs.Walking.{lent-part, times-there, times-gone, Walking, walking-start, walking-next, next-member, next-shorter}
 
 -- what the walk asks for
 pub record Extends (t : Tables) (s base : ℕ) (work : List ℕ) : Type 0 where

@@ -13,8 +13,8 @@ use Rattle.attractor.specs.Attracted.{Listed}
 use Rattle.theory.specs.AttractorComplement.{TotalIn}
 use Rattle.theory.specs.Run.{Run}
 use Rattle.theory.specs.RunSame.{Needs}
-use Rattle.zielonka.specs.declared.recursion.Ran.{Ran}
-use Rattle.zielonka.specs.declared.recursion.Ran.the-variants.{Calls, OverBudget}
+use Rattle.solver.specs.declared.ran.Ran.{Ran}
+use Rattle.solver.specs.declared.ran.Ran.the-variants.{Needed, OverBudget}
 
 -- where the next level begins
 abbrev pub nextLevel : ℕ → ℕ → ℕ
@@ -71,5 +71,5 @@ Over t base calls budget before = Needs (gameOf t) (onLevel t base before) (budg
 
 -- by cases on what the call gives
 abbrev pub Ends : Tables → ℕ → ℕ → ℕ → List ℕ → List ℕ → Ran → Type 0
-Ends t base calls budget before after (Calls made) = Done t base calls budget made before after
+Ends t base calls budget before after (Needed made) = Done t base calls budget made before after
 Ends t base calls budget before after OverBudget = Over t base calls budget before

@@ -24,7 +24,7 @@ use Rattle.attractor.specs.Attracted.{Placed, Nested, Attractable, Attracted}
 use Rattle.attractor.specs.Running.{listed-kept}
 use Rattle.attractor.specs.Views.{part-is, part-length}
 use Rattle.predecessors.specs.Table.{SoundEdges}
-use Rattle.zielonka.specs.SetsAt.{set-kept, set-cleared, set-copied, set-copied-here, set-united, set-reduced}
+use Rattle.attractor.specs.SetsAt.{set-kept, set-cleared, set-copied, set-copied-here, set-united, set-reduced}
 use Rattle.zielonka.specs.Level.{nextLevel, wonPlace, onLevel, drawnAt, wonAt, entriesOf, Called, Stays}
 use Rattle.zielonka.specs.Steps.{CutBy, AllAt, JoinedAt, stays-on, level-stays, cut-over}
 use Rattle.zielonka.specs.Parts.{Collects, Collected}

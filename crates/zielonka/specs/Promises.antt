@@ -1,93 +1,37 @@
 -- What a reader may conclude of `solve_zielonka`, from its contract alone: whenever it answers, its sets are the winning sets of demand 2,
 -- each vertex has one winner, the strategy wins and the count is the recursion's calls; it answers whenever nothing is refused and the
 -- budget is demand 3's bound or more; and any two results that meet the contract are the same but for strategy entries.
-use mathlib.Core.Bool.{Bool, true, false, cond}
-use mathlib.Core.List.{List}
+use mathlib.Core.Bool.{Bool, true}
 use mathlib.Core.Logic.{_⊎_, inl, inr, ⊎-elim}
-use mathlib.Core.Path.{_≡_, refl, sym, ap, subst, _∙_}
-use Prim.Native.Nat.{ℕ, _+_, _*_, _^_, _≤_, _<_}
+use mathlib.Core.Path.{_≡_}
+use Prim.Native.Nat.{ℕ, _≤_, _<_}
 use native.Mathlib.Omega.{arith}
-use borrow.Author.Tests.{le-ltb, eqb-false}
-use lib.Dec.{ltb}
-use lib.ListN.{length, getD}
-use lib.Seq.{ext-getD}
 use Rattle.rules.specs.Budget.{callBound, differentPriorities}
-use Rattle.rules.specs.Counting.{Set}
-use Rattle.rules.specs.Game.{Player, Even, Odd, opponent, everywhere}
-use Rattle.rules.specs.Outcome.{Outcome, Verdict, none, refused, outcome, answered, budgeted, _then_}
-use Rattle.rules.specs.Solver.{Lent, solverChecks, Entries, Answered, Stopped, Leaves, Solves, cleared}
-use Rattle.rules.specs.Tables.{Tables, gameOf, vertices, edgesIn, tableChecks, Accepted, check9, check10}
-use Rattle.rules.specs.Winning.{Wins, WinningSets, WinningEntries}
-use Rattle.rules.specs.Words.{setOf, bit, Holds}
+use Rattle.rules.specs.Game.{Player, Even, Odd, everywhere}
+use Rattle.rules.specs.Outcome.{Outcome, none, answered}
+use Rattle.rules.specs.Solver.{Lent, solverChecks, Solves}
+use Rattle.rules.specs.Tables.{Tables, gameOf, vertices, tableChecks, Accepted}
+use Rattle.rules.specs.Winning.{WinningSets, WinningEntries}
 use Rattle.rules.specs.Zielonka.{zielonka}
-use Rattle.parity_game.specs.Laws.{then-none, zero-none}
-use Rattle.sets.specs.Digits.{digits-tell}
-use Rattle.sets.specs.Laws.{bit-of-set}
-use Rattle.sets.specs.Whole.{bit-at}
-use Rattle.theory.specs.Basics.{clash, lt-or-ge}
+use Rattle.parity_game.specs.Laws.{then-none}
 use Rattle.theory.specs.Bound.{zielonka-bound}
 use Rattle.theory.specs.Tables.{accepted-total}
 use Rattle.theory.specs.Zielonka.{zielonka-wins, determinacy}
-use Rattle.zielonka.specs.Solving.{numbered-checks}
+use Rattle.solver.specs.Promises.{setFor, gotBy, answer, answered-accepted, answered-count, answered-winning, answers-within, Narrow, Agree, results-agree}
 
 -- the contract of `solve_zielonka`
 abbrev pub Promise : Bool → ℕ → Tables → Lent → Lent → Outcome → Type 0
 Promise flag budget t before after o =
     Solves flag budget t (zielonka (gameOf t) .calls) (zielonka (gameOf t) .won) before after o
 
--- the words of a player's set
-abbrev pub setFor : Lent → Player → List ℕ
-setFor l Even = l .even
-setFor l Odd = l .odd
-
--- the set that a player got
-abbrev pub gotBy : Lent → Player → Set
-gotBy l c v = setOf (setFor l c) v
-
-budget-number : (over : Bool) (budget needed : ℕ) → cond over (record { number = 13; place = 0; count = budget }) (answered needed) .number ≡ 0 → over ≡ false
-budget-number true budget needed e = absurd (eqb-false 13 0 refl e)
-budget-number false budget needed e = refl
-
 module _ {flag : Bool} {budget : ℕ} {t : Tables} {before after : Lent} {o : Outcome} (p : Promise flag budget t before after o) where
-  -- an answer was not refused, and needed no more than the budget
-  not-refused : o .number ≡ 0 → solverChecks t before ≡ none
-  not-refused e =
-      zero-none (solverChecks t before) (budgeted budget (zielonka (gameOf t) .calls)) (numbered-checks t before)
-      (ap (λ (x : Outcome). x .number) (sym (p .gives)) ∙ e)
-
-  within-budget : o .number ≡ 0 → ltb budget (zielonka (gameOf t) .calls) ≡ false
-  within-budget e =
-      budget-number (ltb budget (zielonka (gameOf t) .calls)) budget (zielonka (gameOf t) .calls)
-      (ap (λ (x : Outcome). x .number)
-      (sym (ap (λ (v : Verdict). outcome v (budgeted budget (zielonka (gameOf t) .calls))) (not-refused e)) ∙ sym (p .gives)) ∙
-      e)
-
-  answer : o .number ≡ 0 → Answered flag t (zielonka (gameOf t) .won) before after
-  answer e = rw (not-refused e, within-budget e) at (p .leaves)
-
-  -- the tables are accepted where it answers
-  pub answered-accepted : o .number ≡ 0 → Accepted t
-  unfolding Accepted
-  answered-accepted e = then-none (tableChecks t) _ (not-refused e) .0
-
-  holds : o .number ≡ 0 → (c : Player) → Holds (vertices t) (zielonka (gameOf t) .won c) (setFor after c)
-  holds e Even = answer e .even
-  holds e Odd = answer e .odd
-
   -- **The count is the calls of the recursion.**
   pub answered-calls : o .number ≡ 0 → o .count ≡ zielonka (gameOf t) .calls
-  answered-calls e =
-      ap (λ (x : Outcome). x .count) (p .gives) ∙
-      ap (λ (v : Verdict). outcome v (budgeted budget (zielonka (gameOf t) .calls)) .count) (not-refused e) ∙
-      ap (λ (b : Bool). cond b (record { number = 13; place = 0; count = budget }) (answered (zielonka (gameOf t) .calls)) .count) (within-budget e)
+  answered-calls e = answered-count p e
 
   -- **The two sets are exactly the winning sets of demand 2.**
   pub answered-wins : o .number ≡ 0 → WinningSets (gameOf t) (gotBy after)
-  unfolding gameOf
-  answered-wins e c v small =
-      let wins = zielonka-wins (gameOf t) (accepted-total t (answered-accepted e)) c v small in
-      let same = holds e c .bits v small in
-      (λ q. wins .0 (sym same ∙ q), λ w. same ∙ wins .1 w)
+  answered-wins e = answered-winning p e (zielonka-wins (gameOf t) (accepted-total t (answered-accepted p e)))
 
   -- **Each vertex has exactly one winner, and is in that player's set.**
   pub answered-one-winner :
@@ -97,7 +41,7 @@ module _ {flag : Bool} {budget : ℕ} {t : Tables} {before after : Lent} {o : Ou
       ((gotBy after Even v ≡ true) ⊎ (gotBy after Odd v ≡ true)) × (gotBy after Even v ≡ true → gotBy after Odd v ≡ true → ⊥)
   unfolding gameOf
   answered-one-winner e v small =
-      let (either, both) = determinacy t (answered-accepted e) v small in (
+      let (either, both) = determinacy t (answered-accepted p e) v small in (
         ⊎-elim (λ w. inl (answered-wins e Even v small .1 w)) (λ w. inr (answered-wins e Odd v small .1 w)) either,
         λ a b. both (answered-wins e Even v small .0 a) (answered-wins e Odd v small .0 b),
       )
@@ -110,10 +54,7 @@ module _ {flag : Bool} {budget : ℕ} {t : Tables} {before after : Lent} {o : Ou
   unfolding Accepted gameOf
   answers-within-bound passed enough =
       let bound = zielonka-bound (gameOf t) (accepted-total t (then-none (tableChecks t) _ passed .0)) in
-      p .gives ∙
-      ap (λ (v : Verdict). outcome v (budgeted budget (zielonka (gameOf t) .calls))) passed ∙
-      ap (λ (b : Bool). cond b (record { number = 13; place = 0; count = budget }) (answered (zielonka (gameOf t) .calls)))
-      (le-ltb budget (zielonka (gameOf t) .calls) (omega arith))
+      answers-within p passed (omega arith)
 
 -- **With the flag the strategy wins: it is a winning choice for both players.**
 pub answered-strategy :
@@ -123,99 +64,12 @@ pub answered-strategy :
     WinningEntries (gameOf t) (zielonka (gameOf t) .won) (after .strategy)
 answered-strategy p e = answer p e .entries
 
--- ---- two results that meet the contract
-
--- words that hold one set are equal
-pub holds-same :
-    {n : ℕ} {S : Set} (xs ys : List ℕ) →
-    ((i : ℕ) → getD xs i 0 < 2 ^ 64) →
-    ((i : ℕ) → getD ys i 0 < 2 ^ 64) →
-    Holds n S xs →
-    Holds n S ys →
-    xs ≡ ys
-holds-same {n} {S} xs ys small small′ h h′ =
-    ext-getD 0 xs ys (h .long ∙ sym (h′ .long))
-    (λ i l.
-    digits-tell 64 (getD xs i 0) (getD ys i 0) (small i) (small′ i)
-    (λ k m. sym (bit-at xs i k m) ∙ bits (64 * i + k) ∙ bit-at ys i k m))
-  where
-    bits : (v : ℕ) → bit xs v ≡ bit ys v
-    bits v =
-        ⊎-elim
-        (λ l.
-        bit-of-set xs v ∙ ap (λ (b : Bool). cond b 1 0) (h .bits v l ∙ sym (h′ .bits v l)) ∙ sym (bit-of-set ys v))
-        (λ l. h .clear v l ∙ sym (h′ .clear v l))
-        (lt-or-ge v n)
-
--- two results agree in all but strategy entries
-pub record Agree (flag : Bool) (after after′ : Lent) (o o′ : Outcome) : Type 0 where
-  pub outcomes : o ≡ o′
-  pub even : after .even ≡ after′ .even
-  pub odd : after .odd ≡ after′ .odd
-  pub unasked : flag ≡ false → after .strategy ≡ after′ .strategy
-  pub work : after .work ≡ after′ .work
-
--- words of 64 bits
-abbrev pub Narrow : List ℕ → Type 0
-Narrow xs = (i : ℕ) → getD xs i 0 < 2 ^ 64
-
-agree-by :
-    (v : Verdict) (over flag : Bool) (t : Tables) (won : Player → Set) (before after after′ : Lent) (o : Outcome) →
-    ((c : Player) → Narrow (setFor after c)) →
-    ((c : Player) → Narrow (setFor after′ c)) →
-    Leaves v over flag t won before after →
-    Leaves v over flag t won before after′ →
-    Agree flag after after′ o o
-agree-by (refused k q) over flag t won before after after′ o n n′ l l′ =
-    let same : after ≡ after′ = l ∙ sym l′ in
-    record {
-      outcomes = refl;
-      even = ap (λ (x : Lent). x .even) same;
-      odd = ap (λ (x : Lent). x .odd) same;
-      unasked = λ e. ap (λ (x : Lent). x .strategy) same;
-      work = ap (λ (x : Lent). x .work) same;
-    }
-agree-by none true flag t won before after after′ o n n′ l l′ =
-    record {
-      outcomes = refl;
-      even = l .even ∙ sym (l′ .even);
-      odd = l .odd ∙ sym (l′ .odd);
-      unasked = λ e. l .strategy ∙ sym (l′ .strategy);
-      work = l .work ∙ sym (l′ .work);
-    }
-agree-by none false flag t won before after after′ o n n′ l l′ =
-    record {
-      outcomes = refl;
-      even = holds-same (after .even) (after′ .even) (n Even) (n′ Even) (l .even) (l′ .even);
-      odd = holds-same (after .odd) (after′ .odd) (n Odd) (n′ Odd) (l .odd) (l′ .odd);
-      unasked = unasked flag (l .entries) (l′ .entries);
-      work = l .work ∙ sym (l′ .work);
-    }
-  where
-    unasked :
-        (f : Bool) →
-        Entries f t won (after .strategy) →
-        Entries f t won (after′ .strategy) →
-        f ≡ false →
-        after .strategy ≡ after′ .strategy
-    unasked true a b e = absurd (clash refl e)
-    unasked false a b e = a ∙ sym b
-
 -- **Any two results that meet the contract are the same but for strategy entries.**
-pub results-agree :
+pub zielonka-results-agree :
     {flag : Bool} {budget : ℕ} {t : Tables} {before after after′ : Lent} {o o′ : Outcome} →
     ((c : Player) → Narrow (setFor after c)) →
     ((c : Player) → Narrow (setFor after′ c)) →
     Promise flag budget t before after o →
     Promise flag budget t before after′ o′ →
     Agree flag after after′ o o′
-results-agree {flag} {budget} {t} {before} {after} {after′} {o} {o′} n n′ p p′ =
-    let agree =
-    agree-by (solverChecks t before) (ltb budget (zielonka (gameOf t) .calls)) flag t (zielonka (gameOf t) .won) before after after′ o n n′ (p .leaves) (p′ .leaves) in
-    record {
-      outcomes = p .gives ∙ sym (p′ .gives);
-      even = agree .even;
-      odd = agree .odd;
-      unasked = agree .unasked;
-      work = agree .work;
-    }
+zielonka-results-agree = results-agree

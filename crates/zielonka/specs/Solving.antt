@@ -33,8 +33,9 @@ use Rattle.attractor.specs.Views.{part-is, part-length, words-enough}
 use Rattle.zielonka.specs.Level.{wonPlace, onLevel, wonAt, entriesOf, Called, Done, Over}
 use Rattle.zielonka.specs.Calling.{level-fits}
 use Rattle.zielonka.specs.PiecesHold.{sound-edges}
-use Rattle.zielonka.specs.Door.{checksBy, Preparable, Prepared, ownerWins, chosen, Entered, Enterable, Written, Runnable, Outputs, Finished, Halted}
-use Rattle.zielonka.specs.DoorLaws.{oneSet, oneTable, afterOdd, afterEven, afterTables, checks-in-order}
+use Rattle.solver.specs.Preparing.{Preparable, Prepared}
+use Rattle.solver.specs.Entries.{ownerWins, chosen, Entered, Enterable, Written}
+use Rattle.solver.specs.Running.{Finished}
 
 -- within a list the default does not matter
 getD-any : (l : List ℕ) (k x y : ℕ) → k < length l → getD l k x ≡ getD l k y
@@ -316,10 +317,10 @@ module _ (t : Tables) (ok : Accepted t) (w₀ : List ℕ) {w : List ℕ}
         odd ≡ (oddPart t s w₄) →
         length before ≡ vertices t →
         Written flag (t .owners) (evenPart t s w₄) (oddPart t s w₄) (entriesPart t w₄) before strategy →
-        Finished flag budget t calls (record { even = even; odd = odd; strategy = strategy })
+        Finished flag budget t (zielonka (gameOf t) .calls) (zielonka (gameOf t) .won) calls (record { even = even; odd = odd; strategy = strategy })
     run-finished {flag} {even} {odd} {before} {strategy} e o long written =
         record {
-          needed = run-calls t ok w₀ room prepared done;
+          exact = run-calls t ok w₀ room prepared done;
           within = done .within;
           even = rw e even-holds;
           odd = rw o odd-holds;
@@ -330,122 +331,3 @@ module _ (t : Tables) (ok : Accepted t) (w₀ : List ℕ) {w : List ℕ}
               (lent-even (vertices t) s (firstBase t) w₄ size, lent-odd (vertices t) s (firstBase t) w₄ size, part-is (entries (vertices t) (edgesIn t)) (vertices t) w₄)
               at written);
         }
-
--- ---- the work area
-
--- all words are 0
-pub all-zero : (w₀ w : List ℕ) {w′ : List ℕ} → length w ≡ length w₀ → Cleared 0 (length w) w w′ → w′ ≡ replicate (length w₀) 0
-all-zero w₀ w {w′} long c =
-    ext-getD 0 w′ (replicate (length w₀) 0) (c .long ∙ long ∙ sym (length-replicate (length w₀) 0))
-    (λ i l.
-    c .zeros i (omega arith) (omega (arith, c .long)) ∙
-    sym (getD-replicate (length w₀) i 0 0 (omega (arith, c .long))))
-
--- ---- the public solver
-
-pub numbered-checks : (t : Tables) (l : Lent) → Numbered (solverChecks t l)
-numbered-checks t l =
-    numbered-then (tableChecks t) _ (numbered-tables t)
-    (numbered-then (check9 (vertices t) _ _) (check10 (vertices t) (edgesIn t) (length (l .work))) (numbered-check9 _ _ _) (numbered-check10 _ _ _))
-
--- past the checks
-pub record Passed (t : Tables) (even odd strategy work : ℕ) : Type 0 where
-  pub accepted : Accepted t
-  pub even-size : even ≡ words (vertices t)
-  pub odd-size : odd ≡ words (vertices t)
-  pub strategy-size : strategy ≡ vertices t
-  pub work-size : workWords (vertices t) (edgesIn t) ≤ work
-
-pub checks-passed : (t : Tables) (even odd strategy work : ℕ) → checksBy t even odd strategy work ≡ none → Passed t even odd strategy work
-unfolding Accepted
-checks-passed t even odd strategy work e =
-    let one = then-none (tableChecks t) (afterTables t even odd strategy work) (checks-in-order t even odd strategy work ∙ e) in
-    let two = then-none (oneSet (vertices t) even) (afterEven t even odd strategy work) (one .1) in
-    let three = then-none (oneSet (vertices t) odd) (afterOdd t even odd strategy work) (two .1) in
-    let four = then-none (oneTable (vertices t) strategy) (check10 (vertices t) (edgesIn t) work) (three .1) in
-    record {
-      accepted = one .0;
-      even-size = check9-set-none (vertices t) even (two .0);
-      odd-size = check9-set-none (vertices t) odd (three .0);
-      strategy-size = check9-table-none (vertices t) strategy (four .0);
-      work-size = check10-none (vertices t) (edgesIn t) work (four .1);
-    }
-
--- a refusal is given as it is, and nothing is written
-leaves-refused :
-    (v : Verdict) (over flag : Bool) (t : Tables) (won : Player → Set) (l : Lent) → (v ≡ none → ⊥) → Leaves v over flag t won l l
-leaves-refused none over flag t won l h = absurd (h refl)
-leaves-refused (refused k p) over flag t won l h = refl
-
-gives-refused : (v : Verdict) (o q : Outcome) → (v ≡ none → ⊥) → outcome v o ≡ outcome v q
-gives-refused none o q h = absurd (h refl)
-gives-refused (refused k p) o q h = refl
-
-pub solves-refused :
-    (flag : Bool) (budget : ℕ) (t : Tables) (needed : ℕ) (won : Player → Set) (l : Lent) (o : Outcome) →
-    o ≡ outcome (solverChecks t l) (answered 0) →
-    (o .number ≡ 0 → ⊥) →
-    Solves flag budget t needed won l l o
-solves-refused flag budget t needed won l o e h =
-    record {
-      gives = e ∙ gives-refused (solverChecks t l) (answered 0) (budgeted budget needed) refuses;
-      leaves = leaves-refused (solverChecks t l) (ltb budget needed) flag t won l refuses;
-    }
-  where
-    refuses : solverChecks t l ≡ none → ⊥
-    refuses z = h (ap (λ (x : Outcome). x .number) (e ∙ ap (λ (v : Verdict). outcome v (answered 0)) z))
-
--- an answer
-pub solves-answered :
-    (flag : Bool) (budget : ℕ) (t : Tables) (before after : Lent) (calls : ℕ) →
-    solverChecks t before ≡ none →
-    Finished flag budget t calls (record { even = after .even; odd = after .odd; strategy = after .strategy }) →
-    after .work ≡ cleared t (before .work) →
-    Solves flag budget t (zielonka (gameOf t) .calls) (zielonka (gameOf t) .won) before after (answered calls)
-solves-answered flag budget t before after calls passed f work =
-    let under : ltb budget (zielonka (gameOf t) .calls) ≡ false = le-ltb budget (zielonka (gameOf t) .calls) (omega (arith, f .needed, f .within)) in
-    record {
-      gives =
-          rw (passed, under) (ap answered (f .needed));
-      leaves =
-          rw (passed, under)
-          (record { even = f .even; odd = f .odd; long = f .long; entries = f .entries; work = work });
-    }
-
--- 13
-pub solves-stopped :
-    (flag : Bool) (budget : ℕ) (t : Tables) (before after : Lent) →
-    solverChecks t before ≡ none →
-    Halted budget t (record { even = before .even; odd = before .odd; strategy = before .strategy })
-    (record { even = after .even; odd = after .odd; strategy = after .strategy }) →
-    after .work ≡ cleared t (before .work) →
-    Solves flag budget t (zielonka (gameOf t) .calls) (zielonka (gameOf t) .won) before after
-    (record { number = 13; place = 0; count = budget })
-solves-stopped flag budget t before after passed h work =
-    let beyond : ltb budget (zielonka (gameOf t) .calls) ≡ true = lt-ltb budget (zielonka (gameOf t) .calls) (h .over) in
-    record {
-      gives = rw (passed, beyond) refl;
-      leaves =
-          rw (passed, beyond)
-          (record {
-            even = ap (λ (o : Outputs). o .even) (h .same);
-            odd = ap (λ (o : Outputs). o .odd) (h .same);
-            strategy = ap (λ (o : Outputs). o .strategy) (h .same);
-            work = work;
-          });
-    }
-
--- past the checks the first W words are what the run asks for
-pub run-ready :
-    (t : Tables) (w : ℕ) (even odd strategy work : List ℕ) →
-    w ≡ workWords (vertices t) (edgesIn t) →
-    Passed t (length even) (length odd) (length strategy) (length work) →
-    Runnable t even odd strategy (take (w - 0) (drop 0 work))
-run-ready t w even odd strategy work is p =
-    record {
-      accepted = p .accepted;
-      even-size = p .even-size;
-      odd-size = p .odd-size;
-      strategy-size = p .strategy-size;
-      room = omega (arith, length-take (w - 0) work, p .work-size);
-    }

@@ -22,7 +22,7 @@ use Rattle.theory.specs.Run.{Top, Cut, AllWon, AllEntries, SomeLost, SomeEntrie
 use Rattle.theory.specs.Run.{run-over, cut-inside, cut-total, cut-fewer, first-fewer}
 use Rattle.theory.specs.RunSame.{Needs, needs-one, needs-first, needs-both}
 use Rattle.theory.specs.RunSound.{run-sound}
-use Rattle.zielonka.specs.SetsAt.{set-kept}
+use Rattle.attractor.specs.SetsAt.{set-kept}
 use Rattle.zielonka.specs.Level.{nextLevel, wonPlace, onLevel, drawnAt, wonAt, entriesOf, Called, Stays, Done, Over}
 
 -- the attractor S of T in V for player c is drawn, and V without S stands at the next level

@@ -5,14 +5,9 @@ use crate::level::attract_lost;
 use crate::level::join;
 use crate::level::lost_nothing;
 use crate::level::win_everything;
+use solver::Ran;
 ghost use Rattle.zielonka.specs.Level.{Called, Ends};
 ghost use Rattle.rules.specs.Tables.{tablesOf};
-
-// The calls made so far, or that more are needed than the budget allows.
-pub enum Ran {
-    Calls(u64),
-    OverBudget,
-}
 
 pub fn zielonka_rec(
     owners: &[u8],
@@ -35,7 +30,7 @@ pub fn zielonka_rec(
     let s = parity_game::set_words(owners.len());
     if sets::is_empty(&work[base..base + s]) {
         sets::clear(work, base + 2 * s, 2 * s);
-        return Ran::Calls(calls + 1);
+        return Ran::Needed(calls + 1);
     }
     let p = get_highest_prio(priorities, &work[base..base + s]).0;
     attract_highest(owners, priorities, offsets, targets, p, s, work, base);
@@ -49,12 +44,12 @@ pub fn zielonka_rec(
         calls + 1,
         budget,
     );
-    let Ran::Calls(made) = first else {
+    let Ran::Needed(made) = first else {
         return Ran::OverBudget;
     };
     if lost_nothing(p, s, work, base + 4 * s) {
         win_everything(owners, priorities, offsets, targets, p, s, work, base);
-        return Ran::Calls(made);
+        return Ran::Needed(made);
     }
     attract_lost(owners, offsets, targets, p, s, work, base);
     let second = zielonka_rec(
@@ -67,9 +62,9 @@ pub fn zielonka_rec(
         made,
         budget,
     );
-    let Ran::Calls(all) = second else {
+    let Ran::Needed(all) = second else {
         return Ran::OverBudget;
     };
     join(p, s, work, base);
-    Ran::Calls(all)
+    Ran::Needed(all)
 }

@@ -7,7 +7,8 @@ use Rattle.rules.specs.Tables.{Tables, tablesOf}
 use Rattle.theory.specs.Tables.{accepted-sound}
 use Rattle.attractor.specs.Area.{free}
 use Rattle.zielonka.specs.Level.{Done, Ends}
-use Rattle.zielonka.specs.Solving.{run-preparable, run-called, run-over-budget, lent-room, even-long, odd-long, lent-enterable, run-finished, all-zero}
+use Rattle.zielonka.specs.Solving.{run-preparable, run-called, run-over-budget, lent-room, even-long, odd-long, lent-enterable, run-finished}
+use Rattle.solver.specs.Running.{all-zero}
 use borrow.Author.Needs.{needs}
 use Rattle.zielonka.proofs.door.run.Statement.{statement}
 use Rattle.zielonka.proofs.door.run.Tie as tie

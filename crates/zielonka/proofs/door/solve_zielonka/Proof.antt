@@ -9,9 +9,9 @@ use Rattle.rules.specs.Zielonka.{zielonka}
 use Rattle.theory.specs.Tables.{accepted-sound}
 use Rattle.parity_game.proofs.Matched.{went-on, refusal-not-zero}
 use Rattle.attractor.specs.Answered.{work-cleared}
-use Rattle.zielonka.specs.declared.recursion.Ran.{Ran}
-use Rattle.zielonka.specs.Door.{Runs}
-use Rattle.zielonka.specs.Solving.{numbered-checks, Passed, checks-passed, run-ready, solves-refused, solves-answered, solves-stopped}
+use Rattle.solver.specs.declared.ran.Ran.{Ran}
+use Rattle.solver.specs.Checks.{numbered-checks, Passed, checks-passed}
+use Rattle.solver.specs.Running.{Runs, run-ready, solves-refused, solves-answered, solves-stopped}
 use borrow.Author.Needs.{needs}
 use Rattle.zielonka.proofs.door.solve_zielonka.Statement.{statement}
 use Rattle.zielonka.proofs.door.solve_zielonka.Tie as tie
@@ -95,11 +95,11 @@ same-length-4 c = search needs
 returns-2 : tie.Need-returns-2
 returns-2 c =
     let g = c .before .before .before .before .before .before .before .before .before .before .before .before .before .before .before .before .before .before .before .before .before .before .before .before .before .before .before in
-    solves-stopped (g .args .compute-strategy) (g .args .budget) (tables g) (lent g)
+    solves-stopped (g .args .compute-strategy) (g .args .budget) (tables g) (zielonka (gameOf (tables g)) .calls) (zielonka (gameOf (tables g)) .won) (lent g)
     (record { even = c .before .before .before .before .before .before .before .before .before .before .run .last .1 .1 .1 .1 .1 .1 .0; odd = c .before .before .before .before .before .before .before .before .before .before .run .last .1 .1 .1 .1 .1 .1 .1 .0; strategy = c .before .before .before .before .before .before .before .before .before .before .run .last .1 .1 .1 .1 .1 .1 .1 .1 .0; work = _ })
     (no-refusal (c .before .before .before .before .before .before .before .before .before .before .before .before .before .before .before .before))
     (subst
-    (λ (r : Ran). Runs (g .args .compute-strategy) (g .args .budget) (tables g) (record { even = g .args .even .now; odd = g .args .odd .now; strategy = g .args .strategy .now }) (record { even = c .before .before .before .before .before .before .before .before .before .before .run .last .1 .1 .1 .1 .1 .1 .0; odd = c .before .before .before .before .before .before .before .before .before .before .run .last .1 .1 .1 .1 .1 .1 .1 .0; strategy = c .before .before .before .before .before .before .before .before .before .before .run .last .1 .1 .1 .1 .1 .1 .1 .1 .0 }) r)
+    (λ (r : Ran). Runs (g .args .compute-strategy) (g .args .budget) (tables g) (zielonka (gameOf (tables g)) .calls) (zielonka (gameOf (tables g)) .won) (record { even = g .args .even .now; odd = g .args .odd .now; strategy = g .args .strategy .now }) (record { even = c .before .before .before .before .before .before .before .before .before .before .run .last .1 .1 .1 .1 .1 .1 .0; odd = c .before .before .before .before .before .before .before .before .before .before .run .last .1 .1 .1 .1 .1 .1 .1 .0; strategy = c .before .before .before .before .before .before .before .before .before .before .run .last .1 .1 .1 .1 .1 .1 .1 .1 .0 }) r)
     (c .enum-told2 .given .1)
     (c .before .before .before .before .before .before .before .before .before .before .run .ensures .1))
     (work-cleared (tables g) (c .before .before .before .before .before .before .before .before .before .before .before .before .before .before .before .work-words .result) (g .args .work .now) _ (c .before .before .before .before .before .before .before .before .before .before .before .before .before .before .before .work-words .ensures) (passed (c .before .before .before .before .before .before .before .before .before .before .before .before .before .before .before .before) .work-size)
@@ -120,12 +120,12 @@ same-length-8 c = search needs
 returns-3 : tie.Need-returns-3
 returns-3 c =
     let g = c .before .before .before .before .before .before .before .before .before .before .before .before .before .before .before .before .before .before .before .before .before .before .before .before .before .before .before .before in
-    solves-answered (g .args .compute-strategy) (g .args .budget) (tables g) (lent g)
+    solves-answered (g .args .compute-strategy) (g .args .budget) (tables g) (zielonka (gameOf (tables g)) .calls) (zielonka (gameOf (tables g)) .won) (lent g)
     (record { even = c .before .before .before .before .before .before .before .before .before .before .before .run .last .1 .1 .1 .1 .1 .1 .0; odd = c .before .before .before .before .before .before .before .before .before .before .before .run .last .1 .1 .1 .1 .1 .1 .1 .0; strategy = c .before .before .before .before .before .before .before .before .before .before .before .run .last .1 .1 .1 .1 .1 .1 .1 .1 .0; work = _ })
     (c .before .ran .given .0 .0)
     (no-refusal (c .before .before .before .before .before .before .before .before .before .before .before .before .before .before .before .before .before))
     (subst
-    (λ (r : Ran). Runs (g .args .compute-strategy) (g .args .budget) (tables g) (record { even = g .args .even .now; odd = g .args .odd .now; strategy = g .args .strategy .now }) (record { even = c .before .before .before .before .before .before .before .before .before .before .before .run .last .1 .1 .1 .1 .1 .1 .0; odd = c .before .before .before .before .before .before .before .before .before .before .before .run .last .1 .1 .1 .1 .1 .1 .1 .0; strategy = c .before .before .before .before .before .before .before .before .before .before .before .run .last .1 .1 .1 .1 .1 .1 .1 .1 .0 }) r)
+    (λ (r : Ran). Runs (g .args .compute-strategy) (g .args .budget) (tables g) (zielonka (gameOf (tables g)) .calls) (zielonka (gameOf (tables g)) .won) (record { even = g .args .even .now; odd = g .args .odd .now; strategy = g .args .strategy .now }) (record { even = c .before .before .before .before .before .before .before .before .before .before .before .run .last .1 .1 .1 .1 .1 .1 .0; odd = c .before .before .before .before .before .before .before .before .before .before .before .run .last .1 .1 .1 .1 .1 .1 .1 .0; strategy = c .before .before .before .before .before .before .before .before .before .before .before .run .last .1 .1 .1 .1 .1 .1 .1 .1 .0 }) r)
     (c .before .ran .given .1)
     (c .before .before .before .before .before .before .before .before .before .before .before .run .ensures .1))
     (work-cleared (tables g) (c .before .before .before .before .before .before .before .before .before .before .before .before .before .before .before .before .work-words .result) (g .args .work .now) _ (c .before .before .before .before .before .before .before .before .before .before .before .before .before .before .before .before .work-words .ensures) (passed (c .before .before .before .before .before .before .before .before .before .before .before .before .before .before .before .before .before) .work-size)

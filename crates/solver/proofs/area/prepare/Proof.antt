@@ -1,9 +1,9 @@
 -- `prepare` meets its contract.
 use native.Mathlib.Omega.{arith}
-use Rattle.zielonka.specs.Preparing.{fill-fits, prepared-full}
+use Rattle.solver.specs.Preparing.{fill-fits, prepared-full}
 use borrow.Author.Needs.{needs}
-use Rattle.zielonka.proofs.door.prepare.Statement.{statement}
-use Rattle.zielonka.proofs.door.prepare.Tie as tie
+use Rattle.solver.proofs.area.prepare.Statement.{statement}
+use Rattle.solver.proofs.area.prepare.Tie as tie
 
 build-requires : tie.Need-build-requires
 build-requires c κs =

@@ -15,17 +15,12 @@ use Rattle.sets.specs.Laws.{bit-member, times-members}
 use Rattle.sets.specs.Whole.{bit-lt}
 use Rattle.sets.specs.Walk.{members, left}
 use Rattle.sets.specs.declared.members.Members.{Members}
 use Rattle.attractor.specs.Area.{wordsAt}
 use Rattle.attractor.specs.Views.{part-is}
 
 -- the words of a part, as the code has it, are those of the set
 pub lent-part : (n s a : ℕ) (xs : List ℕ) → s ≡ words n → take ((a + s) - a) (drop a xs) ≡ wordsAt n a xs
 lent-part n s a xs size = part-is a s xs ∙ ap (λ (k : ℕ). take k (drop a xs)) size
-
--- the words of a set are few
-pub words-few : (n : ℕ) → n ≤ 4096 → words n ≤ 64
-unfolding words
-words-few n h = omega arith
 
 -- how often each vertex stands in what is left
 pub times-next : (v x : ℕ) (l : List ℕ) → times v (x ∷ l) ≡ cond (eqb v x) 1 0 + times v l

@@ -7,10 +7,10 @@ use Rattle.rules.specs.Outcome.{Verdict, none, _then_, outcome, answered}
 use Rattle.rules.specs.Tables.{Tables, vertices, edgesIn, tableChecks, Accepted, check10, tablesOf}
 use Rattle.parity_game.specs.Laws.{Sound, accepted-sound, passed, numbered-tables, numbered-check9}
 use Rattle.parity_game.proofs.Matched.{went-on, stopped}
-use Rattle.zielonka.specs.Door.{checksBy}
-use Rattle.zielonka.specs.DoorLaws.{oneSet, oneTable, afterOdd, afterEven, afterTables, checks-in-order}
-use Rattle.zielonka.proofs.door.check_all.Statement.{statement}
-use Rattle.zielonka.proofs.door.check_all.Tie as tie
+use Rattle.solver.specs.Checks.{checksBy}
+use Rattle.solver.specs.Checks.{oneSet, oneTable, afterOdd, afterEven, afterTables, checks-in-order}
+use Rattle.solver.proofs.checks.check_all.Statement.{statement}
+use Rattle.solver.proofs.checks.check_all.Tie as tie
 
 -- the tables as lent
 abbrev tables : tie.Start → Tables

@@ -1,4 +1,4 @@
--- The first level is made ready: the predecessor table is listed, and the set of all vertices stands at the base.
+-- The work area at first: the predecessor table is listed, and the set of all vertices stands at the base.
 use mathlib.Core.Bool.{Bool, true, false, cond}
 use mathlib.Core.List.{List}
 use mathlib.Core.Logic.{_⊎_, inl, inr}
@@ -16,9 +16,23 @@ use Rattle.attractor.specs.Area.{free, setAt, wordsAt}
 use Rattle.attractor.specs.Running.{listed-kept}
 use Rattle.attractor.specs.Runs.{built-listed}
 use Rattle.attractor.specs.Views.{part-is, part-length, back, back-long, back-front, back-part}
-use Rattle.zielonka.specs.SetsAt.{set-cleared}
-use Rattle.zielonka.specs.Walking.{lent-part}
-use Rattle.zielonka.specs.Door.{Preparable, Prepared}
+use Rattle.attractor.specs.SetsAt.{set-cleared}
+use Rattle.attractor.specs.Walking.{lent-part}
+use Rattle.attractor.specs.Attracted.{Listed}
+use Rattle.predecessors.specs.Table.{SoundEdges}
+
+-- what `prepare` asks for: sound edges, and room for the predecessor table and a set
+pub record Preparable (n : ℕ) (offsets targets : List ℕ) (s base : ℕ) (work : List ℕ) : Type 0 where
+  pub edges : SoundEdges n offsets targets
+  pub size : s ≡ words n
+  pub low : free n (length targets) ≤ base
+  pub high : base + s ≤ length work
+
+-- the predecessor table, and the set of all vertices
+pub record Prepared (n : ℕ) (offsets targets : List ℕ) (base : ℕ) (before after : List ℕ) : Type 0 where
+  pub long : length after ≡ length before
+  pub listed : Listed n offsets targets after
+  pub full : (v : ℕ) → setAt n base after v ≡ ltb v n
 
 -- a digit that is 1 where a test holds, and else 0, is the test
 test-digit : (t : Bool) → eqb (cond t 1 0) 1 ≡ t

@@ -6,10 +6,10 @@ use Prim.Native.Nat.{ℕ}
 use borrow.Author.Tests.{not-true, not-false}
 use lib.ListN.{getD}
 use Rattle.rules.specs.Words.{noEntry}
-use Rattle.zielonka.specs.DoorLaws.{entry-unasked, entry-even, entry-odd, wins-even-so, wins-odd-so}
+use Rattle.solver.specs.Entries.{entry-unasked, entry-even, entry-odd, wins-even-so, wins-odd-so}
 use borrow.Author.Needs.{needs}
-use Rattle.zielonka.proofs.door.strategy_entry.Statement.{statement}
-use Rattle.zielonka.proofs.door.strategy_entry.Tie as tie
+use Rattle.solver.proofs.entries.strategy_entry.Statement.{statement}
+use Rattle.solver.proofs.entries.strategy_entry.Tie as tie
 
 returns : tie.Need-returns
 returns c = let a = c .before .before .before .before .before .args in entry-unasked (a .owners .now) (a .even .now) (a .odd .now) (a .entries .now) (a .v) (not-true (a .compute-strategy) (c .if1 .taken))

@@ -5,10 +5,10 @@ use Prim.Native.Nat.{ℕ, _-_, _≤_, _<_}
 use native.Mathlib.Nat.{not-suc-le-zero}
 use lib.ListN.{length, getD, length-set}
 use Rattle.attractor.specs.DoorLaws.{stored-more}
-use Rattle.zielonka.specs.Door.{chosen}
+use Rattle.solver.specs.Entries.{chosen}
 use borrow.Author.Needs.{needs}
-use Rattle.zielonka.proofs.door.write_strategy.Statement.{statement}
-use Rattle.zielonka.proofs.door.write_strategy.Tie as tie
+use Rattle.solver.proofs.entries.write_strategy.Statement.{statement}
+use Rattle.solver.proofs.entries.write_strategy.Tie as tie
 
 abbrev Inv-loop : tie.InvT-loop
 Inv-loop compute-strategy owners even odd entries strategy₀ v₀ v-end strategy v =

@@ -1,0 +1,72 @@
+-- The entry of each vertex as it is written out, and the way that the code goes to it.
+use mathlib.Core.Bool.{Bool, true, false, _&&_, cond}
+use mathlib.Core.List.{List}
+use mathlib.Core.Path.{_≡_, refl, sym, ap, _∙_}
+use Prim.Native.Nat.{ℕ, _*_, _<_}
+use borrow.Author.Tests.{eq-eqb, ne-eqb}
+use lib.Dec.{eqb}
+use lib.ListN.{length, getD}
+use Rattle.rules.specs.Counting.{Set}
+use Rattle.rules.specs.Words.{setOf, noEntry}
+
+-- whether the owner of v wins it
+abbrev pub ownerWins : List ℕ → List ℕ → List ℕ → Set
+ownerWins owners even odd v = cond (eqb (getD owners v 0) 0) (setOf even v) (setOf odd v)
+
+-- what `strategy_entry` asks for
+pub record Entered (owners even odd entries : List ℕ) (v : ℕ) : Type 0 where
+  pub small : v < length owners
+  pub long : length entries ≡ length owners
+  pub even-bits : v < 64 * length even
+  pub odd-bits : v < 64 * length odd
+  pub narrow : ownerWins owners even odd v ≡ true → getD entries v 0 < 65536
+
+-- the entry of v: with the flag, its own where its owner wins it; else none
+abbrev pub chosen : Bool → List ℕ → List ℕ → List ℕ → List ℕ → ℕ → ℕ
+chosen flag owners even odd entries v = cond (flag && ownerWins owners even odd v) (getD entries v 0) noEntry
+
+-- what `write_strategy` asks for
+pub record Enterable (owners even odd entries strategy : List ℕ) : Type 0 where
+  pub each : length strategy ≡ length owners
+  pub entered : (v : ℕ) → v < length owners → Entered owners even odd entries v
+
+-- what it leaves
+pub record Written (flag : Bool) (owners even odd entries before after : List ℕ) : Type 0 where
+  pub long : length after ≡ length before
+  pub all : (v : ℕ) → v < length owners → getD after v 0 ≡ chosen flag owners even odd entries v
+
+-- the entry of v, by the way that the code goes
+module _ (owners even odd entries : List ℕ) (v : ℕ) where
+  pub entry-unasked : {flag : Bool} → flag ≡ false → 65535 ≡ chosen flag owners even odd entries v
+  entry-unasked e = rw e
+
+  module _ {flag : Bool} (asked : flag ≡ true) where
+    by-owner :
+        {won : Bool} → ownerWins owners even odd v ≡ won → cond won (getD entries v 0) noEntry ≡ chosen flag owners even odd entries v
+    by-owner e = sym (rw (asked, e))
+
+    wins-even : getD owners v 0 ≡ 0 → {won : Bool} → won ≡ setOf even v → ownerWins owners even odd v ≡ won
+    wins-even o e = rw (eq-eqb (getD owners v 0) 0 o) (sym e)
+
+    wins-odd : (getD owners v 0 ≡ 0 → ⊥) → {won : Bool} → won ≡ setOf odd v → ownerWins owners even odd v ≡ won
+    wins-odd o e = rw (ne-eqb (getD owners v 0) 0 o) (sym e)
+
+    -- Even's vertex
+    pub entry-even :
+        getD owners v 0 ≡ 0 → {won : Bool} → won ≡ setOf even v → cond won (getD entries v 0) noEntry ≡ chosen flag owners even odd entries v
+    entry-even o e = by-owner (wins-even o e)
+
+    -- Odd's vertex
+    pub entry-odd :
+        (getD owners v 0 ≡ 0 → ⊥) →
+        {won : Bool} →
+        won ≡ setOf odd v →
+        cond won (getD entries v 0) noEntry ≡ chosen flag owners even odd entries v
+    entry-odd o e = by-owner (wins-odd o e)
+
+    -- where its owner wins it
+    pub wins-even-so : getD owners v 0 ≡ 0 → {won : Bool} → won ≡ setOf even v → won ≡ true → ownerWins owners even odd v ≡ true
+    wins-even-so o e p = wins-even o e ∙ p
+
+    pub wins-odd-so : (getD owners v 0 ≡ 0 → ⊥) → {won : Bool} → won ≡ setOf odd v → won ≡ true → ownerWins owners even odd v ≡ true
+    wins-odd-so o e p = wins-odd o e ∙ p

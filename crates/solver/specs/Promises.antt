@@ -1,0 +1,184 @@
+-- What a reader may conclude of a solver from its contract alone, whatever it counts: when it has answered, what it then leaves, and that
+-- any two results that meet the contract are the same but for strategy entries.
+use mathlib.Core.Bool.{Bool, true, false, cond}
+use mathlib.Core.List.{List}
+use mathlib.Core.Logic.{_⊎_, inl, inr, ⊎-elim}
+use mathlib.Core.Path.{_≡_, refl, sym, ap, _∙_}
+use Prim.Native.Nat.{ℕ, _+_, _*_, _^_, _≤_, _<_}
+use native.Mathlib.Omega.{arith}
+use borrow.Author.Tests.{le-ltb, eqb-false}
+use lib.Dec.{ltb}
+use lib.ListN.{getD}
+use lib.Seq.{ext-getD}
+use Rattle.rules.specs.Counting.{Set}
+use Rattle.rules.specs.Game.{Player, Even, Odd}
+use Rattle.rules.specs.Outcome.{Outcome, Verdict, none, refused, outcome, answered, budgeted}
+use Rattle.rules.specs.Solver.{Lent, solverChecks, Entries, Answered, Leaves, Solves}
+use Rattle.rules.specs.Tables.{Tables, gameOf, vertices, tableChecks, Accepted}
+use Rattle.rules.specs.Winning.{WinningSets}
+use Rattle.rules.specs.Words.{setOf, bit, Holds}
+use Rattle.parity_game.specs.Laws.{then-none, zero-none}
+use Rattle.sets.specs.Digits.{digits-tell}
+use Rattle.sets.specs.Laws.{bit-of-set}
+use Rattle.sets.specs.Whole.{bit-at}
+use Rattle.theory.specs.Basics.{clash, lt-or-ge}
+use Rattle.solver.specs.Checks.{numbered-checks}
+
+-- the words of a player's set
+abbrev pub setFor : Lent → Player → List ℕ
+setFor l Even = l .even
+setFor l Odd = l .odd
+
+-- the set that a player got
+abbrev pub gotBy : Lent → Player → Set
+gotBy l c v = setOf (setFor l c) v
+
+budget-number : (over : Bool) (budget needed : ℕ) → cond over (record { number = 13; place = 0; count = budget }) (answered needed) .number ≡ 0 → over ≡ false
+budget-number true budget needed e = absurd (eqb-false 13 0 refl e)
+budget-number false budget needed e = refl
+
+module _ {flag : Bool} {budget : ℕ} {t : Tables} {needed : ℕ} {won : Player → Set} {before after : Lent} {o : Outcome}
+    (p : Solves flag budget t needed won before after o)
+  where
+    -- an answer was not refused, and needed no more than the budget
+    not-refused : o .number ≡ 0 → solverChecks t before ≡ none
+    not-refused e =
+        zero-none (solverChecks t before) (budgeted budget needed) (numbered-checks t before)
+        (ap (λ (x : Outcome). x .number) (sym (p .gives)) ∙ e)
+
+    within-budget : o .number ≡ 0 → ltb budget needed ≡ false
+    within-budget e =
+        budget-number (ltb budget needed) budget needed
+        (ap (λ (x : Outcome). x .number)
+        (sym (ap (λ (v : Verdict). outcome v (budgeted budget needed)) (not-refused e)) ∙ sym (p .gives)) ∙
+        e)
+
+    pub answer : o .number ≡ 0 → Answered flag t won before after
+    answer e = rw (not-refused e, within-budget e) at (p .leaves)
+
+    -- the tables are accepted where it answers
+    pub answered-accepted : o .number ≡ 0 → Accepted t
+    unfolding Accepted
+    answered-accepted e = then-none (tableChecks t) _ (not-refused e) .0
+
+    pub answered-holds : o .number ≡ 0 → (c : Player) → Holds (vertices t) (won c) (setFor after c)
+    answered-holds e Even = answer e .even
+    answered-holds e Odd = answer e .odd
+
+    -- **The count is what was needed.**
+    pub answered-count : o .number ≡ 0 → o .count ≡ needed
+    answered-count e =
+        ap (λ (x : Outcome). x .count) (p .gives) ∙
+        ap (λ (v : Verdict). outcome v (budgeted budget needed) .count) (not-refused e) ∙
+        ap (λ (b : Bool). cond b (record { number = 13; place = 0; count = budget }) (answered needed) .count) (within-budget e)
+
+    -- **Where the rules' sets are the winning sets of demand 2, so are the sets that are given.**
+    pub answered-winning : o .number ≡ 0 → WinningSets (gameOf t) won → WinningSets (gameOf t) (gotBy after)
+    unfolding gameOf
+    answered-winning e wins c v small =
+        let same = answered-holds e c .bits v small in
+        (λ q. wins c v small .0 (sym same ∙ q), λ w. same ∙ wins c v small .1 w)
+
+    -- **It answers whenever nothing is refused and the budget is enough.**
+    pub answers-within : solverChecks t before ≡ none → needed ≤ budget → o ≡ answered needed
+    answers-within passed enough =
+        p .gives ∙
+        ap (λ (v : Verdict). outcome v (budgeted budget needed)) passed ∙
+        ap (λ (b : Bool). cond b (record { number = 13; place = 0; count = budget }) (answered needed)) (le-ltb budget needed (omega arith))
+
+-- ---- two results that meet the contract
+
+-- words that hold one set are equal
+pub holds-same :
+    {n : ℕ} {S : Set} (xs ys : List ℕ) →
+    ((i : ℕ) → getD xs i 0 < 2 ^ 64) →
+    ((i : ℕ) → getD ys i 0 < 2 ^ 64) →
+    Holds n S xs →
+    Holds n S ys →
+    xs ≡ ys
+holds-same {n} {S} xs ys small small′ h h′ =
+    ext-getD 0 xs ys (h .long ∙ sym (h′ .long))
+    (λ i l.
+    digits-tell 64 (getD xs i 0) (getD ys i 0) (small i) (small′ i)
+    (λ k m. sym (bit-at xs i k m) ∙ bits (64 * i + k) ∙ bit-at ys i k m))
+  where
+    bits : (v : ℕ) → bit xs v ≡ bit ys v
+    bits v =
+        ⊎-elim
+        (λ l.
+        bit-of-set xs v ∙ ap (λ (b : Bool). cond b 1 0) (h .bits v l ∙ sym (h′ .bits v l)) ∙ sym (bit-of-set ys v))
+        (λ l. h .clear v l ∙ sym (h′ .clear v l))
+        (lt-or-ge v n)
+
+-- two results agree in all but strategy entries
+pub record Agree (flag : Bool) (after after′ : Lent) (o o′ : Outcome) : Type 0 where
+  pub outcomes : o ≡ o′
+  pub even : after .even ≡ after′ .even
+  pub odd : after .odd ≡ after′ .odd
+  pub unasked : flag ≡ false → after .strategy ≡ after′ .strategy
+  pub work : after .work ≡ after′ .work
+
+-- words of 64 bits
+abbrev pub Narrow : List ℕ → Type 0
+Narrow xs = (i : ℕ) → getD xs i 0 < 2 ^ 64
+
+agree-by :
+    (v : Verdict) (over flag : Bool) (t : Tables) (won : Player → Set) (before after after′ : Lent) (o : Outcome) →
+    ((c : Player) → Narrow (setFor after c)) →
+    ((c : Player) → Narrow (setFor after′ c)) →
+    Leaves v over flag t won before after →
+    Leaves v over flag t won before after′ →
+    Agree flag after after′ o o
+agree-by (refused k q) over flag t won before after after′ o n n′ l l′ =
+    let same : after ≡ after′ = l ∙ sym l′ in
+    record {
+      outcomes = refl;
+      even = ap (λ (x : Lent). x .even) same;
+      odd = ap (λ (x : Lent). x .odd) same;
+      unasked = λ e. ap (λ (x : Lent). x .strategy) same;
+      work = ap (λ (x : Lent). x .work) same;
+    }
+agree-by none true flag t won before after after′ o n n′ l l′ =
+    record {
+      outcomes = refl;
+      even = l .even ∙ sym (l′ .even);
+      odd = l .odd ∙ sym (l′ .odd);
+      unasked = λ e. l .strategy ∙ sym (l′ .strategy);
+      work = l .work ∙ sym (l′ .work);
+    }
+agree-by none false flag t won before after after′ o n n′ l l′ =
+    record {
+      outcomes = refl;
+      even = holds-same (after .even) (after′ .even) (n Even) (n′ Even) (l .even) (l′ .even);
+      odd = holds-same (after .odd) (after′ .odd) (n Odd) (n′ Odd) (l .odd) (l′ .odd);
+      unasked = unasked flag (l .entries) (l′ .entries);
+      work = l .work ∙ sym (l′ .work);
+    }
+  where
+    unasked :
+        (f : Bool) →
+        Entries f t won (after .strategy) →
+        Entries f t won (after′ .strategy) →
+        f ≡ false →
+        after .strategy ≡ after′ .strategy
+    unasked true a b e = absurd (clash refl e)
+    unasked false a b e = a ∙ sym b
+
+-- **Any two results that meet the contract are the same but for strategy entries.**
+pub results-agree :
+    {flag : Bool} {budget : ℕ} {t : Tables} {needed : ℕ} {won : Player → Set} {before after after′ : Lent} {o o′ : Outcome} →
+    ((c : Player) → Narrow (setFor after c)) →
+    ((c : Player) → Narrow (setFor after′ c)) →
+    Solves flag budget t needed won before after o →
+    Solves flag budget t needed won before after′ o′ →
+    Agree flag after after′ o o′
+results-agree {flag} {budget} {t} {needed} {won} {before} {after} {after′} {o} {o′} n n′ p p′ =
+    let agree =
+    agree-by (solverChecks t before) (ltb budget needed) flag t won before after after′ o n n′ (p .leaves) (p′ .leaves) in
+    record {
+      outcomes = p .gives ∙ sym (p′ .gives);
+      even = agree .even;
+      odd = agree .odd;
+      unasked = agree .unasked;
+      work = agree .work;
+    }

@@ -1,0 +1,140 @@
+-- A run of a solver under a budget, which needs so many calls or rounds for its sets: what it asks for and leaves, and how it makes an answer.
+use mathlib.Core.Bool.{Bool, true, false, cond}
+use mathlib.Core.List.{List, _++_}
+use mathlib.Core.Path.{_≡_, refl, sym, ap, _∙_}
+use Prim.Native.Nat.{ℕ, _+_, _-_, _*_, _≤_, _<_}
+use native.Mathlib.Omega.{arith}
+use borrow.Author.Tests.{lt-ltb, le-ltb}
+use lib.Dec.{ltb}
+use lib.ListN.{length, getD, take, drop, replicate, length-replicate, getD-replicate, length-take}
+use lib.Seq.{ext-getD}
+use Rattle.rules.specs.Counting.{Set}
+use Rattle.rules.specs.Game.{Player, Even, Odd}
+use Rattle.rules.specs.Outcome.{Outcome, Verdict, none, refused, outcome, answered, budgeted}
+use Rattle.rules.specs.Solver.{Lent, solverChecks, Entries, Leaves, Solves, cleared}
+use Rattle.rules.specs.Tables.{Tables, vertices, edgesIn, words, workWords, Accepted}
+use Rattle.rules.specs.Words.{Holds}
+use Rattle.sets.specs.After.{Cleared}
+use Rattle.solver.specs.declared.ran.Ran.{Ran}
+use Rattle.solver.specs.declared.ran.Ran.the-variants.{Needed, OverBudget}
+use Rattle.solver.specs.Checks.{Passed}
+
+-- what `run` asks for: accepted tables, outputs of the right sizes, and W words
+pub record Runnable (t : Tables) (even odd strategy work : List ℕ) : Type 0 where
+  pub accepted : Accepted t
+  pub even-size : length even ≡ words (vertices t)
+  pub odd-size : length odd ≡ words (vertices t)
+  pub strategy-size : length strategy ≡ vertices t
+  pub room : length work ≡ workWords (vertices t) (edgesIn t)
+
+-- the lists that `run` writes
+pub record Outputs : Type 0 where
+  pub even : List ℕ
+  pub odd : List ℕ
+  pub strategy : List ℕ
+
+-- an answer within the budget
+pub record Finished (flag : Bool) (budget : ℕ) (t : Tables) (needed : ℕ) (won : Player → Set) (made : ℕ) (after : Outputs) : Type 0 where
+  pub exact : made ≡ needed
+  pub within : made ≤ budget
+  pub even : Holds (vertices t) (won Even) (after .even)
+  pub odd : Holds (vertices t) (won Odd) (after .odd)
+  pub long : length (after .strategy) ≡ vertices t
+  pub entries : Entries flag t won (after .strategy)
+
+-- more is needed than the budget, and nothing is written
+pub record Halted (budget needed : ℕ) (before after : Outputs) : Type 0 where
+  pub over : budget < needed
+  pub same : after ≡ before
+
+-- by cases on what the run gave
+abbrev pub Runs : Bool → ℕ → Tables → ℕ → (Player → Set) → Outputs → Outputs → Ran → Type 0
+Runs flag budget t needed won before after (Needed made) = Finished flag budget t needed won made after
+Runs flag budget t needed won before after OverBudget = Halted budget needed before after
+
+-- all words are 0
+pub all-zero : (w₀ w : List ℕ) {w′ : List ℕ} → length w ≡ length w₀ → Cleared 0 (length w) w w′ → w′ ≡ replicate (length w₀) 0
+all-zero w₀ w {w′} long c =
+    ext-getD 0 w′ (replicate (length w₀) 0) (c .long ∙ long ∙ sym (length-replicate (length w₀) 0))
+    (λ i l.
+    c .zeros i (omega arith) (omega (arith, c .long)) ∙
+    sym (getD-replicate (length w₀) i 0 0 (omega (arith, c .long))))
+
+-- a refusal is given as it is, and nothing is written
+leaves-refused :
+    (v : Verdict) (over flag : Bool) (t : Tables) (won : Player → Set) (l : Lent) → (v ≡ none → ⊥) → Leaves v over flag t won l l
+leaves-refused none over flag t won l h = absurd (h refl)
+leaves-refused (refused k p) over flag t won l h = refl
+
+gives-refused : (v : Verdict) (o q : Outcome) → (v ≡ none → ⊥) → outcome v o ≡ outcome v q
+gives-refused none o q h = absurd (h refl)
+gives-refused (refused k p) o q h = refl
+
+pub solves-refused :
+    (flag : Bool) (budget : ℕ) (t : Tables) (needed : ℕ) (won : Player → Set) (l : Lent) (o : Outcome) →
+    o ≡ outcome (solverChecks t l) (answered 0) →
+    (o .number ≡ 0 → ⊥) →
+    Solves flag budget t needed won l l o
+solves-refused flag budget t needed won l o e h =
+    record {
+      gives = e ∙ gives-refused (solverChecks t l) (answered 0) (budgeted budget needed) refuses;
+      leaves = leaves-refused (solverChecks t l) (ltb budget needed) flag t won l refuses;
+    }
+  where
+    refuses : solverChecks t l ≡ none → ⊥
+    refuses z = h (ap (λ (x : Outcome). x .number) (e ∙ ap (λ (v : Verdict). outcome v (answered 0)) z))
+
+-- an answer
+pub solves-answered :
+    (flag : Bool) (budget : ℕ) (t : Tables) (needed : ℕ) (won : Player → Set) (before after : Lent) (made : ℕ) →
+    solverChecks t before ≡ none →
+    Finished flag budget t needed won made (record { even = after .even; odd = after .odd; strategy = after .strategy }) →
+    after .work ≡ cleared t (before .work) →
+    Solves flag budget t needed won before after (answered made)
+solves-answered flag budget t needed won before after made passed f work =
+    let under : ltb budget needed ≡ false = le-ltb budget needed (omega (arith, f .exact, f .within)) in
+    record {
+      gives =
+          rw (passed, under) (ap answered (f .exact));
+      leaves =
+          rw (passed, under)
+          (record { even = f .even; odd = f .odd; long = f .long; entries = f .entries; work = work });
+    }
+
+-- 13
+pub solves-stopped :
+    (flag : Bool) (budget : ℕ) (t : Tables) (needed : ℕ) (won : Player → Set) (before after : Lent) →
+    solverChecks t before ≡ none →
+    Halted budget needed (record { even = before .even; odd = before .odd; strategy = before .strategy })
+    (record { even = after .even; odd = after .odd; strategy = after .strategy }) →
+    after .work ≡ cleared t (before .work) →
+    Solves flag budget t needed won before after
+    (record { number = 13; place = 0; count = budget })
+solves-stopped flag budget t needed won before after passed h work =
+    let beyond : ltb budget needed ≡ true = lt-ltb budget needed (h .over) in
+    record {
+      gives = rw (passed, beyond) refl;
+      leaves =
+          rw (passed, beyond)
+          (record {
+            even = ap (λ (o : Outputs). o .even) (h .same);
+            odd = ap (λ (o : Outputs). o .odd) (h .same);
+            strategy = ap (λ (o : Outputs). o .strategy) (h .same);
+            work = work;
+          });
+    }
+
+-- past the checks the first W words are what the run asks for
+pub run-ready :
+    (t : Tables) (w : ℕ) (even odd strategy work : List ℕ) →
+    w ≡ workWords (vertices t) (edgesIn t) →
+    Passed t (length even) (length odd) (length strategy) (length work) →
+    Runnable t even odd strategy (take (w - 0) (drop 0 work))
+run-ready t w even odd strategy work is p =
+    record {
+      accepted = p .accepted;
+      even-size = p .even-size;
+      odd-size = p .odd-size;
+      strategy-size = p .strategy-size;
+      room = omega (arith, length-take (w - 0) work, p .work-size);
+    }

@@ -1,0 +1,11 @@
+// What the general solvers share: the checks 1 to 10 in order, the first tables in the work area, what a run under a budget gives, and
+// the strategy as it is written out.
+mod area;
+mod checks;
+mod entries;
+mod ran;
+
+pub use area::prepare;
+pub use checks::check_all;
+pub use entries::write_strategy;
+pub use ran::Ran;
