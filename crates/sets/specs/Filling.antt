@@ -3,7 +3,7 @@ use mathlib.Core.Bool.{Bool, cond}
 use mathlib.Core.List.{List}
 use mathlib.Core.Logic.{_⊎_, inl, inr}
 use mathlib.Core.Path.{_≡_, refl, sym, ap, ap₂, _∙_}
-use Prim.Native.Nat.{ℕ, _+_, _≤_, _<_}
+use Prim.Native.Nat.{ℕ, _+_, _-_, _*_, _/_, _%_, _^_, _≤_, _<_}
 use native.Mathlib.Decide.{ℕ-discrete, decLt}
 use native.Mathlib.Nat.{not-suc-le-zero}
 use native.Mathlib.Omega.{arith}
@@ -11,8 +11,9 @@ use borrow.Author.Tests.{eq-eqb, ne-eqb, lt-ltb, le-ltb}
 use lib.Dec.{eqb, ltb}
 use lib.ListN.{length, getD, set, length-set}
 use lib.Seq.{getD-set-same, getD-set-other}
-use Rattle.rules.specs.Words.{bit}
+use Rattle.rules.specs.Words.{digit, bit}
 use Rattle.sets.specs.After.{Put, Cleared, Filled}
+use Rattle.sets.specs.Digits.{digit-not, digit-zero}
 
 -- no word is cleared yet
 pub cleared-none : (at : ℕ) (xs : List ℕ) → Cleared at 0 xs xs
@@ -57,6 +58,38 @@ filled-more {v} {before} {mid} {after} f p =
     at u (yes e) d = rw (eq-eqb u v e, lt-ltb u (v + 1) (omega arith))
     at u (no n) (yes l) = rw (ne-eqb u v n, f .bits u, lt-ltb u v l, lt-ltb u (v + 1) (omega arith))
     at u (no n) (no m) = rw (ne-eqb u v n, f .bits u, le-ltb u v (omega (arith, m)), le-ltb u (v + 1) (omega (arith, n, m)))
+
+-- every digit of a full word is 1
+full-digit : (k : ℕ) → k < 64 → digit 18446744073709551615 k ≡ 1
+full-digit k l = digit-not 64 0 k (omega arith) l ∙ ap (λ (x : ℕ). 1 - x) (digit-zero k)
+
+-- one word more
+pub filled-word :
+    {i : ℕ} {before after : List ℕ} →
+    i < length after →
+    Filled (64 * i) before after →
+    Filled (64 * (i + 1)) before (set after i 18446744073709551615)
+unfolding bit
+filled-word {i} {before} {after} fits f =
+    record { long = length-set after i 18446744073709551615 ∙ f .long; bits = λ u. at u (ℕ-discrete (u / 64) i) }
+  where
+    now : List ℕ
+    now = set after i 18446744073709551615
+
+    at : (u : ℕ) → Dec (u / 64 ≡ i) → digit (getD now (u / 64) 0) (u % 64) ≡ cond (ltb u (64 * (i + 1))) 1 (bit before u)
+    at u (yes e) =
+        ap (λ (j : ℕ). digit (getD now j 0) (u % 64)) e ∙
+        ap (λ (x : ℕ). digit x (u % 64)) (getD-set-same after i 18446744073709551615 0 fits) ∙
+        full-digit (u % 64) (omega arith) ∙
+        sym (ap (λ (t : Bool). cond t 1 (bit before u)) (lt-ltb u (64 * (i + 1)) (omega arith)))
+    at u (no n) =
+        ap (λ (x : ℕ). digit x (u % 64)) (getD-set-other after i (u / 64) 18446744073709551615 0 n) ∙
+        f .bits u ∙
+        ap (λ (t : Bool). cond t 1 (bit before u)) (alike (decLt u (64 * i)))
+      where
+        alike : Dec (u < 64 * i) → ltb u (64 * i) ≡ ltb u (64 * (i + 1))
+        alike (yes l) = lt-ltb u (64 * i) l ∙ sym (lt-ltb u (64 * (i + 1)) (omega arith))
+        alike (no m) = le-ltb u (64 * i) (omega (arith, m)) ∙ sym (le-ltb u (64 * (i + 1)) (omega (arith, n, m)))
 
 -- the first i words are those of another list
 pub record Copied (i : ℕ) (from after : List ℕ) : Type 0 where

@@ -66,12 +66,24 @@ pub fn copy_from(set: &mut [u64], from: &[u64])
     }
 }
 
-// The vertices below n come in.
+// All bits of the first words become 1.
+fn fill_words(set: &mut [u64], full: usize)
+    requires { ⌜ full ≤ length (now set) ⌝ }
+    ensures { λ r. ⌜ Filled (64 * full) (now (set .entry)) (now (set .exit)) ⌝ }
+{
+    for i in 0..full {
+        set[i] = 18446744073709551615;
+    }
+}
+
+// The vertices below n come in: whole words, then what is left of the last one.
 pub fn fill(set: &mut [u64], n: usize)
     requires { ⌜ n ≤ 64 * length (now set) ⌝ }
     ensures { λ r. ⌜ Filled n (now (set .entry)) (now (set .exit)) ⌝ }
 {
-    for v in 0..n {
+    let full = n / 64;
+    fill_words(set, full);
+    for v in 64 * full..n {
         insert(set, v);
     }
 }
