@@ -22,3 +22,4 @@ pub mod Runs
 pub mod Answered
 pub mod Attracted
 pub mod Attracts
+pub mod Promises

@@ -129,25 +129,6 @@ fn check_all(
     check_bits(n, within, target)
 }
 
-// All words of one slice go into another as long.
-fn copy(from: &[u64], to: &mut [u64])
-    requires { ⌜ length (now from) ≡ length (now to) ⌝ }
-    ensures { λ _. ⌜ now (to .exit) ≡ now (from .entry) ⌝ }
-{
-    for i in 0..from.len() {
-        to[i] = from[i];
-    }
-}
-
-// All words become 0.
-fn clear(work: &mut [u64])
-    ensures { λ _. ⌜ now (work .exit) ≡ replicate (length (now (work .entry))) 0 ⌝ }
-{
-    for i in 0..work.len() {
-        work[i] = 0;
-    }
-}
-
 // The entry of v: its own where v is an own vertex of the result outside the target, else none.
 fn strategy_entry(
     owners: &[u8],
@@ -211,19 +192,9 @@ fn run(
     ensures { λ r.
         ⌜ (now (work .exit) ≡ replicate (length (now (work .entry))) 0) ×
         ((priorities : List ℕ) →
-        Accepted (record {
-          owners = now (owners .entry);
-          priorities = priorities;
-          offsets = now (offsets .entry);
-          targets = now (targets .entry);
-        }) →
+        Accepted (tablesOf (now (owners .entry)) priorities (now (offsets .entry)) (now (targets .entry))) →
         Ran
-        (record {
-          owners = now (owners .entry);
-          priorities = priorities;
-          offsets = now (offsets .entry);
-          targets = now (targets .entry);
-        })
+        (tablesOf (now (owners .entry)) priorities (now (offsets .entry)) (now (targets .entry)))
         (playerOf alpha) (now (within .entry)) (now (target .entry)) (now (result .exit)) (now (strategy .exit)) r) ⌝ }
 {
     let n = owners.len();
@@ -231,11 +202,11 @@ fn run(
     let entries = n + 1 + targets.len() + n + n;
     let base = entries + n;
     let set = base + s;
-    copy(within, &mut work[base..base + s]);
-    copy(target, &mut work[set..set + s]);
+    sets::copy_from(&mut work[base..base + s], within);
+    sets::copy_from(&mut work[set..set + s], target);
     predecessors::build(offsets, targets, n, work);
     let looks = attract(owners, offsets, targets, alpha, work, base, set);
-    copy(&work[set..set + s], result);
+    sets::copy_from(result, &work[set..set + s]);
     write_strategy(
         owners,
         alpha,
@@ -244,7 +215,7 @@ fn run(
         &work[entries..entries + n],
         strategy,
     );
-    clear(work);
+    sets::clear(work, 0, work.len());
     looks
 }
 

@@ -10,11 +10,11 @@ use native.Mathlib.Nat.{add-assoc, add-zero, zero-add, le-of-suc-le-suc, le-tran
 use native.Mathlib.Omega.{arith}
 use borrow.Author.Tests.{eqb-true, eq-eqb, ne-eqb}
 use lib.Dec.{eqb}
-use lib.ListN.{length, getD, take, drop, length-append, length-take, length-drop, List·getD-eq-default}
+use lib.ListN.{length, getD, take, drop, replicate, length-replicate, getD-replicate, length-append, length-take, length-drop, List·getD-eq-default}
 use lib.Seq.{getD-take, getD-drop, ext-getD}
 use Rattle.rules.specs.Counting.{some, every, count, times, everyOf}
 use Rattle.rules.specs.Words.{digit, bit, setOf}
-use Rattle.sets.specs.After.{Put, Combined}
+use Rattle.sets.specs.After.{Put, Combined, Cleared}
 use Rattle.theory.specs.Basics.{every-elim, some-false, count-cong, count-on, count-first}
 use Rattle.sets.specs.Digits.{digit-lt, digit-zero}
 use Rattle.sets.specs.declared.members.Members.{Members}
@@ -349,3 +349,13 @@ rising-members xs = rising-ofWords 0 xs
 
 pub rising-left : (xs : List ℕ) (c : Members) → Rising (64 * c .at) (left xs c)
 rising-left xs c = rising-word (c .at) (c .word) (ofWords (suc (c .at)) (drop (suc (c .at)) xs)) (rising-ofWords (suc (c .at)) (drop (suc (c .at)) xs))
+
+-- ---- cleared words
+
+-- all words of a work area are cleared
+pub cleared-all : (w₀ w : List ℕ) {w′ : List ℕ} → length w ≡ length w₀ → Cleared 0 (length w) w w′ → w′ ≡ replicate (length w₀) 0
+cleared-all w₀ w {w′} long c =
+    ext-getD 0 w′ (replicate (length w₀) 0) (c .long ∙ long ∙ sym (length-replicate (length w₀) 0))
+    (λ i l.
+    c .zeros i (omega arith) (omega (arith, c .long)) ∙
+    sym (getD-replicate (length w₀) i 0 0 (omega (arith, c .long))))

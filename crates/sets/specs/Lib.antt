@@ -9,3 +9,4 @@ pub mod Walk
 pub mod Whole
 pub mod Wordwise
 pub mod Filling
+pub mod Same

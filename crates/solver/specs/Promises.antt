@@ -2,26 +2,21 @@
 -- any two results that meet the contract are the same but for strategy entries.
 use mathlib.Core.Bool.{Bool, true, false, cond}
 use mathlib.Core.List.{List}
-use mathlib.Core.Logic.{_⊎_, inl, inr, ⊎-elim}
 use mathlib.Core.Path.{_≡_, refl, sym, ap, _∙_}
-use Prim.Native.Nat.{ℕ, _+_, _*_, _^_, _≤_, _<_}
+use Prim.Native.Nat.{ℕ, _≤_}
 use native.Mathlib.Omega.{arith}
 use borrow.Author.Tests.{le-ltb, eqb-false}
 use lib.Dec.{ltb}
-use lib.ListN.{getD}
-use lib.Seq.{ext-getD}
 use Rattle.rules.specs.Counting.{Set}
 use Rattle.rules.specs.Game.{Player, Even, Odd}
 use Rattle.rules.specs.Outcome.{Outcome, Verdict, none, refused, outcome, answered, budgeted}
 use Rattle.rules.specs.Solver.{Lent, solverChecks, Entries, Answered, Leaves, Solves}
 use Rattle.rules.specs.Tables.{Tables, gameOf, vertices, tableChecks, Accepted}
 use Rattle.rules.specs.Winning.{WinningSets}
-use Rattle.rules.specs.Words.{setOf, bit, Holds}
+use Rattle.rules.specs.Words.{setOf, Holds}
 use Rattle.parity_game.specs.Laws.{then-none, zero-none}
-use Rattle.sets.specs.Digits.{digits-tell}
-use Rattle.sets.specs.Laws.{bit-of-set}
-use Rattle.sets.specs.Whole.{bit-at}
-use Rattle.theory.specs.Basics.{clash, lt-or-ge}
+use Rattle.sets.specs.Same.{Narrow, holds-same}
+use Rattle.theory.specs.Basics.{clash}
 use Rattle.solver.specs.Checks.{numbered-checks}
 
 -- the words of a player's set
@@ -88,28 +83,6 @@ module _ {flag : Bool} {budget : ℕ} {t : Tables} {needed : ℕ} {won : Player 
 
 -- ---- two results that meet the contract
 
--- words that hold one set are equal
-pub holds-same :
-    {n : ℕ} {S : Set} (xs ys : List ℕ) →
-    ((i : ℕ) → getD xs i 0 < 2 ^ 64) →
-    ((i : ℕ) → getD ys i 0 < 2 ^ 64) →
-    Holds n S xs →
-    Holds n S ys →
-    xs ≡ ys
-holds-same {n} {S} xs ys small small′ h h′ =
-    ext-getD 0 xs ys (h .long ∙ sym (h′ .long))
-    (λ i l.
-    digits-tell 64 (getD xs i 0) (getD ys i 0) (small i) (small′ i)
-    (λ k m. sym (bit-at xs i k m) ∙ bits (64 * i + k) ∙ bit-at ys i k m))
-  where
-    bits : (v : ℕ) → bit xs v ≡ bit ys v
-    bits v =
-        ⊎-elim
-        (λ l.
-        bit-of-set xs v ∙ ap (λ (b : Bool). cond b 1 0) (h .bits v l ∙ sym (h′ .bits v l)) ∙ sym (bit-of-set ys v))
-        (λ l. h .clear v l ∙ sym (h′ .clear v l))
-        (lt-or-ge v n)
-
 -- two results agree in all but strategy entries
 pub record Agree (flag : Bool) (after after′ : Lent) (o o′ : Outcome) : Type 0 where
   pub outcomes : o ≡ o′
@@ -117,10 +90,6 @@ pub record Agree (flag : Bool) (after after′ : Lent) (o o′ : Outcome) : Type
   pub odd : after .odd ≡ after′ .odd
   pub unasked : flag ≡ false → after .strategy ≡ after′ .strategy
   pub work : after .work ≡ after′ .work
-
--- words of 64 bits
-abbrev pub Narrow : List ℕ → Type 0
-Narrow xs = (i : ℕ) → getD xs i 0 < 2 ^ 64
 
 agree-by :
     (v : Verdict) (over flag : Bool) (t : Tables) (won : Player → Set) (before after after′ : Lent) (o : Outcome) →

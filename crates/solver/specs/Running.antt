@@ -6,15 +6,13 @@ use Prim.Native.Nat.{ℕ, _+_, _-_, _*_, _≤_, _<_}
 use native.Mathlib.Omega.{arith}
 use borrow.Author.Tests.{lt-ltb, le-ltb}
 use lib.Dec.{ltb}
-use lib.ListN.{length, getD, take, drop, replicate, length-replicate, getD-replicate, length-take}
-use lib.Seq.{ext-getD}
+use lib.ListN.{length, getD, take, drop, length-take}
 use Rattle.rules.specs.Counting.{Set}
 use Rattle.rules.specs.Game.{Player, Even, Odd}
 use Rattle.rules.specs.Outcome.{Outcome, Verdict, none, refused, outcome, answered, budgeted}
 use Rattle.rules.specs.Solver.{Lent, solverChecks, Entries, Leaves, Solves, cleared}
 use Rattle.rules.specs.Tables.{Tables, vertices, edgesIn, words, workWords, Accepted}
 use Rattle.rules.specs.Words.{Holds}
-use Rattle.sets.specs.After.{Cleared}
 use Rattle.solver.specs.declared.ran.Ran.{Ran}
 use Rattle.solver.specs.declared.ran.Ran.the-variants.{Needed, OverBudget}
 use Rattle.solver.specs.Checks.{Passed}
@@ -51,14 +49,6 @@ pub record Halted (budget needed : ℕ) (before after : Outputs) : Type 0 where
 abbrev pub Runs : Bool → ℕ → Tables → ℕ → (Player → Set) → Outputs → Outputs → Ran → Type 0
 Runs flag budget t needed won before after (Needed made) = Finished flag budget t needed won made after
 Runs flag budget t needed won before after OverBudget = Halted budget needed before after
-
--- all words are 0
-pub all-zero : (w₀ w : List ℕ) {w′ : List ℕ} → length w ≡ length w₀ → Cleared 0 (length w) w w′ → w′ ≡ replicate (length w₀) 0
-all-zero w₀ w {w′} long c =
-    ext-getD 0 w′ (replicate (length w₀) 0) (c .long ∙ long ∙ sym (length-replicate (length w₀) 0))
-    (λ i l.
-    c .zeros i (omega arith) (omega (arith, c .long)) ∙
-    sym (getD-replicate (length w₀) i 0 0 (omega (arith, c .long))))
 
 -- a refusal is given as it is, and nothing is written
 leaves-refused :

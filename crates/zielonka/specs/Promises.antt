@@ -17,7 +17,8 @@ use Rattle.parity_game.specs.Laws.{then-none}
 use Rattle.theory.specs.Bound.{zielonka-bound}
 use Rattle.theory.specs.Tables.{accepted-total}
 use Rattle.theory.specs.Zielonka.{zielonka-wins, determinacy}
-use Rattle.solver.specs.Promises.{setFor, gotBy, answer, answered-accepted, answered-count, answered-winning, answers-within, Narrow, Agree, results-agree}
+use Rattle.sets.specs.Same.{Narrow}
+use Rattle.solver.specs.Promises.{setFor, gotBy, answer, answered-accepted, answered-count, answered-winning, answers-within, Agree, results-agree}
 
 -- the contract of `solve_zielonka`
 abbrev pub Promise : Bool → ℕ → Tables → Lent → Lent → Outcome → Type 0

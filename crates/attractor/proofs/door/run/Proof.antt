@@ -4,7 +4,8 @@ use mathlib.Core.Path.{_≡_, sym, ap, _∙_}
 use Prim.Native.Nat.{ℕ, _+_, _≤_}
 use native.Mathlib.Omega.{arith}
 use borrow.Author.Needs.{needs}
-use lib.ListN.{length, replicate, length-replicate}
+use lib.ListN.{length}
+use Rattle.sets.specs.Laws.{cleared-all}
 use Rattle.rules.specs.Tables.{Accepted}
 use Rattle.rules.specs.Game.{playerOf}
 use Rattle.attractor.specs.Area.{free, entries}
@@ -14,13 +15,13 @@ use Rattle.attractor.proofs.door.run.Statement.{statement}
 use Rattle.attractor.proofs.door.run.Tie as tie
 
 -- the calls in order, and where the function begins
-abbrev at1 : tie.After-copy → tie.Start
+abbrev at1 : tie.After-copy-from → tie.Start
 at1 c = c .before .before .before .before .before .before .before .before .before .before
 
-abbrev copied1 : tie.After-copy2 → tie.After-copy
+abbrev copied1 : tie.After-copy-from2 → tie.After-copy-from
 copied1 c = c .before .before .before .before
 
-abbrev copied2 : tie.After-build → tie.After-copy2
+abbrev copied2 : tie.After-build → tie.After-copy-from2
 copied2 c = c .before .before .before .before
 
 abbrev built : tie.After-attract → tie.After-build
@@ -38,7 +39,7 @@ found8 c = found (c .before .before .before .before .before .before)
 abbrev written : tie.After-slice-known10 → tie.After-write-strategy
 written c = c .before .before .before .before .before .before
 
-abbrev copied3 : tie.After-slice-known10 → tie.After-copy3
+abbrev copied3 : tie.After-slice-known10 → tie.After-copy-from3
 copied3 c = written c .before .before .before .before .before .before .before
 
 abbrev found10 : tie.After-slice-known10 → tie.After-attract
@@ -53,7 +54,7 @@ long d4 =
     let g = at1 d1 in
     let a = g .args in
     four-long (a .owners .now) (a .offsets .now) (a .targets .now) (a .alpha) (a .within .now) (a .target .now) (a .result .now) (a .strategy .now)
-    (a .work .now) (g .pre) (d1 .copy .last .1 .0) (d2 .copy2 .last .1 .0) (d1 .copy .ensures) (d2 .copy2 .ensures) (d3 .build .last .1 .1 .1 .0)
+    (a .work .now) (g .pre) (d1 .copy-from .last .0) (d2 .copy-from2 .last .0) (d1 .copy-from .ensures) (d2 .copy-from2 .ensures) (d3 .build .last .1 .1 .1 .0)
     (d3 .build .ensures) (d4 .attract .last .1 .1 .1 .1 .0) (d4 .attract .result) (d4 .attract .ensures)
 
 -- there is room for both sets
@@ -82,41 +83,41 @@ add-base c = search needs
 add-set : tie.Need-add-set
 add-set c = search needs
 
-add-copy : tie.Need-add-copy
-add-copy c = search needs
+add-copy-from : tie.Need-add-copy-from
+add-copy-from c = search needs
 
-mul-copy : tie.Need-mul-copy
-mul-copy c = search needs
+mul-copy-from : tie.Need-mul-copy-from
+mul-copy-from c = search needs
 
-sub-copy : tie.Need-sub-copy
-sub-copy c = search needs
+sub-copy-from : tie.Need-sub-copy-from
+sub-copy-from c = search needs
 
-part-copy-start : tie.Need-part-copy-start
-part-copy-start c = search needs
+part-copy-from-start : tie.Need-part-copy-from-start
+part-copy-from-start c = search needs
 
-part-copy-end : tie.Need-part-copy-end
-part-copy-end c = search needs
+part-copy-from-end : tie.Need-part-copy-from-end
+part-copy-from-end c = search needs
 
-copy-requires : tie.Need-copy-requires
-copy-requires c κs = search needs
+copy-from-requires : tie.Need-copy-from-requires
+copy-from-requires c κs = search needs
 
-add-copy-2 : tie.Need-add-copy-2
-add-copy-2 c = search needs
+add-copy-from-2 : tie.Need-add-copy-from-2
+add-copy-from-2 c = search needs
 
-mul-copy-2 : tie.Need-mul-copy-2
-mul-copy-2 c = search needs
+mul-copy-from-2 : tie.Need-mul-copy-from-2
+mul-copy-from-2 c = search needs
 
-sub-copy-2 : tie.Need-sub-copy-2
-sub-copy-2 c = search needs
+sub-copy-from-2 : tie.Need-sub-copy-from-2
+sub-copy-from-2 c = search needs
 
-part-copy-start-2 : tie.Need-part-copy-start-2
-part-copy-start-2 c = search needs
+part-copy-from-start-2 : tie.Need-part-copy-from-start-2
+part-copy-from-start-2 c = search needs
 
-part-copy-end-2 : tie.Need-part-copy-end-2
-part-copy-end-2 c = search needs
+part-copy-from-end-2 : tie.Need-part-copy-from-end-2
+part-copy-from-end-2 c = search needs
 
-copy-requires-2 : tie.Need-copy-requires-2
-copy-requires-2 c κs = search needs
+copy-from-requires-2 : tie.Need-copy-from-requires-2
+copy-from-requires-2 c κs = search needs
 
 build-requires : tie.Need-build-requires
 build-requires c κs =
@@ -125,7 +126,7 @@ build-requires c κs =
     let g = at1 d1 in
     let a = g .args in
     build-ready (a .owners .now) (a .offsets .now) (a .targets .now) (a .alpha) (a .within .now) (a .target .now) (a .result .now) (a .strategy .now)
-    (a .work .now) (g .pre) (d1 .copy .last .1 .0) (d2 .copy2 .last .1 .0) (d1 .copy .ensures) (d2 .copy2 .ensures)
+    (a .work .now) (g .pre) (d1 .copy-from .last .0) (d2 .copy-from2 .last .0) (d1 .copy-from .ensures) (d2 .copy-from2 .ensures)
 
 attract-requires : tie.Need-attract-requires
 attract-requires c κs =
@@ -135,35 +136,36 @@ attract-requires c κs =
     let g = at1 d1 in
     let a = g .args in
     attract-ready (a .owners .now) (a .offsets .now) (a .targets .now) (a .alpha) (a .within .now) (a .target .now) (a .result .now)
-    (a .strategy .now) (a .work .now) (g .pre) (d1 .copy .last .1 .0) (d2 .copy2 .last .1 .0) (d1 .copy .ensures) (d2 .copy2 .ensures)
+    (a .strategy .now) (a .work .now) (g .pre) (d1 .copy-from .last .0) (d2 .copy-from2 .last .0) (d1 .copy-from .ensures) (d2 .copy-from2 .ensures)
     (d3 .build .last .1 .1 .1 .0) (d3 .build .ensures)
 
-add-copy-3 : tie.Need-add-copy-3
-add-copy-3 c = let d = found c in omega (arith, room d, long d, at4 d .good)
+add-copy-from-3 : tie.Need-add-copy-from-3
+add-copy-from-3 c = let d = found (c .before) in omega (arith, room d, long d, at4 d .good)
 
-mul-copy-3 : tie.Need-mul-copy-3
-mul-copy-3 c = let d = found c in omega (arith, room d, long d, at4 d .good)
+mul-copy-from-3 : tie.Need-mul-copy-from-3
+mul-copy-from-3 c = let d = found (c .before) in omega (arith, room d, long d, at4 d .good)
 
-sub-copy-3 : tie.Need-sub-copy-3
-sub-copy-3 c = search needs
+sub-copy-from-3 : tie.Need-sub-copy-from-3
+sub-copy-from-3 c = search needs
 
-part-copy-start-3 : tie.Need-part-copy-start-3
-part-copy-start-3 c = search needs
+part-copy-from-start-3 : tie.Need-part-copy-from-start-3
+part-copy-from-start-3 c = search needs
 
-part-copy-end-3 : tie.Need-part-copy-end-3
-part-copy-end-3 c = search needs
+part-copy-from-end-3 : tie.Need-part-copy-from-end-3
+part-copy-from-end-3 c = search needs
 
-copy-requires-3 : tie.Need-copy-requires-3
-copy-requires-3 c κs =
+copy-from-requires-3 : tie.Need-copy-from-requires-3
+copy-from-requires-3 c κs =
     let d4 = found (c .before .before .before) in
     let d3 = built d4 in
     let d2 = copied2 d3 in
     let d1 = copied1 d2 in
     let g = at1 d1 in
     let a = g .args in
-    out-long (a .owners .now) (a .offsets .now) (a .targets .now) (a .alpha) (a .within .now) (a .target .now) (a .result .now) (a .strategy .now)
-    (a .work .now) (g .pre) (d1 .copy .last .1 .0) (d2 .copy2 .last .1 .0) (d1 .copy .ensures) (d2 .copy2 .ensures) (d3 .build .last .1 .1 .1 .0)
-    (d3 .build .ensures) (d4 .attract .last .1 .1 .1 .1 .0) (d4 .attract .result) (d4 .attract .ensures)
+    sym
+    (out-long (a .owners .now) (a .offsets .now) (a .targets .now) (a .alpha) (a .within .now) (a .target .now) (a .result .now) (a .strategy .now)
+    (a .work .now) (g .pre) (d1 .copy-from .last .0) (d2 .copy-from2 .last .0) (d1 .copy-from .ensures) (d2 .copy-from2 .ensures) (d3 .build .last .1 .1 .1 .0)
+    (d3 .build .ensures) (d4 .attract .last .1 .1 .1 .1 .0) (d4 .attract .result) (d4 .attract .ensures))
 
 add-write-strategy : tie.Need-add-write-strategy
 add-write-strategy c = let d = found8 c in omega (arith, room d, long d, at4 d .good)
@@ -204,7 +206,7 @@ write-strategy-requires c κs =
     let g = at1 d1 in
     let a = g .args in
     enter-ready (a .owners .now) (a .offsets .now) (a .targets .now) (a .alpha) (a .within .now) (a .target .now) (a .result .now) (a .strategy .now)
-    (a .work .now) (g .pre) (d1 .copy .last .1 .0) (d2 .copy2 .last .1 .0) (d1 .copy .ensures) (d2 .copy2 .ensures) (d3 .build .last .1 .1 .1 .0)
+    (a .work .now) (g .pre) (d1 .copy-from .last .0) (d2 .copy-from2 .last .0) (d1 .copy-from .ensures) (d2 .copy-from2 .ensures) (d3 .build .last .1 .1 .1 .0)
     (d3 .build .ensures) (d4 .attract .last .1 .1 .1 .1 .0) (d4 .attract .result) (d4 .attract .ensures)
 
 clear-requires : tie.Need-clear-requires
@@ -217,7 +219,7 @@ same-length-2 : tie.Need-same-length-2
 same-length-2 c = search needs
 
 same-length-3 : tie.Need-same-length-3
-same-length-3 c = ap length (c .before .before .clear .ensures) ∙ length-replicate _ 0 ∙ long (found10 c)
+same-length-3 c = c .before .before .clear .ensures .long ∙ long (found10 c)
 
 returns : tie.Need-returns
 returns c =
@@ -227,11 +229,11 @@ returns c =
     let d1 = copied1 d2 in
     let g = at1 d1 in
     let a = g .args in (
-      c .before .before .clear .ensures ∙ ap (λ (k : ℕ). replicate k 0) (long d4),
+      cleared-all (a .work .now) _ (long d4) (c .before .before .clear .ensures),
       ran (a .owners .now) (a .offsets .now) (a .targets .now) (a .alpha) (a .within .now) (a .target .now) (a .result .now) (a .strategy .now)
-          (a .work .now) (g .pre) (d1 .copy .last .1 .0) (d2 .copy2 .last .1 .0) (d1 .copy .ensures) (d2 .copy2 .ensures) (d3 .build .last .1 .1 .1 .0)
+          (a .work .now) (g .pre) (d1 .copy-from .last .0) (d2 .copy-from2 .last .0) (d1 .copy-from .ensures) (d2 .copy-from2 .ensures) (d3 .build .last .1 .1 .1 .0)
           (d3 .build .ensures) (d4 .attract .last .1 .1 .1 .1 .0) (d4 .attract .result) (d4 .attract .ensures)
-          (copied3 c .copy3 .last .1 .0) (written c .write-strategy .last .1 .1 .1 .1 .1 .0) (copied3 c .copy3 .ensures)
+          (copied3 c .copy-from3 .last .0) (written c .write-strategy .last .1 .1 .1 .1 .1 .0) (copied3 c .copy-from3 .ensures)
           (written c .write-strategy .ensures),
     )
 
@@ -245,26 +247,26 @@ run-spec =
     add-entries-4
     add-base
     add-set
-    add-copy
-    mul-copy
-    sub-copy
-    part-copy-start
-    part-copy-end
-    copy-requires
-    add-copy-2
-    mul-copy-2
-    sub-copy-2
-    part-copy-start-2
-    part-copy-end-2
-    copy-requires-2
+    add-copy-from
+    mul-copy-from
+    sub-copy-from
+    part-copy-from-start
+    part-copy-from-end
+    copy-from-requires
+    add-copy-from-2
+    mul-copy-from-2
+    sub-copy-from-2
+    part-copy-from-start-2
+    part-copy-from-end-2
+    copy-from-requires-2
     build-requires
     attract-requires
-    add-copy-3
-    mul-copy-3
-    sub-copy-3
-    part-copy-start-3
-    part-copy-end-3
-    copy-requires-3
+    add-copy-from-3
+    mul-copy-from-3
+    sub-copy-from-3
+    part-copy-from-start-3
+    part-copy-from-end-3
+    copy-from-requires-3
     add-write-strategy
     mul-write-strategy
     sub-write-strategy

@@ -8,7 +8,7 @@ use Rattle.theory.specs.Tables.{accepted-sound}
 use Rattle.attractor.specs.Area.{free}
 use Rattle.zielonka.specs.Level.{Done, Ends}
 use Rattle.zielonka.specs.Solving.{run-preparable, run-called, run-over-budget, lent-room, even-long, odd-long, lent-enterable, run-finished}
-use Rattle.solver.specs.Running.{all-zero}
+use Rattle.sets.specs.Laws.{cleared-all}
 use borrow.Author.Needs.{needs}
 use Rattle.zielonka.proofs.door.run.Statement.{statement}
 use Rattle.zielonka.proofs.door.run.Tie as tie
@@ -85,7 +85,7 @@ same-length c = search needs
 returns : tie.Need-returns
 returns c =
     let g = c .before .before .before .before .before .before .before .before .before .before .before .before .before .before .before .before .before .before .before .before .before .before .before in (
-      all-zero (g .args .work .now) (c .before .before .before .before .before .before .before .before .zielonka-rec .last .1 .1 .1 .1 .0) (c .before .before .before .before .before .before .before .before .zielonka-rec .kept .1 .1 .1 .1 .0 ∙ c .before .before .before .before .before .before .before .before .before .before .before .before .prepare .kept .1 .1 .1 .1 .0) (c .before .before .clear .ensures),
+      cleared-all (g .args .work .now) (c .before .before .before .before .before .before .before .before .zielonka-rec .last .1 .1 .1 .1 .0) (c .before .before .before .before .before .before .before .before .zielonka-rec .kept .1 .1 .1 .1 .0 ∙ c .before .before .before .before .before .before .before .before .before .before .before .before .prepare .kept .1 .1 .1 .1 .0) (c .before .before .clear .ensures),
       record {
         over =
             run-over-budget (tables g) (g .pre .accepted) (g .args .work .now) (g .pre .room) (c .before .before .before .before .before .before .before .before .before .before .before .before .prepare .ensures)
@@ -245,7 +245,7 @@ returns-2 : tie.Need-returns-2
 returns-2 c =
     let d = c .before .before .before .before .before .before .before .before .before .before .before .before .before .before .before .before .before .before .before .before .before .before .before .before in
     let g = start d in (
-      all-zero (g .args .work .now) (d .before .before .before .before .before .zielonka-rec .last .1 .1 .1 .1 .0) (d .before .before .before .before .before .zielonka-rec .kept .1 .1 .1 .1 .0 ∙ d .before .before .before .before .before .before .before .before .before .prepare .kept .1 .1 .1 .1 .0) (c .before .before .clear2 .ensures),
+      cleared-all (g .args .work .now) (d .before .before .before .before .before .zielonka-rec .last .1 .1 .1 .1 .0) (d .before .before .before .before .before .zielonka-rec .kept .1 .1 .1 .1 .0 ∙ d .before .before .before .before .before .before .before .before .before .prepare .kept .1 .1 .1 .1 .0) (c .before .before .clear2 .ensures),
       run-finished (tables g) (g .pre .accepted) (g .args .work .now) (g .pre .room) (d .before .before .before .before .before .before .before .before .before .prepare .ensures) (ended d) (d .before .before .before .before .before .before .before .before .before .before .before .set-words .ensures)
           (c .before .before .before .before .before .before .before .before .before .before .before .before .before .before .before .before .before .before .before .before .copy-from .ensures) (c .before .before .before .before .before .before .before .before .before .before .before .before .before .before .copy-from2 .ensures) (g .pre .strategy-size) (c .before .before .before .before .before .before .write-strategy .ensures),
     )
