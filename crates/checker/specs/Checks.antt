@@ -28,16 +28,10 @@ use Rattle.theory.specs.Tables.{accepted-total, accepted-priority}
 use Rattle.parity_game.specs.Laws.{accepted-sound, outcome-pass, then-assoc, then-none, check9-set, check9-set-none, check9-table-none, check10-none}
 use Rattle.parity_game.specs.Laws.{Numbered, numbered-givenAt, numbered-then, numbered-tables, numbered-check9, numbered-check10}
 use Rattle.predecessors.specs.Whole.{accepted-edges}
+use Rattle.solver.specs.Checks.{checksBy, Passed, checks-passed}
 use Rattle.parts.specs.Area.{behind, Cleared, marked, true-marked, false-marked, marked-true}
 use Rattle.checker.specs.Sides.{Sets, Given, Sided, ownBy, sideOf, wrongEntry, leavesSet, entry-is}
 use Rattle.checker.specs.Cycles.{losingAt, Scannable, MarksReady, CyclesMarked}
-
--- 1 to 10
-abbrev pub refusals : Tables → ℕ → ℕ → ℕ → ℕ → Verdict
-refusals t even odd strategy work =
-    tableChecks t then
-    check9 (vertices t) (even ∷ odd ∷ []) (strategy ∷ []) then
-    check10 (vertices t) (edgesIn t) work
 
 -- the work area: as it was after a refusal, else cleared
 abbrev pub leftBy : Verdict → Tables → List ℕ → List ℕ
@@ -48,9 +42,9 @@ pub record Checks (t : Tables) (even odd strategy before after : List ℕ) (o : 
   pub gives :
       o ≡
       outcome
-      (refusals t (length even) (length odd) (length strategy) (length before) then certificateChecks (gameOf t) even odd strategy)
+      (checksBy t (length even) (length odd) (length strategy) (length before) then certificateChecks (gameOf t) even odd strategy)
       (answered 0)
-  pub work : after ≡ leftBy (refusals t (length even) (length odd) (length strategy) (length before)) t before
+  pub work : after ≡ leftBy (checksBy t (length even) (length odd) (length strategy) (length before)) t before
 
 pub record CyclesReady (t : Tables) (even strategy work : List ℕ) : Type 0 where
   pub accepted : Accepted t
@@ -284,64 +278,11 @@ module _ (t : Tables) (even odd strategy before : List ℕ) (given : Certifiable
   unfolding certificateChecks gameOf
   from21 o e = e
 
--- ---- 1 to 10 one by one
-
-pub refusals-grouped :
-    (t : Tables) (even odd strategy work : ℕ) →
-    refusals t even odd strategy work ≡
-    (tableChecks t then
-    (check9 (vertices t) (even ∷ []) [] then
-    (check9 (vertices t) (odd ∷ []) [] then (check9 (vertices t) [] (strategy ∷ []) then check10 (vertices t) (edgesIn t) work))))
-refusals-grouped t even odd strategy work =
-    let n = vertices t in
-    let last = check10 n (edgesIn t) work in
-    let a = check9 n (even ∷ []) [] in
-    let b = check9 n (odd ∷ []) [] in
-    let c = check9 n [] (strategy ∷ []) in
-    ap (λ (v : Verdict). tableChecks t then v)
-    (ap (λ (v : Verdict). v then last)
-    (check9-set n even (odd ∷ []) (strategy ∷ []) ∙ ap (λ (v : Verdict). a then v) (check9-set n odd [] (strategy ∷ []))) ∙
-    then-assoc a (b then c) last ∙
-    ap (λ (v : Verdict). a then v) (then-assoc b c last))
-
-pub accepted-is : (t : Tables) → tableChecks t ≡ none → Accepted t
-unfolding Accepted
-accepted-is t e = e
-
--- past all of them
-pub record Passed (t : Tables) (even odd strategy work : ℕ) : Type 0 where
-  pub accepted : Accepted t
-  pub even-long : even ≡ words (vertices t)
-  pub odd-long : odd ≡ words (vertices t)
-  pub strategy-long : strategy ≡ vertices t
-  pub room : workWords (vertices t) (edgesIn t) ≤ work
-
-pub all-passed : (t : Tables) (even odd strategy work : ℕ) → refusals t even odd strategy work ≡ none → Passed t even odd strategy work
-unfolding Accepted
-all-passed t even odd strategy work e =
-    let n = vertices t in
-    let h1 = then-none (tableChecks t) _ (sym (refusals-grouped t even odd strategy work) ∙ e) in
-    let h2 = then-none (check9 n (even ∷ []) []) _ (h1 .1) in
-    let h3 = then-none (check9 n (odd ∷ []) []) _ (h2 .1) in
-    let h4 = then-none (check9 n [] (strategy ∷ [])) _ (h3 .1) in
-    record {
-      accepted = h1 .0;
-      even-long = check9-set-none n even (h2 .0);
-      odd-long = check9-set-none n odd (h3 .0);
-      strategy-long = check9-table-none n strategy (h4 .0);
-      room = check10-none n (edgesIn t) work (h4 .1);
-    }
-
-pub numbered-refusals : (t : Tables) (even odd strategy work : ℕ) → Numbered (refusals t even odd strategy work)
-numbered-refusals t even odd strategy work =
-    numbered-then (tableChecks t) _ (numbered-tables t)
-    (numbered-then (check9 (vertices t) (even ∷ odd ∷ []) (strategy ∷ [])) _ (numbered-check9 _ _ _) (numbered-check10 _ _ _))
-
 -- ---- the whole
 
 module _ (t : Tables) (even odd strategy before : List ℕ) where
   abbrev R : Verdict
-  R = refusals t (length even) (length odd) (length strategy) (length before)
+  R = checksBy t (length even) (length odd) (length strategy) (length before)
 
   pub checks-refused :
       (o : Outcome) →
@@ -358,8 +299,8 @@ module _ (t : Tables) (even odd strategy before : List ℕ) where
 
   pub certify-given : R ≡ none → Certifiable t even odd strategy before
   certify-given e =
-      let p = all-passed t (length even) (length odd) (length strategy) (length before) e in
-      record { accepted = p .accepted; even-long = p .even-long; odd-long = p .odd-long; strategy-long = p .strategy-long; room = p .room }
+      let p = checks-passed t (length even) (length odd) (length strategy) (length before) e in
+      record { accepted = p .accepted; even-long = p .even-size; odd-long = p .odd-size; strategy-long = p .strategy-size; room = p .work-size }
 
   pub work-fits : R ≡ none → (vertices t ≤ 4096) × (edgesIn t ≤ 16384)
   work-fits e =

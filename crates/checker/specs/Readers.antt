@@ -16,7 +16,8 @@ use Rattle.rules.specs.Words.{Holds}
 use Rattle.theory.specs.Checker.{Certified, accepted-certificate-yes, winning-gets-yes}
 use Rattle.theory.specs.Tables.{accepted-total}
 use Rattle.parity_game.specs.Laws.{Numbered, numbered-givenAt, numbered-then, then-none, zero-none, outcome-pass}
-use Rattle.checker.specs.Checks.{refusals, Checks, numbered21, numbered-refusals, all-passed}
+use Rattle.solver.specs.Checks.{checksBy, numbered-by, checks-passed}
+use Rattle.checker.specs.Checks.{Checks, numbered21}
 
 numbered-certificate : (g : Game) (even odd strategy : List ℕ) → Numbered (certificateChecks g even odd strategy)
 unfolding certificateChecks check22 check23 check24
@@ -27,7 +28,7 @@ numbered-certificate g even odd strategy =
 
 module _ (t : Tables) (even odd strategy before after : List ℕ) (o : Outcome) (checks : Checks t even odd strategy before after o) where
   abbrev R : Verdict
-  R = refusals t (length even) (length odd) (length strategy) (length before)
+  R = checksBy t (length even) (length odd) (length strategy) (length before)
 
   -- **Yes is right**: the two sets are exactly the winning sets and the entries a winning choice.
   pub yes-is-right : o .number ≡ 0 → Certified (gameOf t) even odd strategy
@@ -36,11 +37,11 @@ module _ (t : Tables) (even odd strategy before after : List ℕ) (o : Outcome) 
       let v = R then certificateChecks (gameOf t) even odd strategy in
       let passes =
       zero-none v (answered 0)
-      (numbered-then R (certificateChecks (gameOf t) even odd strategy) (numbered-refusals _ _ _ _ _) (numbered-certificate (gameOf t) even odd strategy))
+      (numbered-then R (certificateChecks (gameOf t) even odd strategy) (numbered-by _ _ _ _ _) (numbered-certificate (gameOf t) even odd strategy))
       (sym (ap (λ (x : Outcome). x .number) (checks .gives)) ∙ zero) in
       let both = then-none R (certificateChecks (gameOf t) even odd strategy) passes in
-      let p = all-passed t (length even) (length odd) (length strategy) (length before) (both .0) in
-      accepted-certificate-yes t (p .accepted) even odd strategy (p .even-long) (p .odd-long) (both .1)
+      let p = checks-passed t (length even) (length odd) (length strategy) (length before) (both .0) in
+      accepted-certificate-yes t (p .accepted) even odd strategy (p .even-size) (p .odd-size) (both .1)
 
   -- What the rule accepts gets yes.
   pub accepted-gets-yes : R ≡ none → certificateChecks (gameOf t) even odd strategy ≡ none → o ≡ answered 0
@@ -59,7 +60,7 @@ module _ (t : Tables) (even odd strategy before after : List ℕ) (o : Outcome) 
       WinningEntries (gameOf t) won strategy →
       o ≡ answered 0
   right-gets-yes r won sets cover even-held odd-held entries =
-      let p = all-passed t (length even) (length odd) (length strategy) (length before) r in
+      let p = checks-passed t (length even) (length odd) (length strategy) (length before) r in
       accepted-gets-yes r
       (winning-gets-yes (gameOf t) (accepted-total t (p .accepted)) won sets cover even odd strategy even-held odd-held entries)
 

@@ -3,11 +3,8 @@ mod cycles;
 mod sides;
 
 use parity_game::Answer;
-ghost use mathlib.Core.Path.{_≡_};
-ghost use lib.ListN.{length};
-ghost use Rattle.rules.specs.Outcome.{outcome, answered};
 ghost use Rattle.parity_game.specs.Said.{said};
-ghost use Rattle.checker.specs.Checks.{Certifiable, Certifies, refusals, Checks};
+ghost use Rattle.checker.specs.Checks.{Certifiable, Certifies, Checks};
 ghost use Rattle.rules.specs.Tables.{tablesOf};
 
 // The kinds 21 to 24 in order.
@@ -41,40 +38,6 @@ fn certify(
     cycles::check_cycles(owners, priorities, offsets, targets, even, strategy, work)
 }
 
-// The refusals 1 to 10.
-fn refuse(
-    owners: &[u8],
-    priorities: &[u16],
-    offsets: &[u16],
-    targets: &[u16],
-    even: usize,
-    odd: usize,
-    strategy: usize,
-    work: usize,
-) -> Answer
-    ensures { λ r.
-        ⌜ said r ≡ outcome (refusals (tablesOf (now (owners .entry)) (now (priorities .entry)) (now (offsets .entry)) (now (targets .entry))) even odd strategy work) (answered 0) ⌝ }
-{
-    let r = parity_game::check_tables(owners, priorities, offsets, targets);
-    let Answer::Answered(_) = r else {
-        return r;
-    };
-    let n = owners.len();
-    let r = parity_game::check_set(n, even);
-    let Answer::Answered(_) = r else {
-        return r;
-    };
-    let r = parity_game::check_set(n, odd);
-    let Answer::Answered(_) = r else {
-        return r;
-    };
-    let r = parity_game::check_table(n, strategy);
-    let Answer::Answered(_) = r else {
-        return r;
-    };
-    parity_game::check_work(n, targets.len(), work)
-}
-
 // Checks the two sets and the strategy against the game, for every input.
 pub fn check(
     owners: &[u8],
@@ -90,7 +53,7 @@ pub fn check(
         ⌜ Checks (tablesOf (now (owners .entry)) (now (priorities .entry)) (now (offsets .entry)) (now (targets .entry))) (now (even .entry)) (now (odd .entry))
         (now (strategy .entry)) (now (work .entry)) (now (work .exit)) (said r) ⌝ }
 {
-    let r = refuse(
+    let r = solver::check_all(
         owners,
         priorities,
         offsets,

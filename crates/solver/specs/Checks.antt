@@ -54,10 +54,14 @@ module _ (t : Tables) (even odd strategy work : ℕ) where
           ap (λ (v : Verdict). oneSet (vertices t) even then v)
           (then-assoc (oneSet (vertices t) odd) (oneTable (vertices t) strategy) (check10 (vertices t) (edgesIn t) work))
 
-pub numbered-checks : (t : Tables) (l : Lent) → Numbered (solverChecks t l)
-numbered-checks t l =
+-- each refusal has a number
+pub numbered-by : (t : Tables) (even odd strategy work : ℕ) → Numbered (checksBy t even odd strategy work)
+numbered-by t even odd strategy work =
     numbered-then (tableChecks t) _ (numbered-tables t)
-    (numbered-then (check9 (vertices t) _ _) (check10 (vertices t) (edgesIn t) (length (l .work))) (numbered-check9 _ _ _) (numbered-check10 _ _ _))
+    (numbered-then (check9 (vertices t) _ _) (check10 (vertices t) (edgesIn t) work) (numbered-check9 _ _ _) (numbered-check10 _ _ _))
+
+pub numbered-checks : (t : Tables) (l : Lent) → Numbered (solverChecks t l)
+numbered-checks t l = numbered-by t (length (l .even)) (length (l .odd)) (length (l .strategy)) (length (l .work))
 
 -- past the checks
 pub record Passed (t : Tables) (even odd strategy work : ℕ) : Type 0 where

@@ -8,7 +8,8 @@ use Rattle.rules.specs.Tables.{Tables, gameOf, tablesOf}
 use Rattle.parity_game.proofs.Matched.{went-on, stopped, refusal-not-zero}
 use Rattle.parity_game.specs.Said.{said}
 use Rattle.parts.specs.Area.{Cleared}
-use Rattle.checker.specs.Checks.{refusals, numbered-refusals, checks-refused, certify-given, work-fits, checks-done}
+use Rattle.solver.specs.Checks.{checksBy, numbered-by}
+use Rattle.checker.specs.Checks.{checks-refused, certify-given, work-fits, checks-done}
 use native.Mathlib.Omega.{arith}
 use borrow.Author.Needs.{needs}
 use Rattle.checker.proofs.check.Statement.{statement}
@@ -16,27 +17,26 @@ use Rattle.checker.proofs.check.Tie as tie
 use Rattle.checker.proofs.check.Reads as reads
 use Rattle.checker.proofs.check.Lts as lts
 use Rattle.checker.proofs.certify.Reads as certify-reads
-use Rattle.checker.proofs.refuse.Reads as refuse-reads
 use Rattle.parity_game.proofs.work_words.Reads as work-words-reads
 use Rattle.parts.proofs.clear.Reads as clear-reads
 
 abbrev tables : tie.Start → Tables
 tables s = tablesOf (s .args .owners .now) (s .args .priorities .now) (s .args .offsets .now) (s .args .targets .now)
 
--- past the refusals
+-- past the checks
 ok :
     (c : tie.After-enum-told) →
-    refusals (tables (c .before .before .before .before .before .before .before .before .before .before .before))
+    checksBy (tables (c .before .before .before .before .before .before .before .before .before .before .before))
     (length (c .before .before .before .before .before .before .before .before .before .before .before .args .even .now))
     (length (c .before .before .before .before .before .before .before .before .before .before .before .args .odd .now))
     (length (c .before .before .before .before .before .before .before .before .before .before .before .args .strategy .now))
     (length (c .before .before .before .before .before .before .before .before .before .before .before .args .work .now)) ≡ none
 ok c =
-    let f = c .before .before .refuse in
-    went-on (f .result) _ (c .before .match .keys1) (numbered-refusals _ _ _ _ _) (f .ensures)
+    let f = c .before .before .check-all in
+    went-on (f .result) _ (c .before .match .keys1) (numbered-by _ _ _ _ _) (f .ensures)
 
-refuse-requires : tie.Need-refuse-requires
-refuse-requires c κs = search needs
+check-all-requires : tie.Need-check-all-requires
+check-all-requires c κs = search needs
 
 enum-told : tie.Need-enum-told
 enum-told c = search needs
@@ -44,9 +44,9 @@ enum-told c = search needs
 returns : tie.Need-returns
 returns c =
     let s = c .before .before .before .before .before .before .before .before .before .before in
-    let f = c .before .refuse in
+    let f = c .before .check-all in
     checks-refused (tables s) (s .args .even .now) (s .args .odd .now) (s .args .strategy .now) (s .args .work .now) (said (f .result))
-    (stopped (f .result) (refusals (tables s) (length (s .args .even .now)) (length (s .args .odd .now)) (length (s .args .strategy .now))
+    (stopped (f .result) (checksBy (tables s) (length (s .args .even .now)) (length (s .args .odd .now)) (length (s .args .strategy .now))
     (length (s .args .work .now)))
     (certificateChecks (gameOf (tables s)) (s .args .even .now) (s .args .odd .now) (s .args .strategy .now)) (answered 0) (c .match .keys2)
     (f .ensures)) (f .ensures) (refusal-not-zero (f .result) (c .match .keys2))
@@ -87,7 +87,7 @@ pub check-spec : {M : Type 1} → statement M
 check-spec =
     tie.close
     (tie.spec
-    refuse-requires
+    check-all-requires
     enum-told
     returns
     certify-requires
