@@ -1,22 +1,20 @@
 -- From the verdict of the checks to what the public attractor promises: a refusal leaves everything, and past the checks all that the
 -- work asks for is there.
-use mathlib.Core.Bool.{true, false}
 use mathlib.Core.List.{List, [], _∷_, _++_}
 use mathlib.Core.Path.{_≡_, refl, sym, ap, subst, _∙_}
-use Prim.Native.Nat.{ℕ, _+_, _-_, _*_, _≤_, _<_}
-use native.Mathlib.Nat.{mul-le-mul-right, sub-zero}
+use Prim.Native.Nat.{ℕ, _+_, _-_, _*_, _≤_}
+use native.Mathlib.Nat.{mul-le-mul-right}
 use native.Mathlib.Omega.{arith}
 use lib.ListN.{length, take, drop, replicate, length-take}
-use Rattle.rules.specs.Game.{Player, playerOf}
+use Rattle.rules.specs.Game.{Player}
 use Rattle.rules.specs.Outcome.{Outcome, Verdict, none, refused, outcome, answered, _then_}
 use Rattle.rules.specs.Tables.{Tables, gameOf, vertices, edgesIn, words, workWords, tableChecks, Accepted, check9, check10}
-use Rattle.rules.specs.Words.{setOf}
 use Rattle.rules.specs.Attractor.{check12, looksOf}
 use Rattle.parity_game.specs.Laws.{then-none, then-assoc, Numbered, numbered-then, numbered-givenAt, numbered-tables, numbered-check9, numbered-check10}
 use Rattle.parity_game.specs.Laws.{check9-set, check9-set-none, check9-table-none, check10-none}
 use Rattle.attractor.specs.Area.{free}
 use Rattle.rules.specs.Solver.{cleared}
-use Rattle.attractor.specs.Attracts.{Lent, attractorChecks, wanted, Answers, Leaves, Attracts}
+use Rattle.attractor.specs.Attracts.{Lent, attractorChecks, wanted, Leaves, Attracts}
 use Rattle.attractor.specs.Door.{sizeChecks, checksBy, Runnable, Ran}
 use Rattle.attractor.specs.DoorLaws.{within-below, target-part}
 

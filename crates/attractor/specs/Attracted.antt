@@ -1,14 +1,14 @@
 -- What the attractor over the work area asks for and leaves behind. The set V stands at `within`, the target at `set`, and the
 -- attractor takes the target's place.
 use mathlib.Core.Bool.{true, false}
-use mathlib.Core.List.{List, []}
+use mathlib.Core.List.{List}
 use mathlib.Core.Logic.{_⊎_}
 use mathlib.Core.Path.{_≡_}
 use Prim.Native.Nat.{ℕ, _+_, _≤_, _<_}
-use lib.ListN.{length, take, getD}
-use Rattle.rules.specs.Counting.{Set, times}
-use Rattle.rules.specs.Game.{Player, Game, playerOf}
-use Rattle.rules.specs.Tables.{Tables, gameOf, vertices, edgesIn, words, targetsOf, Accepted}
+use lib.ListN.{length, getD}
+use Rattle.rules.specs.Counting.{times}
+use Rattle.rules.specs.Game.{Player}
+use Rattle.rules.specs.Tables.{Tables, gameOf, vertices, edgesIn, words, targetsOf}
 use Rattle.rules.specs.Words.{Holds}
 use Rattle.rules.specs.Attractor.{attractor, looksOf}
 use Rattle.theory.specs.AttractorRank.{Certificate}

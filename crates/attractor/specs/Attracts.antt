@@ -1,12 +1,12 @@
 -- What the public attractor promises, for every input: the outcome by the checks, and every lent word afterwards.
-use mathlib.Core.List.{List, [], _∷_, _++_}
+use mathlib.Core.List.{List, [], _∷_}
 use mathlib.Core.Path.{_≡_}
 use Prim.Native.Nat.{ℕ}
-use lib.ListN.{length, drop, replicate}
+use lib.ListN.{length}
 use Rattle.rules.specs.Counting.{Set}
 use Rattle.rules.specs.Game.{Player}
 use Rattle.rules.specs.Outcome.{Outcome, Verdict, none, refused, outcome, answered, _then_}
-use Rattle.rules.specs.Tables.{Tables, gameOf, vertices, edgesIn, workWords, tableChecks, check9, check10}
+use Rattle.rules.specs.Tables.{Tables, gameOf, vertices, edgesIn, tableChecks, check9, check10}
 use Rattle.rules.specs.Solver.{cleared}
 use Rattle.rules.specs.Words.{setOf, Holds}
 use Rattle.rules.specs.Attractor.{attractor, looksOf, AttractorEntries, check12}

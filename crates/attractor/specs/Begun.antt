@@ -4,24 +4,23 @@ use mathlib.Core.List.{List, [], _∷_}
 use mathlib.Core.Logic.{_⊎_, inl, inr, ⊎-elim}
 use mathlib.Core.Path.{_≡_, refl, sym, ap, subst, _∙_}
 use Prim.Native.Nat.{ℕ, zero, suc, _+_, _-_, _*_, _≤_, _<_, zero-le}
-use native.Mathlib.Nat.{le-refl, le-trans, not-suc-le-zero, le-of-suc-le-suc, lt-irrefl, le-of-lt}
+use native.Mathlib.Nat.{not-suc-le-zero, le-of-suc-le-suc}
 use native.Mathlib.Omega.{arith}
 use borrow.Author.Tests.{eq-eqb, eqb-true}
 use lib.Dec.{eqb}
-use lib.ListN.{length, getD, take, drop}
-use Rattle.rules.specs.Counting.{Set, some, count, times}
+use lib.ListN.{length, getD}
+use Rattle.rules.specs.Counting.{Set, some, count}
 use Rattle.rules.specs.Tables.{words, targetsOf}
 use Rattle.theory.specs.Basics.{clash, bool-ext, not-true-is-false, some-intro, some-elim, count-none, count-le, times-member, member-place}
 use Rattle.theory.specs.AttractorBasics.{countOf}
 use Rattle.theory.specs.Basics.{count-on}
 use Rattle.sets.specs.Laws.{times-members, members-entry, length-members, Rising, rising-members, bit-member, member-bit}
 use Rattle.sets.specs.Walk.{members}
-use Rattle.attractor.specs.Area.{counters, queue, entries, free, setAt, wordsAt}
+use Rattle.attractor.specs.Area.{counters, queue, entries, setAt, wordsAt}
 use Rattle.attractor.specs.Attracted.{Placed, Nested}
 use Rattle.attractor.specs.State.{State}
 use Rattle.attractor.specs.Tally.{tally-nobody}
-use Rattle.attractor.specs.Growth.{Mark, before, place-before, Queue, Grounds}
-use Rattle.attractor.specs.Looks.{Grown}
+use Rattle.attractor.specs.Growth.{Mark, before, place-before, Queue}
 use Rattle.attractor.specs.Taking.{Standing}
 use Rattle.attractor.specs.View.{cells, stateAt, Kept, ownBy}
 use Rattle.attractor.specs.Views.{cells-at, cells-alike, set-alike, words-alike, part-length, words-cover}

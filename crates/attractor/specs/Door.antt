@@ -1,15 +1,15 @@
 -- What the parts of the public attractor ask for and leave: check 12, copying, the strategy, and the work itself.
-use mathlib.Core.Bool.{Bool, true, false, _&&_, _||_, not, cond}
+use mathlib.Core.Bool.{Bool, true, _&&_, _||_, not, cond}
 use mathlib.Core.List.{List, [], _∷_}
 use mathlib.Core.Path.{_≡_}
 use Prim.Native.Nat.{ℕ, _+_, _*_, _≤_, _<_}
 use lib.Dec.{ltb}
-use lib.ListN.{length, getD, replicate}
+use lib.ListN.{length, getD}
 use Rattle.rules.specs.Counting.{Set}
-use Rattle.rules.specs.Game.{Player, playerOf}
+use Rattle.rules.specs.Game.{Player}
 use Rattle.rules.specs.Outcome.{Verdict, _then_}
 use Rattle.rules.specs.Tables.{Tables, gameOf, vertices, edgesIn, words, tableChecks, Accepted, check9, check10, tablesOf}
-use Rattle.rules.specs.Words.{setOf, Holds, noEntry, entry}
+use Rattle.rules.specs.Words.{setOf, Holds, noEntry}
 use Rattle.rules.specs.Attractor.{looksOf, AttractorEntries, check12}
 use Rattle.attractor.specs.Area.{free}
 use Rattle.attractor.specs.Attracts.{wanted}

@@ -1,21 +1,20 @@
 -- Laws for the parts of the public attractor: the test of check 12 and the entry of a vertex by their cases, and what accepted sets say.
-use mathlib.Core.Bool.{Bool, true, false, _&&_, _||_, not, cond}
-use mathlib.Core.List.{List, [], _∷_}
-use mathlib.Core.Logic.{_⊎_, inl, inr, ⊎-elim}
+use mathlib.Core.Bool.{Bool, true, false, _&&_, not}
+use mathlib.Core.List.{List}
+use mathlib.Core.Logic.{_⊎_, ⊎-elim}
 use mathlib.Core.Path.{_≡_, refl, sym, ap, _∙_}
 use Prim.Native.Nat.{ℕ, _+_, _*_, _≤_, _<_}
 use native.Mathlib.Decide.{ℕ-discrete}
 use native.Mathlib.Omega.{arith}
 use borrow.Author.Tests.{lt-ltb, le-ltb, eq-eqb, ne-eqb}
-use lib.Dec.{ltb}
 use lib.ListN.{length, getD, set}
 use lib.Seq.{getD-set-same, getD-set-other}
 use Rattle.rules.specs.Counting.{everyOf}
-use Rattle.rules.specs.Outcome.{Verdict, none, refused, _then_}
+use Rattle.rules.specs.Outcome.{Verdict, none, refused}
 use Rattle.rules.specs.Tables.{words, workWords, check9, check10}
 use Rattle.rules.specs.Words.{setOf, noEntry}
 use Rattle.rules.specs.Attractor.{check12}
-use Rattle.theory.specs.Basics.{bool-cases, clash, lt-or-ge, or-false-both, not-true-is-false, not-false-is-true}
+use Rattle.theory.specs.Basics.{clash, lt-or-ge, not-false-is-true}
 use Rattle.parity_game.specs.Laws.{givenAt-none}
 use Rattle.sets.specs.Laws.{member-inside}
 use Rattle.attractor.specs.Door.{stray, sizeChecks, drawnIn, chosen}

@@ -2,20 +2,18 @@
 -- vertex of the queue came in.
 use mathlib.Core.Bool.{Bool, true, false, cond, _||_}
 use mathlib.Core.List.{List, List·Memᴰ}
-use mathlib.Core.Logic.{_⊎_, inl, inr, ⊎-elim}
+use mathlib.Core.Logic.{_⊎_, ⊎-elim}
 use mathlib.Core.Path.{_≡_, refl, sym, ap, subst, _∙_}
-use Prim.Native.Nat.{ℕ, zero, suc, _+_, _-_, _≤_, _<_}
+use Prim.Native.Nat.{ℕ, suc, _+_, _-_, _≤_, _<_}
 use native.Mathlib.Decide.{ℕ-discrete}
-use native.Mathlib.Nat.{le-refl, add-zero}
+use native.Mathlib.Nat.{le-refl}
 use native.Mathlib.Omega.{arith}
-use borrow.Author.Tests.{eq-eqb, ne-eqb, eqb-true, eqb-false}
+use borrow.Author.Tests.{eq-eqb, ne-eqb, eqb-true}
 use lib.Dec.{eqb}
 use Rattle.rules.specs.Counting.{Set, some, count}
-use Rattle.theory.specs.Basics.{bool-cases, clash, bool-ext, or-left, or-cases, below-suc, some-intro, some-elim, some-cong}
-use Rattle.theory.specs.Basics.{not-true-is-false, count-strict, count-le}
-use Rattle.theory.specs.AttractorBasics.{countOf}
-use Rattle.attractor.specs.State.{State, put, joined, entered, counted, touched}
-use Rattle.attractor.specs.Tally.{flag, flag-one, flag-zero, tally-mono, tally-full}
+use Rattle.theory.specs.Basics.{bool-cases, clash, below-suc, some-intro, some-elim, some-cong}
+use Rattle.theory.specs.Basics.{count-strict, count-le}
+use Rattle.attractor.specs.State.{State, joined}
 
 -- ---- one vertex
 

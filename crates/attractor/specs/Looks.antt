@@ -1,7 +1,6 @@
 -- One look keeps what holds of the attractor's state, and so do the looks along a row.
 use mathlib.Core.Bool.{Bool, true, false, cond}
-use mathlib.Core.List.{List, [], _∷_, _++_, List·Memᴰ, List·Memᴰ·head, List·Memᴰ·tail}
-use mathlib.Core.Logic.{_⊎_, inl, inr, ⊎-elim}
+use mathlib.Core.List.{List, [], _∷_, List·Memᴰ, List·Memᴰ·head, List·Memᴰ·tail}
 use mathlib.Core.Path.{_≡_, refl, sym, ap, subst, fun-ext, _∙_}
 use Prim.Native.Nat.{ℕ, zero, suc, _+_, _-_, _≤_, _<_}
 use native.Mathlib.Decide.{ℕ-discrete}
@@ -9,16 +8,14 @@ use native.Mathlib.Nat.{le-refl, le-trans, add-zero, add-assoc, not-suc-le-zero,
 use native.Mathlib.Omega.{arith}
 use borrow.Author.Tests.{eq-eqb, ne-eqb, eqb-true, eqb-false}
 use lib.Dec.{eqb}
-use lib.ListN.{length, getD, take, drop, take-append-drop}
-use lib.Seq.{drop-cons}
+use lib.ListN.{length, getD, take}
 use Rattle.rules.specs.Counting.{Set, times}
-use Rattle.theory.specs.Basics.{bool-cases, clash, not-true-is-false, place-member}
-use Rattle.theory.specs.AttractorBasics.{countOf, times-append}
+use Rattle.theory.specs.Basics.{clash, not-true-is-false}
+use Rattle.theory.specs.AttractorBasics.{countOf}
 use Rattle.attractor.specs.State.{State, put, joined, entered, counted, touched, looked}
-use Rattle.attractor.specs.Tally.{flag, flag-one, flag-zero, tally-mono, tally-full}
+use Rattle.attractor.specs.Tally.{flag, flag-one, tally-mono, tally-full}
 use Rattle.attractor.specs.Growth.{Mark, mark-outside, mark-again, mark-own, mark-last, mark-count}
 use Rattle.attractor.specs.Growth.{before, before-alike, before-later, Queue, queue-joined, queue-room, joined-order, joined-self, joined-kept}
-use Rattle.attractor.specs.Growth.{joined-last}
 use Rattle.attractor.specs.Growth.{Grounds, varied, grounds-joined}
 
 -- what a look at v makes of s, with the tests that decide

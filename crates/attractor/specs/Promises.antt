@@ -1,13 +1,12 @@
 -- What a reader may conclude of the public attractor from its contract alone: the smallest set, its looks, and that any two results are the
 -- same but for strategy entries.
 use mathlib.Core.List.{List}
-use mathlib.Core.Path.{_≡_, refl, sym, ap, _∙_}
+use mathlib.Core.Path.{_≡_, sym, ap, _∙_}
 use Prim.Native.Nat.{ℕ}
-use Rattle.rules.specs.Attractor.{looksOf, AttractorEntries}
+use Rattle.rules.specs.Attractor.{looksOf}
 use Rattle.rules.specs.Game.{Player}
 use Rattle.rules.specs.Outcome.{Outcome, Verdict, none, refused, outcome, answered}
-use Rattle.rules.specs.Tables.{Tables, gameOf, vertices}
-use Rattle.rules.specs.Words.{setOf, Holds}
+use Rattle.rules.specs.Tables.{Tables, gameOf}
 use Rattle.sets.specs.Same.{Narrow, holds-same}
 use Rattle.attractor.specs.Attracts.{Lent, attractorChecks, wanted, Answers, Leaves, Attracts}
 

@@ -1,35 +1,32 @@
 -- The attractor over the work area, member by member: what holds before each is taken, that it then holds again, and what is left at
 -- the end.
 use mathlib.Core.Bool.{true, false}
-use mathlib.Core.List.{List, List·Memᴰ}
-use mathlib.Core.Logic.{_⊎_, inl, inr, ⊎-elim}
+use mathlib.Core.List.{List}
+use mathlib.Core.Logic.{_⊎_, inl, inr}
 use mathlib.Core.Path.{_≡_, refl, sym, ap, subst, _∙_}
 use Prim.Native.Nat.{ℕ, zero, suc, _+_, _-_, _*_, _≤_, _<_, zero-le}
-use native.Mathlib.Nat.{le-refl, le-trans}
 use native.Mathlib.Numerals.{add-one}
 use native.Mathlib.Omega.{arith}
-use borrow.Author.Tests.{eq-eqb, ne-eqb}
 use lib.Dec.{eqb}
 use lib.ListN.{length, getD, take, drop, List·getD-eq-default}
-use Rattle.rules.specs.Counting.{Set, some, count, times}
+use Rattle.rules.specs.Counting.{Set, some, times}
 use Rattle.rules.specs.Game.{Player, Game, Edge, playerOf, same}
-use Rattle.rules.specs.Tables.{Tables, gameOf, vertices, edgesIn, words, targetsOf, Accepted, tablesOf}
-use Rattle.rules.specs.Words.{setOf}
-use Rattle.rules.specs.Attractor.{attractor, atFirst, Growing, TakesOne, Takes, stop, looksOf}
-use Rattle.theory.specs.Basics.{clash, not-true-is-false, count-le, member-place, lt-or-ge}
+use Rattle.rules.specs.Tables.{gameOf, words, targetsOf, Accepted, tablesOf}
+use Rattle.rules.specs.Attractor.{attractor, atFirst, TakesOne, Takes, stop}
+use Rattle.theory.specs.Basics.{not-true-is-false, count-le, member-place, lt-or-ge}
 use Rattle.theory.specs.Attractor.{Fits, attractor-inside}
 use Rattle.theory.specs.AttractorSteps.{takes-then}
 use Rattle.theory.specs.Tables.{accepted-total}
-use Rattle.parity_game.specs.Laws.{Sound, accepted-sound}
-use Rattle.predecessors.specs.Table.{start, row, SoundEdges}
+use Rattle.parity_game.specs.Laws.{accepted-sound}
+use Rattle.predecessors.specs.Table.{start, row}
 use Rattle.sets.specs.Laws.{other-bit}
-use Rattle.attractor.specs.Area.{counters, queue, entries, free, setAt, wordsAt, entryAt}
-use Rattle.attractor.specs.Attracted.{Placed, Nested, Listed, Attractable, Attracted}
-use Rattle.attractor.specs.State.{State, looked}
+use Rattle.attractor.specs.Area.{queue, entries, setAt, wordsAt}
+use Rattle.attractor.specs.Attracted.{Listed, Attractable, Attracted}
+use Rattle.attractor.specs.State.{State}
 use Rattle.attractor.specs.Growth.{before as beforeᵠ, place-before}
-use Rattle.attractor.specs.Taking.{Standing, Row, growing, taking-stands-of, taking-safe-of, next-member}
+use Rattle.attractor.specs.Taking.{Standing, Row, growing, taking-stands-of, taking-safe-of}
 use Rattle.attractor.specs.Ended.{ended-members, ended-looks, ended-certificate, ended-pull, ended-kept}
-use Rattle.attractor.specs.View.{cells, stateAt, Kept, Becomes, ownBy}
+use Rattle.attractor.specs.View.{cells, stateAt, Kept, ownBy}
 use Rattle.attractor.specs.Views.{cells-at, kept-set, kept-placed, kept-then, part-length, slice-alike}
 use Rattle.attractor.specs.TakeLoop.{Takeable, Took, row-length}
 

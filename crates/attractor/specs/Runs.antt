@@ -1,31 +1,30 @@
 -- The work of the public attractor: V and the target are copied in, the predecessor table is built, the attractor is found, and its
 -- words and entries are what the rules ask for.
-use mathlib.Core.Bool.{Bool, true, false, _&&_, not, cond}
+use mathlib.Core.Bool.{Bool, true, false, not, cond}
 use mathlib.Core.List.{List, [], _∷_}
-use mathlib.Core.Logic.{_⊎_, inl, inr, ⊎-elim}
+use mathlib.Core.Logic.{inl}
 use mathlib.Core.Path.{_≡_, refl, sym, ap, subst, subst₂, _∙_}
-use Prim.Native.Nat.{ℕ, zero, suc, _+_, _-_, _*_, _≤_, _<_}
+use Prim.Native.Nat.{ℕ, zero, suc, _+_, _-_, _≤_, _<_}
 use native.Mathlib.Nat.{le-refl, le-of-suc-le-suc, not-suc-le-zero}
 use native.Mathlib.Omega.{arith}
-use lib.ListN.{length, getD, take, drop, length-take, length-drop}
-use lib.Seq.{getD-take, getD-drop, take-length, take-all}
-use Rattle.rules.specs.Counting.{Set, times}
-use Rattle.rules.specs.Game.{Player, Game, Edge, playerOf, same}
-use Rattle.rules.specs.Tables.{Tables, gameOf, vertices, edgesIn, words, targetsOf, Accepted, tablesOf}
+use lib.ListN.{length, getD, take, drop}
+use lib.Seq.{getD-take, getD-drop}
+use Rattle.rules.specs.Counting.{Set}
+use Rattle.rules.specs.Game.{Player, Game, playerOf, same}
+use Rattle.rules.specs.Tables.{Tables, gameOf, vertices, edgesIn, Accepted, tablesOf}
 use Rattle.rules.specs.Words.{setOf, Holds, noEntry, entry}
-use Rattle.rules.specs.Attractor.{attractor, looksOf, AttractorEntries}
+use Rattle.rules.specs.Attractor.{attractor, looksOf}
 use Rattle.theory.specs.Basics.{clash, and-left, and-right, not-true-is-false, same-true, true-same}
 use Rattle.theory.specs.AttractorRank.{Certificate, certificate-entries}
 use Rattle.theory.specs.Tables.{accepted-total}
-use Rattle.parity_game.specs.Laws.{Sound, accepted-sound, never-falls}
-use Rattle.predecessors.specs.Table.{start, row, SoundEdges, Ready, Predecessors}
-use Rattle.attractor.specs.Area.{counters, entries, free, setAt, wordsAt, entryAt}
-use Rattle.attractor.specs.Attracted.{Placed, Nested, Listed, Attractable, Attracted}
-use Rattle.attractor.specs.Attracts.{wanted}
+use Rattle.parity_game.specs.Laws.{accepted-sound, never-falls}
+use Rattle.predecessors.specs.Table.{start, SoundEdges, Ready, Predecessors}
+use Rattle.attractor.specs.Area.{entries, free, setAt, wordsAt, entryAt}
+use Rattle.attractor.specs.Attracted.{Listed, Attractable, Attracted}
 use Rattle.attractor.specs.View.{ownBy}
-use Rattle.attractor.specs.Views.{back, back-long, back-front, back-behind, back-part, part-is, part-length, slice-alike, words-enough}
+use Rattle.attractor.specs.Views.{back, back-long, back-front, back-part, part-is, part-length, slice-alike, words-enough}
 use Rattle.attractor.specs.Running.{owned}
-use Rattle.attractor.specs.Door.{Runnable, Ran, Entered, Enterable, Written, drawnIn, chosen}
+use Rattle.attractor.specs.Door.{Runnable, Ran, Enterable, Written, drawnIn, chosen}
 
 -- offsets and targets of accepted tables
 pub edges-sound : (t : Tables) → Accepted t → SoundEdges (vertices t) (t .offsets) (t .targets)

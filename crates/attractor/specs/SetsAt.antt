@@ -8,10 +8,10 @@ use Prim.Native.Nat.{ℕ, _+_, _-_, _*_, _/_, _%_, _≤_, _<_, max}
 use native.Mathlib.Nat.{add-zero}
 use native.Mathlib.Omega.{arith}
 use lib.Dec.{eqb}
-use lib.ListN.{length, getD, take, drop, length-take}
+use lib.ListN.{getD, drop, length-take}
 use Rattle.rules.specs.Counting.{Set}
 use Rattle.rules.specs.Tables.{words}
-use Rattle.rules.specs.Words.{digit, bit, setOf}
+use Rattle.rules.specs.Words.{digit, setOf}
 use Rattle.theory.specs.Basics.{clash, lt-or-ge}
 use Rattle.sets.specs.After.{Combined, Cleared, other}
 use Rattle.sets.specs.Digits.{digit-zero}

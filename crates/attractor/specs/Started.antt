@@ -1,21 +1,19 @@
 -- From what `attract` asks for to the state in which its loop begins.
 use mathlib.Core.List.{List}
-use mathlib.Core.Logic.{inl, inr}
-use mathlib.Core.Path.{_≡_, refl, sym, ap, subst, _∙_}
-use Prim.Native.Nat.{ℕ, _+_, _≤_}
+use mathlib.Core.Logic.{inr}
+use mathlib.Core.Path.{_≡_, refl, subst}
+use Prim.Native.Nat.{ℕ, _+_}
 use native.Mathlib.Omega.{arith}
-use lib.ListN.{length, take, drop}
-use Rattle.rules.specs.Counting.{Set}
-use Rattle.rules.specs.Tables.{words, targetsOf}
-use Rattle.sets.specs.Walk.{members}
-use Rattle.attractor.specs.Area.{queue, entries, setAt, wordsAt}
+use lib.ListN.{length}
+use Rattle.rules.specs.Tables.{words}
+use Rattle.attractor.specs.Area.{queue, wordsAt}
 use Rattle.attractor.specs.Attracted.{Attractable}
-use Rattle.attractor.specs.View.{Kept, ownBy}
+use Rattle.attractor.specs.View.{Kept}
 use Rattle.attractor.specs.Views.{words-few, words-alike}
 use Rattle.attractor.specs.Counters.{Countable, Counted}
 use Rattle.attractor.specs.Filled.{Fillable, Filled}
 use Rattle.attractor.specs.Begun.{members-few, begun-kept, begun-members, begun-inside, begun-entry, begun-stands}
-use Rattle.attractor.specs.Running.{Running, running-first, Same, same-back, running-moved, attractable-moved}
+use Rattle.attractor.specs.Running.{Running, running-first, Same, running-moved, attractable-moved}
 
 module _ (owners offsets targets : List ℕ) (alpha within set s : ℕ) (work : List ℕ)
     (given : Attractable owners offsets targets alpha within set work) (size : s ≡ words (length owners))

@@ -1,8 +1,8 @@
 -- Taking a member over the work area: what it asks for, how the looks along its row go, and that it is one of the rules' steps.
-use mathlib.Core.List.{List, [], _∷_, _++_}
-use mathlib.Core.Path.{_≡_, refl, sym, ap, subst, _∙_}
-use mathlib.Core.Logic.{_⊎_, inl, inr}
-use Prim.Native.Nat.{ℕ, zero, suc, _+_, _-_, _≤_, _<_}
+use mathlib.Core.List.{List}
+use mathlib.Core.Path.{_≡_, sym, ap, subst, _∙_}
+use mathlib.Core.Logic.{inl}
+use Prim.Native.Nat.{ℕ, suc, _+_, _-_, _≤_, _<_}
 use native.Mathlib.Nat.{sub-self, le-refl}
 use native.Mathlib.Omega.{arith}
 use lib.ListN.{length, getD, take, drop, length-take, length-drop}
@@ -12,12 +12,12 @@ use Rattle.rules.specs.Game.{Player, Game, same}
 use Rattle.rules.specs.Tables.{words}
 use Rattle.rules.specs.Attractor.{TakesOne}
 use Rattle.predecessors.specs.Table.{start, row}
-use Rattle.attractor.specs.Area.{counters, setAt}
+use Rattle.attractor.specs.Area.{setAt}
 use Rattle.attractor.specs.Attracted.{Placed}
 use Rattle.attractor.specs.State.{State, touched, looked, looked-none, looked-more}
 use Rattle.attractor.specs.Looks.{Safe}
 use Rattle.attractor.specs.Taking.{Standing, Row, growing, taking-step-of}
-use Rattle.attractor.specs.View.{stateAt, Kept, Becomes, Touchable, ownBy}
+use Rattle.attractor.specs.View.{stateAt, Becomes, Touchable, ownBy}
 use Rattle.attractor.specs.Views.{kept-set, kept-placed, becomes-same, becomes-then, becomes-as}
 
 -- what `take` asks for: the row of w lies in the table, and each look along it is safe

@@ -1,18 +1,18 @@
 -- Taking a member is one of the rules' steps: from a state in which the members before `head` are taken, the looks along the row of
 -- the vertex at `head` lead to one in which it is taken too.
-use mathlib.Core.Bool.{Bool, true, false, _&&_, _||_}
+use mathlib.Core.Bool.{true, false, _&&_, _||_}
 use mathlib.Core.List.{List, List·Memᴰ}
-use mathlib.Core.Logic.{_⊎_, inl, inr, ⊎-elim}
+use mathlib.Core.Logic.{_⊎_, ⊎-elim}
 use mathlib.Core.Path.{_≡_, refl, sym, ap, subst, fun-ext, _∙_}
-use Prim.Native.Nat.{ℕ, zero, suc, _+_, _≤_, _<_}
-use native.Mathlib.Nat.{le-refl, le-trans, le-of-lt}
+use Prim.Native.Nat.{ℕ, suc, _+_, _≤_, _<_}
+use native.Mathlib.Nat.{le-refl, le-trans}
 use native.Mathlib.Omega.{arith}
 use borrow.Author.Tests.{eq-eqb}
 use lib.Dec.{eqb}
 use lib.ListN.{length, getD, take}
-use Rattle.rules.specs.Counting.{Set, some, someOf, times}
-use Rattle.rules.specs.Game.{Player, Game, Edge, edges, same}
-use Rattle.rules.specs.Attractor.{drawn, Growing, TakesOne, Entries}
+use Rattle.rules.specs.Counting.{Set, someOf, times}
+use Rattle.rules.specs.Game.{Player, Game, edges, same}
+use Rattle.rules.specs.Attractor.{drawn, Growing, TakesOne}
 use Rattle.theory.specs.Basics.{bool-cases, clash, bool-ext, and-intro, and-right, or-left, or-right, or-cases}
 use Rattle.theory.specs.Basics.{not-true-is-false, not-false-is-true, same-true, same-false, true-same, false-same}
 use Rattle.theory.specs.Basics.{times-pos, times-member, someOf-intro, lt-or-ge}

@@ -1,18 +1,17 @@
 -- Laws of the state as it stands in the work area: what a store at a counter, a place in the queue or an entry makes of it, what a
 -- set that was lent and comes back makes of it, and what stays.
-use mathlib.Core.Bool.{Bool, true, false, cond}
+use mathlib.Core.Bool.{true, cond}
 use mathlib.Core.List.{List, _++_}
 use mathlib.Core.Logic.{_⊎_, inl, inr, ⊎-elim}
 use mathlib.Core.Path.{_≡_, refl, sym, ap, fun-ext, _∙_}
-use Prim.Native.Nat.{ℕ, suc, _+_, _-_, _*_, _≤_, _<_}
+use Prim.Native.Nat.{ℕ, _+_, _-_, _*_, _≤_, _<_}
 use native.Mathlib.Numerals.{add-one}
 use native.Mathlib.Decide.{ℕ-discrete}
 use native.Mathlib.Omega.{arith}
 use borrow.Author.Tests.{eq-eqb, ne-eqb, lt-ltb, le-ltb}
-use lib.Dec.{eqb, ltb}
+use lib.Dec.{eqb}
 use lib.ListN.{length, getD, take, drop, set, length-set, length-append, length-take, length-drop, List·getD-append}
 use lib.Seq.{ext-getD, getD-take, getD-drop, getD-set-same, getD-set-other, getD-append-add, take-at, drop-at, length-take-le}
-use Rattle.rules.specs.Counting.{Set}
 use Rattle.rules.specs.Tables.{words}
 use Rattle.rules.specs.Words.{setOf}
 use Rattle.theory.specs.Basics.{lt-or-ge}
@@ -21,7 +20,7 @@ use Rattle.sets.specs.Laws.{put-set}
 use Rattle.attractor.specs.Area.{counters, queue, entries, free, setAt, wordsAt}
 use Rattle.attractor.specs.Attracted.{Placed}
 use Rattle.attractor.specs.State.{State, put, joined, entered, counted}
-use Rattle.attractor.specs.View.{cells, stateAt, Aside, Kept, Room, Becomes}
+use Rattle.attractor.specs.View.{cells, stateAt, Kept, Room, Becomes}
 
 -- ---- cells
 

@@ -1,5 +1,4 @@
 // One step: a member is taken, and each of its predecessor entries is looked at once, those outside V included.
-ghost use mathlib.Core.Path.{_≡_};
 ghost use lib.ListN.{length};
 ghost use Rattle.attractor.specs.Area.{setAt};
 ghost use Rattle.attractor.specs.State.{joined, touched};

@@ -1,9 +1,9 @@
 -- What the checker promises for every input: the outcome by the refusals 1 to 10 and the kinds 21 to 24, and the work area, which is
 -- untouched after a refusal and else cleared.
 use mathlib.Core.Bool.{Bool, true, false, _&&_, not, cond}
-use mathlib.Core.List.{List, [], _∷_, _++_}
-use mathlib.Core.Logic.{_⊎_, inl, inr, ⊎-elim}
-use mathlib.Core.Path.{_≡_, refl, sym, ap, ap₂, subst, fun-ext, _∙_}
+use mathlib.Core.List.{List}
+use mathlib.Core.Logic.{_⊎_, inr, ⊎-elim}
+use mathlib.Core.Path.{_≡_, refl, sym, ap, subst, fun-ext, _∙_}
 use Prim.Native.Nat.{ℕ, zero, suc, _+_, _-_, _*_, _/_, _%_, _≤_, _<_}
 use native.Mathlib.Nat.{mul-suc}
 use native.Mathlib.Omega.{arith}
@@ -14,22 +14,22 @@ use lib.Seq.{ext-getD, getD-drop, getD-append-add}
 use Rattle.rules.specs.Counting.{Set, some}
 use Rattle.rules.specs.Game.{Player, Even, Odd, playerOf, parity, same, everywhere}
 use Rattle.rules.specs.Outcome.{Outcome, Verdict, none, refused, outcome, answered, givenAt, _then_}
-use Rattle.rules.specs.Tables.{Tables, vertices, edgesIn, words, workWords, gameOf, Accepted, tableChecks, check9, check10}
-use Rattle.rules.specs.Words.{setOf, entry, noEntry}
+use Rattle.rules.specs.Tables.{Tables, vertices, edgesIn, words, workWords, gameOf, Accepted}
+use Rattle.rules.specs.Words.{setOf, entry}
 use Rattle.rules.specs.Zielonka.{highestIn}
 use Rattle.rules.specs.Solver.{cleared}
 use Rattle.rules.specs.Checker.{winnerOf, check21, check22, check23, check24, certificateChecks}
-use Rattle.theory.specs.Basics.{bool-cases, bool-ext, clash, and-intro, and-left, and-right, some-intro, some-elim, lt-or-ge, same-true}
+use Rattle.theory.specs.Basics.{bool-ext, and-intro, and-left, and-right, some-intro, some-elim, lt-or-ge, same-true}
 use Rattle.theory.specs.Checker.{after22}
 use Rattle.theory.specs.Chosen.{chosenPart, check24-chosen, givenAt-cong}
 use Rattle.theory.specs.Dominion.{owner-cases}
 use Rattle.theory.specs.Greatest.{greatest-le}
 use Rattle.theory.specs.Tables.{accepted-total, accepted-priority}
-use Rattle.parity_game.specs.Laws.{accepted-sound, outcome-pass, then-assoc, then-none, check9-set, check9-set-none, check9-table-none, check10-none}
-use Rattle.parity_game.specs.Laws.{Numbered, numbered-givenAt, numbered-then, numbered-tables, numbered-check9, numbered-check10}
+use Rattle.parity_game.specs.Laws.{accepted-sound, outcome-pass}
+use Rattle.parity_game.specs.Laws.{Numbered, numbered-givenAt}
 use Rattle.predecessors.specs.Whole.{accepted-edges}
-use Rattle.solver.specs.Checks.{checksBy, Passed, checks-passed}
-use Rattle.parts.specs.Area.{behind, Cleared, marked, true-marked, false-marked, marked-true}
+use Rattle.solver.specs.Checks.{checksBy, checks-passed}
+use Rattle.parts.specs.Area.{behind, Cleared, marked}
 use Rattle.checker.specs.Sides.{Sets, Given, Sided, ownBy, sideOf, wrongEntry, leavesSet, entry-is}
 use Rattle.checker.specs.Cycles.{losingAt, Scannable, MarksReady, CyclesMarked}
 

@@ -1,27 +1,24 @@
 -- The kind 24: the two rows of marks, and that a search over them gives the rule's verdict.
-use mathlib.Core.Bool.{Bool, true, false, _&&_, _||_, not, cond}
+use mathlib.Core.Bool.{Bool, true, false, _||_, not, cond}
 use mathlib.Core.List.{List}
 use mathlib.Core.Logic.{_⊎_, inl, inr, ⊎-elim}
-use mathlib.Core.Path.{_≡_, refl, sym, ap, ap₂, subst, fun-ext, _∙_}
-use Prim.Native.Nat.{ℕ, zero, suc, _+_, _-_, _*_, _/_, _%_, _≤_, _<_}
+use mathlib.Core.Path.{_≡_, sym, ap, subst, fun-ext, _∙_}
+use Prim.Native.Nat.{ℕ, _+_, _-_, _*_, _≤_, _<_}
 use native.Mathlib.Nat.{le-refl}
 use native.Mathlib.Omega.{arith}
-use borrow.Author.Tests.{eqb-true, eq-eqb, ne-eqb}
 use lib.Dec.{eqb}
-use lib.ListN.{length, getD, drop}
+use lib.ListN.{length, getD}
 use lib.Seq.{getD-drop}
 use Rattle.rules.specs.Counting.{Set, some}
-use Rattle.rules.specs.Game.{Even, Odd, playerOf, parity, same, Edge}
+use Rattle.rules.specs.Game.{Edge}
 use Rattle.rules.specs.Tables.{Tables, vertices, gameOf, Accepted, tablesOf}
 use Rattle.rules.specs.Words.{setOf, entry, noEntry}
-use Rattle.rules.specs.Checker.{winnerOf}
-use Rattle.theory.specs.Basics.{bool-cases, bool-ext, clash, and-intro, and-left, and-right, not-true-is-false, some-intro, some-elim}
 use Rattle.theory.specs.Chosen.{chosenPart}
 use Rattle.parity_game.specs.Laws.{accepted-sound}
 use Rattle.predecessors.specs.Table.{Ready, Predecessors}
 use Rattle.predecessors.specs.Whole.{accepted-edges}
-use Rattle.parts.specs.Area.{marks, behind, Within, Cleared, marked, true-marked, marked-true, false-marked, marked-alike}
-use Rattle.parts.specs.Graph.{Graph, graph, gameIn}
+use Rattle.parts.specs.Area.{marks, behind, Within, Cleared, marked, false-marked, marked-alike}
+use Rattle.parts.specs.Graph.{graph, gameIn}
 use Rattle.parts.specs.Seeking.{rows-kept}
 use Rattle.parts.specs.Parity.{Sweepable, Swept, predecessor-rows, game-of, graph-sound}
 

@@ -2,13 +2,13 @@
 use mathlib.Core.Bool.{true}
 use mathlib.Core.List.{List}
 use mathlib.Core.Logic.{_⊎_}
-use mathlib.Core.Path.{_≡_, refl, sym, ap, _∙_}
+use mathlib.Core.Path.{_≡_, sym, ap, _∙_}
 use Prim.Native.Nat.{ℕ, _<_}
 use native.Mathlib.Omega.{arith}
 use lib.ListN.{length}
 use Rattle.rules.specs.Game.{Player, Even, Odd, Game}
 use Rattle.rules.specs.Outcome.{Outcome, Verdict, none, outcome, answered, _then_}
-use Rattle.rules.specs.Tables.{Tables, gameOf, Accepted}
+use Rattle.rules.specs.Tables.{Tables, gameOf}
 use Rattle.rules.specs.Checker.{check21, check22, check23, check24, certificateChecks}
 use Rattle.rules.specs.Counting.{Set}
 use Rattle.rules.specs.Winning.{WinningSets, WinningEntries}

@@ -1,18 +1,18 @@
 -- The kinds 21 to 23: the tests as the code makes them, and that a search over them gives the rule's verdicts.
-use mathlib.Core.Bool.{Bool, true, false, _&&_, _||_, not, cond}
+use mathlib.Core.Bool.{Bool, true, false, _||_, not, cond}
 use mathlib.Core.List.{List, List·Memᴰ}
-use mathlib.Core.Logic.{_⊎_, inl, inr, ⊎-elim}
-use mathlib.Core.Path.{_≡_, refl, sym, ap, ap₂, subst, _∙_}
+use mathlib.Core.Logic.{_⊎_, ⊎-elim}
+use mathlib.Core.Path.{_≡_, refl, sym, ap, _∙_}
 use Prim.Native.Nat.{ℕ, zero, suc, _+_, _-_, _*_, _≤_, _<_}
 use native.Mathlib.Numerals.{add-one}
 use native.Mathlib.Omega.{arith}
-use borrow.Author.Tests.{eqb-true, eqb-false, eq-eqb, ne-eqb, lt-ltb, le-ltb, not-true}
+use borrow.Author.Tests.{eq-eqb, ne-eqb, lt-ltb, le-ltb}
 use lib.Dec.{eqb, ltb}
 use lib.ListN.{length, getD}
-use Rattle.rules.specs.Counting.{Set, some, someOf, everyOf}
-use Rattle.rules.specs.Game.{Player, Even, Odd, playerOf, Edge, same}
-use Rattle.rules.specs.Outcome.{Verdict, none, outcome, answered, givenAt}
-use Rattle.rules.specs.Tables.{Tables, vertices, words, gameOf, targetsOf}
+use Rattle.rules.specs.Counting.{Set, someOf, everyOf}
+use Rattle.rules.specs.Game.{Even, Odd, playerOf, same}
+use Rattle.rules.specs.Outcome.{outcome, answered}
+use Rattle.rules.specs.Tables.{Tables, words, gameOf, targetsOf}
 use Rattle.rules.specs.Words.{setOf, entry, noEntry}
 use Rattle.rules.specs.Checker.{check21, winnerOf, sameSide}
 use Rattle.theory.specs.Basics.{clash, not-true-is-false, below-suc, someOf-intro, false-someOf, everyOf-intro, everyOf-elim}

@@ -2,13 +2,10 @@
 use parity_game::Answer;
 use parity_game::VertexIndex;
 ghost use mathlib.Core.Path.{_≡_};
-ghost use mathlib.Core.Bool.{cond, not, _||_};
+ghost use mathlib.Core.Bool.{_||_};
 ghost use Prim.Native.Nat.{_*_, _<_};
-ghost use lib.Dec.{ltb};
 ghost use lib.ListN.{length};
 ghost use Rattle.rules.specs.Outcome.{outcome, answered, givenAt};
-ghost use Rattle.rules.specs.Tables.{words, gameOf};
-ghost use Rattle.rules.specs.Words.{setOf};
 ghost use Rattle.rules.specs.Checker.{check21};
 ghost use Rattle.parity_game.specs.Said.{said};
 ghost use Rattle.checker.specs.Sides.{strayAt, Sets, ownBy, Given, wrongEntry, sideOf, Sided, leavesSet};

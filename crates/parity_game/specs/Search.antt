@@ -3,7 +3,6 @@
 use mathlib.Core.Bool.{Bool, true, false}
 use mathlib.Core.Path.{_≡_}
 use Prim.Native.Nat.{ℕ, _<_}
-use Rattle.rules.specs.Counting.{lowest}
 use Rattle.rules.specs.Outcome.{Outcome, none, refused, givenAt, outcome}
 use Rattle.theory.specs.Basics.{some-intro, false-some, lowest-unique}
 use Rattle.parity_game.specs.Said.{refusal}

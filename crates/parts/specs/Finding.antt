@@ -1,28 +1,27 @@
 -- The search for one part, from its root to its end, and the parts one after another.
-use mathlib.Core.Bool.{Bool, true, false, _&&_, not}
-use mathlib.Core.List.{List, List·Memᴰ}
+use mathlib.Core.Bool.{true, false, _&&_, not}
+use mathlib.Core.List.{List}
 use mathlib.Core.Logic.{_⊎_, inl, inr, ⊎-elim}
 use mathlib.Core.Path.{_≡_, refl, sym, ap, subst, fun-ext, _∙_}
-use Prim.Native.Nat.{ℕ, zero, suc, _+_, _-_, _≤_, _<_}
+use Prim.Native.Nat.{ℕ, suc, _+_, _-_, _≤_, _<_}
 use native.Mathlib.Nat.{le-refl}
 use native.Mathlib.Omega.{arith}
-use borrow.Author.Tests.{eqb-true, eqb-false, eq-eqb, ne-eqb}
+use borrow.Author.Tests.{eqb-true, eqb-false}
 use lib.Dec.{eqb}
 use lib.ListN.{length, getD, set}
 use Rattle.rules.specs.Counting.{Set, count}
-use Rattle.rules.specs.Winning.{Reach, here, step}
+use Rattle.rules.specs.Winning.{step}
 use Rattle.theory.specs.Basics.{bool-cases, clash, bool-ext, and-intro, and-left, and-right, not-true-is-false, lt-or-ge}
-use Rattle.theory.specs.Basics.{count-le, count-pos}
-use Rattle.theory.specs.Walks.{Among}
+use Rattle.theory.specs.Basics.{count-pos}
 use Rattle.theory.specs.DepthFirst.{Marks}
-use Rattle.theory.specs.Kosaraju.{Outside, PartSought, part-starts, SecondPass, second-pass-starts, second-pass-skips, second-pass-assigns, second-pass-ends}
+use Rattle.theory.specs.Kosaraju.{PartSought, part-starts, SecondPass, second-pass-starts, second-pass-skips, second-pass-assigns, second-pass-ends}
 use Rattle.theory.specs.Solitaire.{at-most-intro}
-use Rattle.parts.specs.Area.{marks, order, queue, labels, hits, behind, Within, within-same, within-then, within-store}
-use Rattle.parts.specs.Area.{segment-length, segment-at, marked, true-marked, marked-true, false-marked, marked-false, marked-marks}
+use Rattle.parts.specs.Area.{order, queue, labels, hits, Within, within-same, within-then, within-store}
+use Rattle.parts.specs.Area.{segment-length, segment-at, true-marked, marked-true, false-marked, marked-marks}
 use Rattle.parts.specs.Graph.{Graph, size, edgeCount, priority, gameIn, low, Leads, SoundGraph}
 use Rattle.parts.specs.Leading.{link}
 use Rattle.parts.specs.Walking.{Room, finished, stored-first, stored-second, stored-else}
-use Rattle.parts.specs.Seeking.{assigned, labelWord, labelOf, queued, rowStart, source, Rows, rows-kept, Putable, putting}
+use Rattle.parts.specs.Seeking.{assigned, labelWord, labelOf, queued, rowStart, Rows, rows-kept, Putable, putting}
 use Rattle.parts.specs.Seeking.{Lookable, Looked, Findable, Found, Labelling, Labelled}
 
 -- the vertices with a label other than r's, once r alone has r's

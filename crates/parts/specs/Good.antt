@@ -3,28 +3,26 @@ use mathlib.Core.Bool.{Bool, true, false, _&&_, _||_, not, cond}
 use mathlib.Core.List.{List}
 use mathlib.Core.Logic.{_⊎_, inl, inr, ⊎-elim}
 use mathlib.Core.Path.{_≡_, refl, sym, ap, ap₂, subst, _∙_}
-use Prim.Native.Nat.{ℕ, zero, suc, _+_, _-_, _≤_, _<_}
+use Prim.Native.Nat.{ℕ, _+_, _-_, _≤_, _<_}
 use native.Mathlib.Decide.{ℕ-discrete}
 use native.Mathlib.Nat.{le-refl}
 use native.Mathlib.Numerals.{add-one}
 use native.Mathlib.Omega.{arith}
-use borrow.Author.Tests.{eqb-true, eqb-false, eq-eqb, ne-eqb, lt-ltb, le-ltb, ltb-true, le-leb, lt-leb, leb-true, leb-false, not-true}
+use borrow.Author.Tests.{eqb-true, eqb-false, eq-eqb, ne-eqb, lt-ltb, le-ltb, ltb-true, le-leb, lt-leb, leb-true, not-true}
 use lib.Dec.{eqb, ltb, leb}
-use lib.ListN.{length, getD, set, length-set}
+use lib.ListN.{length, getD, set}
 use lib.Seq.{getD-set-same, getD-set-other}
 use Rattle.rules.specs.Counting.{Set, some, someOf}
 use Rattle.rules.specs.Game.{Edge}
-use Rattle.rules.specs.Solitaire.{goodPart}
-use Rattle.theory.specs.Basics.{bool-cases, bool-ext, clash, and-intro, and-left, and-right, or-left, or-right, or-cases, not-true-is-false}
+use Rattle.theory.specs.Basics.{bool-cases, bool-ext, and-intro, and-left, and-right, or-right, not-true-is-false}
 use Rattle.theory.specs.Basics.{some-intro, some-elim, some-cong, below-suc}
 use Rattle.theory.specs.Chosen.{chosenPart}
-use Rattle.theory.specs.DepthFirst.{Marks, marks-cases, marks-keeps}
 use Rattle.theory.specs.Kosaraju.{Assigned, labels-good-part}
 use Rattle.theory.specs.Solitaire.{edge-test, test-edge, at-most-elim, at-most-intro}
-use Rattle.parts.specs.Area.{marks, order, queue, labels, hits, pairs, behind, Within, within-same, within-then, within-store}
-use Rattle.parts.specs.Area.{marked, true-marked, marked-true, false-marked, marked-false, marked-alike, marked-marks}
+use Rattle.parts.specs.Area.{labels, hits, pairs, behind, Within, within-same, within-then, within-store}
+use Rattle.parts.specs.Area.{marked, true-marked, marked-true, false-marked, marked-alike, marked-marks}
 use Rattle.parts.specs.Graph.{Graph, size, edgeCount, priority, offset, target, gameIn, low, linksIn, Leads, SoundGraph, keeping}
-use Rattle.parts.specs.Leading.{link, leads, edge-at, edge-place, edge-within}
+use Rattle.parts.specs.Leading.{link, leads, edge-at, edge-place}
 use Rattle.parts.specs.Noting.{noteTest, tellsOf}
 use Rattle.parts.specs.Seeking.{assigned, labelWord, labelOf}
 use Rattle.parts.specs.Walking.{Room}

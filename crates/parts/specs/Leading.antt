@@ -1,8 +1,8 @@
 -- What the tests of the code say of the links: v leads to w where there is an edge, both are let in, and v keeps the edge.
-use mathlib.Core.Bool.{Bool, true, false, _&&_, _||_, cond}
+use mathlib.Core.Bool.{true, false, _&&_, cond}
 use mathlib.Core.List.{List, [], _∷_}
-use mathlib.Core.Logic.{_⊎_, inl, inr, ⊎-elim}
-use mathlib.Core.Path.{_≡_, refl, sym, ap, _∙_}
+use mathlib.Core.Logic.{_⊎_, ⊎-elim}
+use mathlib.Core.Path.{_≡_, refl, sym, _∙_}
 use Prim.Native.Nat.{ℕ, zero, suc, _+_, _≤_, _<_}
 use native.Mathlib.Nat.{le-of-suc-le-suc, not-suc-le-zero}
 use native.Mathlib.Omega.{arith}
@@ -13,11 +13,11 @@ use Rattle.rules.specs.Counting.{someOf}
 use Rattle.rules.specs.Game.{Edge}
 use Rattle.rules.specs.Tables.{Tables, gameOf}
 use Rattle.rules.specs.Words.{entry, noEntry}
-use Rattle.theory.specs.Basics.{bool-cases, and-intro, and-left, and-right, or-left, or-right, or-cases, or-false-both}
+use Rattle.theory.specs.Basics.{bool-cases, and-intro, and-left, and-right, or-left, or-right, or-cases}
 use Rattle.theory.specs.Solitaire.{edge-test, test-edge, at-most-elim, at-most-intro}
 use Rattle.theory.specs.Tables as Tables
 use Rattle.predecessors.specs.Steps.{offset-within}
-use Rattle.parts.specs.Graph.{Graph, size, edgeCount, priority, offset, target, gameIn, low, linksIn, Leads, SoundGraph, keeping, freshAt}
+use Rattle.parts.specs.Graph.{Graph, size, edgeCount, priority, offset, target, gameIn, low, Leads, SoundGraph, keeping, freshAt}
 
 -- within the list the default plays no part
 pub getD-within : (xs : List ℕ) (i a b : ℕ) → i < length xs → getD xs i a ≡ getD xs i b

@@ -2,22 +2,20 @@
 -- and the test for a good part that goes by them.
 use mathlib.Core.Bool.{Bool, true, false, _&&_, _||_, not, cond}
 use mathlib.Core.List.{List}
-use mathlib.Core.Logic.{_⊎_, inl, inr, ⊎-elim}
-use mathlib.Core.Path.{_≡_, refl, sym, ap, ap₂, subst, _∙_}
-use Prim.Native.Nat.{ℕ, zero, suc, _+_, _-_, _≤_, _<_}
-use native.Mathlib.Nat.{le-refl}
+use mathlib.Core.Logic.{_⊎_, inl, ⊎-elim}
+use mathlib.Core.Path.{_≡_, refl, sym, ap, subst, _∙_}
+use Prim.Native.Nat.{ℕ, _+_, _-_, _≤_, _<_}
 use native.Mathlib.Numerals.{add-one}
 use native.Mathlib.Omega.{arith}
-use borrow.Author.Tests.{eqb-true, eqb-false, eq-eqb, ne-eqb, lt-ltb, le-leb, lt-leb}
-use lib.Dec.{eqb, ltb, leb}
-use lib.ListN.{length, getD, set, length-set}
+use borrow.Author.Tests.{eqb-true, eq-eqb, ne-eqb}
+use lib.Dec.{eqb}
+use lib.ListN.{length, getD, set}
 use lib.Seq.{getD-set-same, getD-set-other}
-use Rattle.rules.specs.Counting.{Set, some}
-use Rattle.theory.specs.Basics.{bool-cases, bool-ext, clash, and-intro, and-left, and-right, or-left, or-right, or-cases, not-true-is-false}
-use Rattle.theory.specs.Basics.{some-intro, some-elim, some-cong}
+use Rattle.rules.specs.Counting.{some}
+use Rattle.theory.specs.Basics.{bool-ext, clash, and-intro, and-left, and-right, or-left, or-right, or-cases, not-true-is-false}
 use Rattle.theory.specs.DepthFirst.{Marks, marks-cases, marks-keeps}
-use Rattle.parts.specs.Area.{marks, order, queue, labels, hits, pairs, behind, Within, within-same, within-then, within-store}
-use Rattle.parts.specs.Area.{marked, true-marked, marked-true, false-marked, marked-false, marked-marks}
+use Rattle.parts.specs.Area.{labels, hits, Within, within-same, within-then, within-store}
+use Rattle.parts.specs.Area.{marked, false-marked, marked-marks}
 
 -- u, whose label's word is l, tells that its part has two vertices, or that p is among its priorities
 unfoldable pub noteTest : List ℕ → ℕ → ℕ → ℕ → Bool → Bool

@@ -1,15 +1,15 @@
 -- The good parts of all priorities of one parity, and the predecessor table and the game that callers bring.
-use mathlib.Core.Bool.{Bool, true, false, _&&_, _||_}
+use mathlib.Core.Bool.{Bool, true, false, _||_}
 use mathlib.Core.List.{List, List·Memᴰ}
-use mathlib.Core.Logic.{_⊎_, inl, inr, ⊎-elim}
-use mathlib.Core.Path.{_≡_, refl, sym, ap, ap₂, subst, _∙_}
-use Prim.Native.Nat.{ℕ, zero, suc, _+_, _-_, _*_, _≤_, _<_}
+use mathlib.Core.Logic.{_⊎_}
+use mathlib.Core.Path.{_≡_, refl, sym, ap, subst, _∙_}
+use Prim.Native.Nat.{ℕ, _+_, _-_, _*_, _≤_, _<_}
 use native.Mathlib.Nat.{le-refl}
 use native.Mathlib.Numerals.{add-one}
 use native.Mathlib.Omega.{arith}
 use lib.ListN.{length, getD}
-use Rattle.rules.specs.Counting.{Set, some, times}
-use Rattle.rules.specs.Game.{Game, Edge, playerOf}
+use Rattle.rules.specs.Counting.{some, times}
+use Rattle.rules.specs.Game.{Edge, playerOf}
 use Rattle.rules.specs.Solitaire.{goodPart}
 use Rattle.rules.specs.Tables.{Tables, vertices, targetsOf, gameOf, Accepted}
 use Rattle.rules.specs.Words.{entry, noEntry}
@@ -18,7 +18,7 @@ use Rattle.theory.specs.Chosen.{chosenPart}
 use Rattle.parity_game.specs.Laws.{accepted-sound}
 use Rattle.predecessors.specs.Table.{start, row, Ready, Predecessors}
 use Rattle.predecessors.specs.Whole.{starts-grow, row-length, row-at, accepted-edges}
-use Rattle.parts.specs.Area.{marks, behind, marked, marked-alike, Within}
+use Rattle.parts.specs.Area.{marks, behind, marked}
 use Rattle.parts.specs.Graph.{Graph, graph, size, edgeCount, gameIn, SoundGraph}
 use Rattle.parts.specs.Seeking.{Rows}
 use Rattle.parts.specs.Whole.{Markable, Marked}

@@ -1,15 +1,14 @@
 -- The first pass as a whole: the search from one root, and the roots one after another.
 use mathlib.Core.Bool.{true, false}
-use mathlib.Core.List.{List, [], List·Memᴰ·not-nil}
-use mathlib.Core.Logic.{_⊎_, inl, inr, ⊎-elim}
+use mathlib.Core.List.{List, List·Memᴰ·not-nil}
+use mathlib.Core.Logic.{_⊎_, ⊎-elim}
 use mathlib.Core.Path.{_≡_, refl, sym, ap, subst, _∙_}
-use Prim.Native.Nat.{ℕ, zero, suc, _+_, _-_, _*_, _≤_, _<_}
+use Prim.Native.Nat.{ℕ, suc, _+_, _-_, _≤_, _<_}
 use native.Mathlib.Numerals.{add-one}
 use native.Mathlib.Omega.{arith}
 use lib.ListN.{length, getD}
-use Rattle.rules.specs.Counting.{Set}
 use Rattle.theory.specs.Basics.{bool-cases, clash, not-false-is-true, below-suc}
-use Rattle.theory.specs.DepthFirst.{Searched, searching, ReachesUp, dfs-starts}
+use Rattle.theory.specs.DepthFirst.{ReachesUp, dfs-starts}
 use Rattle.theory.specs.Solitaire.{at-most-elim}
 use Rattle.parts.specs.Area.{marks, queue, false-marked, marked-false, marked-true}
 use Rattle.parts.specs.Graph.{Graph, size, edgeCount, priority, low, Leads, SoundGraph, freshAt, gameIn}

@@ -1,28 +1,24 @@
 -- The second pass over the work area: the search for one part against the links, and what it leaves.
-use mathlib.Core.Bool.{Bool, true, false, _&&_, not}
+use mathlib.Core.Bool.{true, false, _&&_}
 use mathlib.Core.List.{List}
-use mathlib.Core.Logic.{_⊎_, inl, inr, ⊎-elim}
+use mathlib.Core.Logic.{_⊎_, inl, ⊎-elim}
 use mathlib.Core.Path.{_≡_, refl, sym, ap, subst, _∙_}
-use Prim.Native.Nat.{ℕ, zero, suc, _+_, _-_, _≤_, _<_}
+use Prim.Native.Nat.{ℕ, _+_, _-_, _≤_, _<_}
 use native.Mathlib.Nat.{le-refl}
 use native.Mathlib.Numerals.{add-one}
 use native.Mathlib.Omega.{arith}
-use borrow.Author.Tests.{eqb-true, eqb-false, eq-eqb, ne-eqb}
-use lib.Dec.{eqb}
-use lib.ListN.{length, getD, set, length-set}
+use lib.ListN.{length, getD, set}
 use Rattle.rules.specs.Counting.{Set, count}
 use Rattle.rules.specs.Game.{Edge}
-use Rattle.rules.specs.Winning.{Reach, here, step}
-use Rattle.theory.specs.Basics.{bool-cases, clash, and-intro, and-left, and-right, not-false-is-true, not-true-is-false, below-suc, lt-or-ge}
-use Rattle.theory.specs.Basics.{count-strict, count-le, count-pos}
-use Rattle.theory.specs.Walks.{Among}
+use Rattle.theory.specs.Basics.{clash, and-intro, and-left, and-right, not-false-is-true, not-true-is-false, below-suc}
+use Rattle.theory.specs.Basics.{count-strict, count-le}
 use Rattle.theory.specs.DepthFirst.{FinishingOrder, Marks, marks-cases, marks-keeps, marks-count}
-use Rattle.theory.specs.Kosaraju.{Assigned, Outside, PartSought, SecondPass}
-use Rattle.parts.specs.Area.{marks, order, queue, labels, hits, behind, Within, within-same, within-then, within-store}
-use Rattle.parts.specs.Area.{marked, true-marked, marked-true, false-marked, marked-false, marked-marks}
+use Rattle.theory.specs.Kosaraju.{Assigned, PartSought}
+use Rattle.parts.specs.Area.{marks, order, queue, labels, hits, Within, within-same, within-then, within-store}
+use Rattle.parts.specs.Area.{marked, marked-true, false-marked, marked-false, marked-marks}
 use Rattle.parts.specs.Graph.{Graph, size, edgeCount, priority, gameIn, low, Leads, SoundGraph, keeping, freshAt}
-use Rattle.parts.specs.Leading.{fresh-true, true-fresh, Link, link, leads}
-use Rattle.parts.specs.Walking.{Room, finished, stored-first, stored-second, stored-else, stored-long}
+use Rattle.parts.specs.Leading.{fresh-true, true-fresh, link, leads}
+use Rattle.parts.specs.Walking.{Room, finished, stored-first, stored-second, stored-else}
 
 -- the vertices that have a label, the word of the label, which is the label plus 1, and the queue
 abbrev pub assigned : Graph → List ℕ → Set

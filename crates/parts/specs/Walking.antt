@@ -1,29 +1,27 @@
 -- The first pass over the work area: what it keeps, and what each store makes of it.
 use mathlib.Core.Bool.{Bool, true, false, _&&_}
-use mathlib.Core.List.{List, [], _∷_, _++_, List·Memᴰ, List·Memᴰ·head, Memᴰ·append-right}
+use mathlib.Core.List.{List, [], _∷_, _++_, List·Memᴰ·head, Memᴰ·append-right}
 use mathlib.Core.List.{List·Memᴰ·append-cases, List·Memᴰ·eq-of-singleton}
-use mathlib.Core.Logic.{_⊎_, inl, inr, ⊎-elim}
+use mathlib.Core.Logic.{_⊎_, ⊎-elim}
 use mathlib.Core.Path.{_≡_, refl, sym, ap, ap₂, subst, fun-ext, _∙_}
-use Prim.Native.Nat.{ℕ, zero, suc, _+_, _-_, _*_, _≤_, _<_}
+use Prim.Native.Nat.{ℕ, suc, _+_, _-_, _*_, _≤_, _<_}
 use native.Mathlib.Decide.{ℕ-discrete}
 use native.Mathlib.Numerals.{add-one}
 use native.Mathlib.Omega.{arith}
-use borrow.Author.Tests.{eqb-true}
-use lib.Dec.{eqb}
 use lib.ListN.{length, getD, set, length-set}
 use lib.Seq.{getD-set-same, getD-set-other}
 use native.Mathlib.Nat.{le-refl}
 use Rattle.rules.specs.Counting.{Set}
-use Rattle.rules.specs.Winning.{Reach, here, step}
-use Rattle.theory.specs.Basics.{bool-cases, bool-ext, clash, not-false-is-true, and-intro, and-left, and-right, lt-or-ge, below-suc}
+use Rattle.rules.specs.Winning.{here, step}
+use Rattle.theory.specs.Basics.{bool-ext, clash, not-false-is-true, and-intro, and-left, and-right, lt-or-ge, below-suc}
 use Rattle.theory.specs.Walks.{Relation, reach-step}
-use Rattle.theory.specs.DepthFirst.{Search, Searched, searching, ReachesUp, Marks, marks-keeps, each-last, dfs-starts, dfs-pushes, dfs-pops, dfs-room}
+use Rattle.theory.specs.DepthFirst.{Searched, searching, ReachesUp, Marks, marks-keeps, each-last, dfs-pushes, dfs-pops, dfs-room}
 use Rattle.theory.specs.DepthFirst.{marks-cases}
 use Rattle.parts.specs.Area.{marks, order, queue, labels, behind, Within, within-same, within-then, within-store}
-use Rattle.parts.specs.Area.{segment, segment-length, segment-at, segment-alike, segment-more, marked}
+use Rattle.parts.specs.Area.{segment, segment-length, segment-alike, segment-more, marked}
 use Rattle.parts.specs.Area.{true-marked, marked-true, false-marked, marked-false, marked-alike, marked-marks}
-use Rattle.parts.specs.Graph.{Graph, size, edgeCount, priority, offset, target, gameIn, low, Leads, SoundGraph, keeping, freshAt}
-use Rattle.parts.specs.Leading.{fresh-true, true-fresh, Link, link, leads, edge-at, edge-place, edge-within}
+use Rattle.parts.specs.Graph.{Graph, size, edgeCount, priority, offset, target, low, Leads, SoundGraph, keeping, freshAt}
+use Rattle.parts.specs.Leading.{fresh-true, true-fresh, link, leads, edge-at, edge-place, edge-within}
 
 -- the vertices visited, the stack, and the vertices finished
 abbrev pub visited : Graph → List ℕ → Set

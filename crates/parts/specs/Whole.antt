@@ -2,13 +2,13 @@
 use mathlib.Core.Bool.{Bool, true, false, _&&_, _||_}
 use mathlib.Core.List.{List, List·Memᴰ}
 use mathlib.Core.Logic.{_⊎_, inl, inr, ⊎-elim}
-use mathlib.Core.Path.{_≡_, refl, sym, ap, ap₂, subst, _∙_}
-use Prim.Native.Nat.{ℕ, zero, suc, _+_, _-_, _≤_, _<_}
+use mathlib.Core.Path.{_≡_, sym, ap, ap₂, subst, _∙_}
+use Prim.Native.Nat.{ℕ, _+_, _-_, _≤_, _<_}
 use native.Mathlib.Decide.{ℕ-discrete}
 use native.Mathlib.Nat.{le-refl}
 use native.Mathlib.Omega.{arith}
 use borrow.Author.Tests.{lt-ltb}
-use lib.Dec.{eqb, ltb}
+use lib.Dec.{eqb}
 use lib.ListN.{length, getD}
 use Rattle.rules.specs.Counting.{Set, some}
 use Rattle.theory.specs.Basics.{some-cong, place-member}
@@ -19,10 +19,10 @@ use Rattle.theory.specs.Links.{Together}
 use Rattle.theory.specs.Solitaire.{at-most-elim, at-most-intro}
 use Rattle.parts.specs.Area.{marks, order, queue, labels, hits, pairs, behind, Within, within-then, within-wider, Cleared}
 use Rattle.parts.specs.Area.{segment-length, segment-at, marked, true-marked, marked-true, marked-alike}
-use Rattle.parts.specs.Graph.{Graph, size, edgeCount, priority, gameIn, low, Leads, SoundGraph}
-use Rattle.parts.specs.Walking.{visited, finished, markOf, Room, Passes, Finished}
+use Rattle.parts.specs.Graph.{Graph, size, edgeCount, gameIn, low, Leads, SoundGraph}
+use Rattle.parts.specs.Walking.{visited, finished, Room, Passes, Finished}
 use Rattle.parts.specs.Seeking.{assigned, labelWord, labelOf, Rows, rows-kept, Labelling, Labelled}
-use Rattle.parts.specs.Noting.{noteTest, wordAt, tellsOf, Noteable, Noted}
+use Rattle.parts.specs.Noting.{noteTest, tellsOf, Noteable, Noted}
 use Rattle.parts.specs.Good.{goodAt, Collectable, Collected, good-chosen}
 
 pub record Markable (G : Graph) (work : List ℕ) (base : ℕ) : Type 0 where

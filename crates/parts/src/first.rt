@@ -2,8 +2,7 @@
 // they finish.
 use crate::links;
 ghost use mathlib.Core.Path.{_≡_};
-ghost use Prim.Native.Nat.{_+_, _*_, _<_};
-ghost use lib.ListN.{length, getD, set};
+ghost use Prim.Native.Nat.{_+_, _<_};
 ghost use Rattle.parts.specs.Graph.{graph};
 ghost use Rattle.parts.specs.Walking.{Scannable, Scanned, Pushable, pushed, Advances, Advanced, Startable, Searches, Passes, Finished};
 

@@ -1,5 +1,4 @@
 // All priorities of one parity, one after another.
-ghost use lib.ListN.{length};
 ghost use Rattle.parts.specs.Parity.{Sweepable, Swept};
 
 // Marks in one row of n words the vertices of good parts for some priority below 256 of that parity.

@@ -3,7 +3,7 @@
 use crate::links;
 ghost use mathlib.Core.Path.{_≡_};
 ghost use Prim.Native.Nat.{_+_, _<_};
-ghost use lib.ListN.{length, getD, set};
+ghost use lib.ListN.{getD};
 ghost use Rattle.parts.specs.Graph.{graph};
 ghost use Rattle.parts.specs.Seeking.{Putable, putting, Lookable, Looked, Findable, Found, Labelling, Labelled};
 

@@ -1,6 +1,6 @@
 -- Compaction: the lowest priority used becomes 0 or 1 by its parity; each next different one becomes the last new number plus 1
 -- if parity differs, plus 2 if not.
-use mathlib.Core.Bool.{Bool, true, false, cond}
+use mathlib.Core.Bool.{cond}
 use mathlib.Core.List.{List}
 use Prim.Native.Nat.{ℕ, zero, suc, _+_, _%_}
 use lib.Dec.{eqb}

@@ -1,7 +1,6 @@
 -- The game that a set of tables stands for: vertices with an owner and a priority, and edges, parallel ones and self loops
 -- among them. The highest priority decides; even is Even's.
 use mathlib.Core.Bool.{Bool, true, false}
-use mathlib.Core.Path.{_≡_}
 use mathlib.Core.List.{List, List·Memᴰ}
 use Prim.Native.Nat.{ℕ, zero, suc, _%_, _<_}
 use lib.Dec.{ltb}

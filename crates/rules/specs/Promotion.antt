@@ -1,5 +1,5 @@
 -- Priority promotion: the round on regions, and how many rounds are needed.
-use mathlib.Core.Bool.{Bool, true, false, _&&_, _||_, not, cond}
+use mathlib.Core.Bool.{Bool, true, false, _&&_, not, cond}
 use Prim.Native.Nat.{ℕ, zero, suc}
 use lib.Dec.{eqb, ltb, leb}
 use Rattle.rules.specs.Counting.{Set, nobody, union, some, someOf, lowest, greatest, within, noted}

@@ -1,9 +1,9 @@
 -- What the general solvers give back and leave in what they were lent: "Numbers given back" for Zielonka and priority promotion,
 -- which differ only in what they count.
-use mathlib.Core.Bool.{Bool, true, false, cond}
+use mathlib.Core.Bool.{Bool, true, false}
 use mathlib.Core.List.{List, [], _∷_, _++_}
 use mathlib.Core.Path.{_≡_}
-use Prim.Native.Nat.{ℕ, _<_}
+use Prim.Native.Nat.{ℕ}
 use lib.Dec.{ltb}
 use lib.ListN.{length, drop, replicate}
 use Rattle.rules.specs.Counting.{Set}

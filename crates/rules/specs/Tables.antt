@@ -1,5 +1,5 @@
 -- "The tables of a game": four tables as lent, their sizes, the game they stand for, and the refusals 1 to 10 in order.
-use mathlib.Core.Bool.{Bool, not, _||_}
+use mathlib.Core.Bool.{not, _||_}
 use mathlib.Core.List.{List}
 use mathlib.Core.Path.{_≡_}
 use Prim.Native.Nat.{ℕ, _+_, _-_, _*_, _/_}

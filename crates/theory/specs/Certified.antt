@@ -3,7 +3,7 @@ use mathlib.Core.Bool.{true}
 use mathlib.Core.Logic.{_⊎_, inl, inr, ⊎-elim}
 use mathlib.Core.Path.{_≡_}
 use Prim.Native.Nat.{ℕ, _<_}
-use Rattle.rules.specs.Game.{Even, Odd, Game}
+use Rattle.rules.specs.Game.{Even, Odd}
 use Rattle.rules.specs.Outcome.{none}
 use Rattle.rules.specs.Tables.{Tables, gameOf, Accepted}
 use Rattle.rules.specs.Checker.{certificateChecks}

@@ -1,13 +1,12 @@
 -- Dominions: sets that a player holds by one fixed edge for each own vertex. Every solver ends in two of them that cover the game,
 -- and that is enough for exact winning sets and for a winning choice of entries.
-use mathlib.Core.Bool.{Bool, true, false, _||_, not, cond}
+use mathlib.Core.Bool.{Bool, true, false, _||_, cond}
 use mathlib.Core.List.{List}
 use mathlib.Core.Logic.{_⊎_, inl, inr, ⊎-elim}
 use mathlib.Core.Path.{_≡_, refl, sym, ap, ap₂, _∙_}
 use Prim.Native.Nat.{ℕ, _≤_, _<_}
 use native.Mathlib.Omega.{arith}
 use borrow.Author.Tests.{lt-ltb, ltb-true}
-use lib.Dec.{ltb}
 use lib.ListN.{getD}
 use Rattle.rules.specs.Counting.{Set, without, union}
 use Rattle.rules.specs.Game.{Player, Even, Odd, opponent, Game, everywhere, Edge, Total, parity}

@@ -7,7 +7,7 @@ use Prim.Native.Nat.{ℕ, _+_}
 use lib.Dec.{lit≤}
 use Rattle.rules.specs.Counting.{some, every, count, someOf, everyOf, times, lowest, listed, within, noted, greatest}
 use Rattle.rules.specs.Game.{Player, Even, Odd, Game, everywhere, edges, parity}
-use Rattle.rules.specs.Outcome.{Verdict, none, refused, givenAt}
+use Rattle.rules.specs.Outcome.{Verdict, refused, givenAt}
 use Rattle.rules.specs.Tables.{Tables, gameOf, degree, targetsOf, words, Accepted, tableChecks}
 use Rattle.rules.specs.Tables.{check1, check2, check3, check4, check5, check6, check7, check8}
 use Rattle.rules.specs.Winning.{WinningEntries}

@@ -2,16 +2,16 @@
 use mathlib.Core.Bool.{Bool, true, false, not}
 use mathlib.Core.List.{List}
 use mathlib.Core.Path.{_≡_, refl, sym, ap, ap₂, subst, _∙_}
-use Prim.Native.Nat.{ℕ, suc, _+_, _-_, _*_, _≤_, _<_}
+use Prim.Native.Nat.{ℕ, _+_, _-_, _*_, _≤_, _<_}
 use native.Mathlib.Nat.{mul-le-mul-left, mul-add, mul-one}
 use native.Mathlib.Omega.{arith}
 use borrow.Author.Tests.{not-true, not-false}
 use lib.ListN.{length, getD, take, drop}
-use Rattle.rules.specs.Counting.{Set, some, count, greatest}
-use Rattle.rules.specs.Game.{Player, Even, Odd, opponent, parity, Game}
-use Rattle.rules.specs.Tables.{Tables, gameOf, vertices, edgesIn, words, Accepted}
+use Rattle.rules.specs.Counting.{some, count, greatest}
+use Rattle.rules.specs.Game.{Player, opponent, parity}
+use Rattle.rules.specs.Tables.{Tables, gameOf, vertices, edgesIn, words}
 use Rattle.rules.specs.Words.{setOf}
-use Rattle.rules.specs.Zielonka.{withPriority, highestIn}
+use Rattle.rules.specs.Zielonka.{withPriority}
 use Rattle.sets.specs.After.{Cleared}
 use Rattle.sets.specs.Laws.{no-member}
 use Rattle.theory.specs.Basics.{clash, not-true-is-false, some-elim, some-false, count-pos}
@@ -19,13 +19,13 @@ use Rattle.theory.specs.Run.{Top, highest-top, cut-inside}
 use Rattle.theory.specs.RunSound.{run-sound}
 use Rattle.theory.specs.Tables.{accepted-sound}
 use Rattle.attractor.specs.Area.{free, setAt, wordsAt}
-use Rattle.attractor.specs.Views.{part-length, words-enough}
+use Rattle.attractor.specs.Views.{part-length}
 use Rattle.attractor.specs.SetsAt.{set-cleared, set-inside}
 use Rattle.attractor.specs.Walking.{lent-part}
 use Rattle.zielonka.specs.Parts.{highestOf}
-use Rattle.zielonka.specs.Level.{nextLevel, wonPlace, onLevel, drawnAt, wonAt, entriesOf, Called, Stays, Done, Over}
+use Rattle.zielonka.specs.Level.{nextLevel, wonPlace, onLevel, wonAt, Called, Stays, Done, Over}
 use Rattle.zielonka.specs.Steps.{CutBy, AllAt, JoinedAt, stays-on, stays-next, level-stays, cut-over, nested-called, first-less, cut-less}
-use Rattle.zielonka.specs.Steps.{done-empty, done-all, done-some, over-first, over-nested, over-second}
+use Rattle.zielonka.specs.Steps.{done-empty, done-all, done-some, over-nested, over-second}
 use Rattle.zielonka.specs.Pieces.{Ready, Losable}
 use Rattle.zielonka.specs.PiecesHold.{apart-cleared, apart-stays, apart-entries, ready-stays, won-range}
 

@@ -1,6 +1,6 @@
 -- The walk that collects the vertices of priority p: those that it has passed are in the set, and those still to come are left.
 use mathlib.Core.Bool.{Bool, true, false, _&&_, cond}
-use mathlib.Core.List.{List, [], _∷_, _++_}
+use mathlib.Core.List.{List, [], _∷_}
 use mathlib.Core.Logic.{_⊎_, inl, inr, ⊎-elim}
 use mathlib.Core.Path.{_≡_, refl, sym, ap, _∙_}
 use Prim.Native.Nat.{ℕ, _+_, _-_, _*_, _≤_, _<_}
@@ -12,7 +12,7 @@ use lib.ListN.{length, getD, take, drop, length-take}
 use Rattle.rules.specs.Counting.{times}
 use Rattle.rules.specs.Tables.{words}
 use Rattle.rules.specs.Words.{bit, setOf}
-use Rattle.sets.specs.After.{Put, Parts}
+use Rattle.sets.specs.After.{Put}
 use Rattle.sets.specs.Laws.{bit-other, other-bit, member-bit, times-members}
 use Rattle.sets.specs.Walk.{members, left}
 use Rattle.sets.specs.declared.members.Members.{Members}

@@ -1,17 +1,17 @@
 -- The walk that gives the vertices of priority p an edge inside V, where p's player owns them: those that it has passed have one.
-use mathlib.Core.Bool.{Bool, true, false, _&&_}
-use mathlib.Core.List.{List, [], _∷_, List·Memᴰ}
-use mathlib.Core.Logic.{_⊎_, inl, inr, ⊎-elim}
+use mathlib.Core.Bool.{true}
+use mathlib.Core.List.{List, [], _∷_}
+use mathlib.Core.Logic.{_⊎_, inr, ⊎-elim}
 use mathlib.Core.Path.{_≡_, refl, sym, ap, _∙_}
-use Prim.Native.Nat.{ℕ, zero, suc, _+_, _-_, _*_, _%_, _≤_, _<_}
+use Prim.Native.Nat.{ℕ, zero, suc, _+_, _-_, _%_, _≤_, _<_}
 use native.Mathlib.Decide.{ℕ-discrete}
 use native.Mathlib.Omega.{arith}
 use borrow.Author.Tests.{eq-eqb, eqb-true}
 use lib.Dec.{eqb}
 use lib.ListN.{length, getD, take, drop, set, length-set, length-take}
 use lib.Seq.{getD-set-same, getD-set-other}
-use Rattle.rules.specs.Counting.{times, someOf}
-use Rattle.rules.specs.Game.{Player, Even, Odd, Edge, parity, playerOf}
+use Rattle.rules.specs.Counting.{times}
+use Rattle.rules.specs.Game.{Edge, parity, playerOf}
 use Rattle.rules.specs.Tables.{Tables, gameOf, vertices, edgesIn, words, Accepted, targetsOf}
 use Rattle.rules.specs.Words.{setOf}
 use Rattle.rules.specs.Zielonka.{withPriority}
@@ -19,9 +19,9 @@ use Rattle.sets.specs.Laws.{member-bit, times-members}
 use Rattle.sets.specs.Walk.{members, left}
 use Rattle.sets.specs.declared.members.Members.{Members}
 use Rattle.theory.specs.AttractorComplement.{TotalIn}
-use Rattle.theory.specs.Basics.{clash, and-left, and-right, and-intro, someOf-intro}
+use Rattle.theory.specs.Basics.{and-left, and-right, and-intro, someOf-intro}
 use Rattle.theory.specs.Tables.{Sound, accepted-sound, offset-top}
-use Rattle.attractor.specs.Area.{entries, free, wordsAt, setAt, entryAt}
+use Rattle.attractor.specs.Area.{entries, free, wordsAt}
 use Rattle.attractor.specs.Views.{words-alike, words-enough, part-length, words-few}
 use Rattle.zielonka.specs.Level.{onLevel, entriesOf}
 use Rattle.zielonka.specs.Parts.{Inside, Ends}

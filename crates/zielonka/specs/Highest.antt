@@ -1,13 +1,13 @@
 -- The greatest priority of the members below a bound, one vertex after another; and the edges of a vertex, one after another.
 use mathlib.Core.Bool.{Bool, true, false, cond}
-use mathlib.Core.List.{List, List·Memᴰ}
+use mathlib.Core.List.{List}
 use mathlib.Core.Path.{_≡_, refl, sym, ap, _∙_}
-use Prim.Native.Nat.{ℕ, suc, _+_, _*_, _≤_, _<_, max}
+use Prim.Native.Nat.{ℕ, _+_, _≤_, _<_, max}
 use native.Mathlib.Decide.{ℕ-discrete}
 use native.Mathlib.Numerals.{add-one}
 use native.Mathlib.Omega.{arith}
-use lib.ListN.{length, getD}
-use Rattle.rules.specs.Counting.{Set, greatest, someOf}
+use lib.ListN.{getD}
+use Rattle.rules.specs.Counting.{Set, greatest}
 use Rattle.rules.specs.Tables.{Tables, gameOf, targetsOf, tablesOf}
 use Rattle.rules.specs.Words.{setOf}
 use Rattle.theory.specs.Basics.{clash, someOf-elim}

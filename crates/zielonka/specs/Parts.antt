@@ -1,6 +1,6 @@
 -- What the functions below a call ask for and leave behind: the highest priority, the vertices that have it, and an edge inside V for
 -- each of them that its player owns.
-use mathlib.Core.Bool.{Bool, true, false, _&&_}
+use mathlib.Core.Bool.{true, false, _&&_}
 use mathlib.Core.List.{List, List·Memᴰ}
 use mathlib.Core.Logic.{_⊎_}
 use mathlib.Core.Path.{_≡_}
@@ -8,11 +8,10 @@ use Prim.Native.Nat.{ℕ, _+_, _*_, _≤_, _<_}
 use lib.Dec.{eqb}
 use lib.ListN.{length, getD}
 use Rattle.rules.specs.Counting.{Set, greatest, someOf}
-use Rattle.rules.specs.Tables.{Tables, words, targetsOf, vertices, edgesIn, gameOf}
+use Rattle.rules.specs.Tables.{words, targetsOf}
 use Rattle.rules.specs.Words.{setOf}
 use Rattle.sets.specs.After.{Parts}
-use Rattle.attractor.specs.Area.{free, setAt}
-use Rattle.predecessors.specs.Table.{SoundEdges}
+use Rattle.attractor.specs.Area.{setAt}
 
 -- the highest priority of a set
 abbrev pub highestOf : List ℕ → Set → ℕ

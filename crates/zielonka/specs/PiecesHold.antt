@@ -1,26 +1,26 @@
 -- The pieces of a call leave what they promise.
 use mathlib.Core.Bool.{Bool, true, false, _&&_, _||_, not}
 use mathlib.Core.List.{List}
-use mathlib.Core.Logic.{_⊎_, inl, inr, ⊎-elim}
+use mathlib.Core.Logic.{_⊎_, inl, inr}
 use mathlib.Core.Path.{_≡_, refl, sym, ap, ap₂, subst, fun-ext, _∙_}
 use Prim.Native.Nat.{ℕ, zero, suc, _+_, _-_, _*_, _%_, _≤_, _<_, max}
 use native.Mathlib.Omega.{arith}
 use lib.Dec.{eqb}
 use lib.ListN.{length, getD, take, drop}
 use Rattle.rules.specs.Counting.{Set, without, some}
-use Rattle.rules.specs.Game.{Player, Even, Odd, opponent, parity, playerOf, Edge}
+use Rattle.rules.specs.Game.{Player, Even, Odd, opponent, parity, playerOf}
 use Rattle.rules.specs.Tables.{Tables, gameOf, vertices, edgesIn, words, Accepted, tablesOf}
 use Rattle.rules.specs.Attractor.{attractor}
 use Rattle.rules.specs.Words.{setOf}
 use Rattle.rules.specs.Zielonka.{withPriority}
-use Rattle.sets.specs.After.{Combined, Cleared, Parts, other}
+use Rattle.sets.specs.After.{Combined, Cleared, other}
 use Rattle.sets.specs.Laws.{bit-other}
 use Rattle.theory.specs.Attractor.{attractor-below}
 use Rattle.theory.specs.AttractorComplement.{TotalIn}
-use Rattle.theory.specs.Basics.{clash, lt-or-ge, and-left, not-true-is-false}
-use Rattle.theory.specs.Tables.{Sound, accepted-sound}
+use Rattle.theory.specs.Basics.{lt-or-ge, and-left, not-true-is-false}
+use Rattle.theory.specs.Tables.{accepted-sound}
 use Rattle.attractor.specs.Area.{entries, free, wordsAt, setAt}
-use Rattle.attractor.specs.Attracted.{Placed, Nested, Attractable, Attracted}
+use Rattle.attractor.specs.Attracted.{Attractable, Attracted}
 use Rattle.attractor.specs.Running.{listed-kept}
 use Rattle.attractor.specs.Views.{part-is, part-length}
 use Rattle.predecessors.specs.Table.{SoundEdges}

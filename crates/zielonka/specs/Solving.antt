@@ -1,24 +1,20 @@
 -- From the recursion on all vertices to what the public solver leaves: the sets, the strategy, the calls and the work area.
 use mathlib.Core.Bool.{Bool, true, false, _&&_, cond}
-use mathlib.Core.List.{List, [], _∷_, _++_}
+use mathlib.Core.List.{List, [], _∷_}
 use mathlib.Core.Path.{_≡_, refl, sym, ap, ap₂, subst, fun-ext, _∙_}
 use Prim.Native.Nat.{ℕ, zero, suc, _+_, _-_, _*_, _≤_, _<_}
 use native.Mathlib.Nat.{mul-le-mul-left, mul-le-mul-right, mul-assoc, mul-comm, not-suc-le-zero, le-of-suc-le-suc}
 use native.Mathlib.Omega.{arith}
-use borrow.Author.Tests.{lt-ltb, le-ltb, ltb-true}
-use lib.Dec.{eqb, eqb·suc-zero, ltb}
-use lib.ListN.{length, getD, take, drop, replicate, length-replicate, getD-replicate, length-take, length-drop}
+use lib.Dec.{eqb, eqb·suc-zero}
+use lib.ListN.{length, getD, take, drop, replicate, length-replicate, getD-replicate}
 use lib.Seq.{ext-getD, getD-take, getD-drop}
 use Rattle.rules.specs.Counting.{Set, count}
-use Rattle.rules.specs.Game.{Player, Even, Odd, Game, Edge, everywhere, playerOf}
-use Rattle.rules.specs.Outcome.{Outcome, Verdict, none, refused, outcome, answered, budgeted, _then_}
-use Rattle.rules.specs.Solver.{Lent, solverChecks, Entries, Leaves, Solves, cleared}
-use Rattle.rules.specs.Tables.{Tables, gameOf, vertices, edgesIn, words, workWords, tableChecks, Accepted, check9, check10}
+use Rattle.rules.specs.Game.{Player, Even, Odd, everywhere, playerOf}
+use Rattle.rules.specs.Solver.{Entries}
+use Rattle.rules.specs.Tables.{Tables, gameOf, vertices, edgesIn, words, workWords, Accepted}
 use Rattle.rules.specs.Winning.{WinningEntries}
-use Rattle.rules.specs.Words.{setOf, bit, Holds, noEntry, entry}
+use Rattle.rules.specs.Words.{setOf, Holds, noEntry, entry}
 use Rattle.rules.specs.Zielonka.{zielonka}
-use Rattle.parity_game.specs.Laws.{then-none, check9-set-none, check9-table-none, check10-none, numbered-then, numbered-tables, numbered-check9, numbered-check10, Numbered}
-use Rattle.sets.specs.After.{Cleared}
 use Rattle.sets.specs.Laws.{other-bit}
 use Rattle.theory.specs.AttractorComplement.{TotalIn}
 use Rattle.theory.specs.Basics.{count-le, not-true-is-false, other-player}
@@ -27,14 +23,13 @@ use Rattle.theory.specs.RunSame.{Same, Needs}
 use Rattle.theory.specs.RunSound.{run-sound}
 use Rattle.theory.specs.Tables.{accepted-sound, accepted-total}
 use Rattle.theory.specs.Zielonka.{everywhere-below, everywhere-total, run-is-zielonka, needs-zielonka, run-entries}
-use Rattle.attractor.specs.Area.{entries, free, setAt, wordsAt}
-use Rattle.attractor.specs.Attracted.{Listed}
+use Rattle.attractor.specs.Area.{entries, free, wordsAt}
 use Rattle.attractor.specs.Views.{part-is, part-length, words-enough}
 use Rattle.zielonka.specs.Level.{wonPlace, onLevel, wonAt, entriesOf, Called, Done, Over}
 use Rattle.zielonka.specs.Calling.{level-fits}
 use Rattle.zielonka.specs.PiecesHold.{sound-edges}
 use Rattle.solver.specs.Preparing.{Preparable, Prepared}
-use Rattle.solver.specs.Entries.{ownerWins, chosen, Entered, Enterable, Written}
+use Rattle.solver.specs.Entries.{ownerWins, Enterable, Written}
 use Rattle.solver.specs.Running.{Finished}
 
 -- within a list the default does not matter

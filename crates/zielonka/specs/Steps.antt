@@ -2,28 +2,27 @@
 -- what the call promises.
 use mathlib.Core.Bool.{Bool, true, false, _&&_, _||_}
 use mathlib.Core.List.{List}
-use mathlib.Core.Logic.{⊎-elim}
-use mathlib.Core.Path.{_≡_, refl, sym, ap, ap₂, subst₂, fun-ext, _∙_}
-use Prim.Native.Nat.{ℕ, zero, suc, _+_, _-_, _*_, _≤_, _<_}
+use mathlib.Core.Path.{_≡_, refl, sym, ap, subst₂, fun-ext, _∙_}
+use Prim.Native.Nat.{ℕ, suc, _+_, _-_, _*_, _≤_, _<_}
 use native.Mathlib.Nat.{mul-le-mul-left, mul-add, mul-one}
 use native.Mathlib.Numerals.{add-one}
 use native.Mathlib.Omega.{arith}
 use lib.Dec.{eqb}
-use lib.ListN.{length, getD}
-use Rattle.rules.specs.Counting.{Set, count, union, without}
-use Rattle.rules.specs.Game.{Player, Even, Odd, opponent, Game, Edge, parity}
+use lib.ListN.{length}
+use Rattle.rules.specs.Counting.{Set, count, union}
+use Rattle.rules.specs.Game.{Player, opponent, Game, Edge, parity}
 use Rattle.rules.specs.Tables.{Tables, gameOf, vertices, edgesIn, words}
 use Rattle.rules.specs.Attractor.{attractor}
 use Rattle.rules.specs.Zielonka.{withPriority}
-use Rattle.attractor.specs.Area.{free, setAt, entryAt}
+use Rattle.attractor.specs.Area.{free}
 use Rattle.attractor.specs.Running.{listed-kept}
-use Rattle.theory.specs.Basics.{clash, not-true-is-false, and-left, opponent-twice, without-left, without-right}
-use Rattle.theory.specs.Run.{Top, Cut, AllWon, AllEntries, SomeLost, SomeEntries, Run, empty, all-won, some-lost}
-use Rattle.theory.specs.Run.{run-over, cut-inside, cut-total, cut-fewer, first-fewer}
+use Rattle.theory.specs.Basics.{clash, not-true-is-false, and-left, without-right}
+use Rattle.theory.specs.Run.{Top, Cut, empty, all-won, some-lost}
+use Rattle.theory.specs.Run.{cut-inside, cut-total, cut-fewer, first-fewer}
 use Rattle.theory.specs.RunSame.{Needs, needs-one, needs-first, needs-both}
 use Rattle.theory.specs.RunSound.{run-sound}
 use Rattle.attractor.specs.SetsAt.{set-kept}
-use Rattle.zielonka.specs.Level.{nextLevel, wonPlace, onLevel, drawnAt, wonAt, entriesOf, Called, Stays, Done, Over}
+use Rattle.zielonka.specs.Level.{nextLevel, onLevel, drawnAt, wonAt, entriesOf, Called, Stays, Done, Over}
 
 -- the attractor S of T in V for player c is drawn, and V without S stands at the next level
 pub record CutBy (t : Tables) (c : Player) (base : ℕ) (V' T : Set) (before after : List ℕ) : Type 0 where

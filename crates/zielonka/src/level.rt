@@ -13,7 +13,7 @@ ghost use Rattle.rules.specs.Tables.{Tables, Accepted, gameOf, vertices, edgesI
 ghost use Rattle.rules.specs.Words.{setOf};
 ghost use Rattle.rules.specs.Zielonka.{withPriority};
 ghost use Rattle.attractor.specs.Area.{free};
-ghost use Rattle.zielonka.specs.Level.{nextLevel, wonPlace, onLevel, drawnAt, wonAt, Called};
+ghost use Rattle.zielonka.specs.Level.{nextLevel, wonPlace, onLevel, drawnAt, wonAt};
 ghost use Rattle.zielonka.specs.Steps.{CutBy, AllAt, JoinedAt};
 ghost use Rattle.zielonka.specs.Pieces.{Ready, Cuttable, Losable};
 

@@ -1,5 +1,5 @@
 -- `check` meets its contract: after a refusal nothing was touched, and else the work area is cleared.
-use mathlib.Core.Path.{_≡_, subst, _∙_}
+use mathlib.Core.Path.{_≡_, subst}
 use Prim.Native.Nat.{ℕ}
 use lib.ListN.{length}
 use Rattle.rules.specs.Outcome.{none, answered}

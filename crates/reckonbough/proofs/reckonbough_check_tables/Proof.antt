@@ -1,5 +1,5 @@
 -- `reckonbough::reckonbough_check_tables` meets its contract: what is told is what `check_tables` answers.
-use mathlib.Core.Path.{_≡_, sym, _∙_}
+use mathlib.Core.Path.{sym, _∙_}
 use borrow.Author.Needs.{needs}
 use Rattle.reckonbough.proofs.reckonbough_check_tables.Statement.{statement}
 use Rattle.reckonbough.proofs.reckonbough_check_tables.Tie as tie

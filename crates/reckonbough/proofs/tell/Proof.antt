@@ -1,5 +1,5 @@
 -- `reckonbough::tell` meets its contract: each part of the outcome is what the answer's own function ensures.
-use mathlib.Core.Path.{_≡_, sym}
+use mathlib.Core.Path.{sym}
 use borrow.Author.Needs.{needs}
 use Rattle.reckonbough.proofs.tell.Statement.{statement}
 use Rattle.reckonbough.proofs.tell.Tie as tie

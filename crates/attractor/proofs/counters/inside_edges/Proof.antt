@@ -1,14 +1,13 @@
 -- `inside_edges` meets its contract: the count is that of the edges of v before edge e that end inside.
-use Prim.Native.Nat.{ℕ, _+_, _-_, _≤_}
+use Prim.Native.Nat.{_+_, _-_, _≤_}
 use mathlib.Core.Logic.{⊎-elim}
-use mathlib.Core.Path.{_≡_, sym, ap, _∙_}
-use native.Mathlib.Nat.{le-refl}
+use mathlib.Core.Path.{_≡_, sym, _∙_}
 use native.Mathlib.Omega.{arith}
 use borrow.Author.Needs.{needs}
-use lib.ListN.{length, getD}
+use lib.ListN.{getD}
 use Rattle.rules.specs.Words.{setOf}
-use Rattle.attractor.specs.Counters.{EdgesOf, insideUpTo, inside-none, inside-more, inside-all}
-use Rattle.attractor.specs.Tally.{flag, flag-one, flag-zero}
+use Rattle.attractor.specs.Counters.{insideUpTo, inside-none, inside-more, inside-all}
+use Rattle.attractor.specs.Tally.{flag-one, flag-zero}
 use Rattle.attractor.proofs.counters.inside_edges.Statement.{statement}
 use Rattle.attractor.proofs.counters.inside_edges.Tie as tie
 

@@ -1,7 +1,7 @@
 -- `check_all` meets its contract. A check past which the code went on gave nothing, so what is left decides; the first that
 -- refuses is returned.
 use mathlib.Core.List.{[], _∷_}
-use mathlib.Core.Path.{_≡_, sym, _∙_, ap}
+use mathlib.Core.Path.{_≡_, _∙_, ap}
 use borrow.Author.Needs.{needs}
 use lib.ListN.{length}
 use Rattle.rules.specs.Attractor.{check12}

@@ -1,6 +1,5 @@
 -- `check_sizes` meets its contract, size by size in order.
 use mathlib.Core.Path.{_≡_, sym, ap, _∙_}
-use Prim.Native.Nat.{ℕ, _<_, _≤_}
 use native.Mathlib.Omega.{arith}
 use borrow.Author.Needs.{needs}
 use Rattle.rules.specs.Outcome.{Verdict, outcome, answered}

@@ -1,5 +1,5 @@
 -- `is_stray` meets its contract, by the cases of the test.
-use mathlib.Core.Path.{_≡_, sym, _∙_}
+use mathlib.Core.Path.{sym, _∙_}
 use borrow.Author.Needs.{needs}
 use Rattle.attractor.specs.DoorLaws.{stray-inside, stray-asked, stray-above, stray-above-asked}
 use Rattle.attractor.proofs.door.is_stray.Statement.{statement}

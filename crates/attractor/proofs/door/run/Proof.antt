@@ -1,15 +1,11 @@
 -- `run` meets its contract: each call asks for what the calls before it left.
-use mathlib.Core.List.{List}
-use mathlib.Core.Path.{_≡_, sym, ap, _∙_}
-use Prim.Native.Nat.{ℕ, _+_, _≤_}
+use mathlib.Core.Path.{_≡_, sym, _∙_}
+use Prim.Native.Nat.{_+_, _≤_}
 use native.Mathlib.Omega.{arith}
 use borrow.Author.Needs.{needs}
 use lib.ListN.{length}
 use Rattle.sets.specs.Laws.{cleared-all}
-use Rattle.rules.specs.Tables.{Accepted}
-use Rattle.rules.specs.Game.{playerOf}
-use Rattle.attractor.specs.Area.{free, entries}
-use Rattle.attractor.specs.Attracted.{Attracted}
+use Rattle.attractor.specs.Area.{free}
 use Rattle.attractor.specs.Runs.{build-ready, attract-ready, four-long, out-long, enter-ready, ran}
 use Rattle.attractor.proofs.door.run.Statement.{statement}
 use Rattle.attractor.proofs.door.run.Tie as tie

@@ -1,13 +1,11 @@
 -- `strategy_entry` meets its contract, by the cases of its tests.
 use mathlib.Core.Path.{_≡_, sym, _∙_}
 use mathlib.Core.Bool.{true, false}
-use Prim.Native.Nat.{ℕ}
 use native.Mathlib.Omega.{arith}
 use borrow.Author.Needs.{needs}
 use borrow.Author.Tests.{not-true, not-false, eq-eqb, ne-eqb}
 use Rattle.rules.specs.Words.{setOf}
 use Rattle.attractor.specs.DoorLaws.{chosen-out, chosen-target, chosen-other, chosen-own, drawn-so}
-use Rattle.attractor.specs.View.{ownBy}
 use Rattle.attractor.proofs.door.strategy_entry.Statement.{statement}
 use Rattle.attractor.proofs.door.strategy_entry.Tie as tie
 

@@ -1,10 +1,7 @@
 -- `take` meets its contract: the looks up to entry e were made, and all of them at the end.
-use Prim.Native.Nat.{ℕ, _+_, _-_}
-use mathlib.Core.Path.{_≡_, _∙_}
+use Prim.Native.Nat.{_-_}
 use native.Mathlib.Omega.{arith}
 use borrow.Author.Needs.{needs}
-use lib.ListN.{length}
-use Rattle.predecessors.specs.Table.{start}
 use Rattle.attractor.specs.TakeLoop.{Looking, looking-none, look-ready, looking-more, looking-all}
 use Rattle.attractor.proofs.step.take.Statement.{statement}
 use Rattle.attractor.proofs.step.take.Tie as tie

@@ -1,6 +1,5 @@
 -- `touch` meets its contract: by its tests it does nothing, gives an entry and joins, or counts down and joins at 0.
 use mathlib.Core.Bool.{true, false}
-use mathlib.Core.List.{List}
 use mathlib.Core.Path.{_≡_, sym, ap, _∙_}
 use Prim.Native.Nat.{ℕ, _+_, _-_}
 use native.Mathlib.Omega.{arith}

@@ -1,6 +1,6 @@
 -- `find_losing` meets its contract. The loop's invariant: no vertex passed is marked.
-use mathlib.Core.Path.{_≡_, refl, sym, _∙_}
-use Prim.Native.Nat.{ℕ, _+_, _-_, _≤_}
+use mathlib.Core.Path.{sym, _∙_}
+use Prim.Native.Nat.{_-_, _≤_}
 use borrow.Author.Count.{below-none, below-more}
 use Rattle.rules.specs.Outcome.{answered}
 use Rattle.parity_game.specs.Search.{FailsBelow, outcome-found, outcome-none}

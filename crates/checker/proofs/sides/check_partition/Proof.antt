@@ -1,11 +1,9 @@
 -- `check_partition` meets its contract. The loop's invariant: no bit passed speaks against the partition.
-use mathlib.Core.Path.{_≡_, refl, sym, ap, _∙_}
-use Prim.Native.Nat.{ℕ, _+_, _-_, _*_, _≤_}
+use mathlib.Core.Path.{_≡_, refl, sym, _∙_}
+use Prim.Native.Nat.{_-_, _*_, _≤_}
 use borrow.Author.Count.{below-none, below-more}
 use lib.ListN.{length}
-use Rattle.rules.specs.Outcome.{answered, outcome}
-use Rattle.rules.specs.Checker.{check21}
-use Rattle.parity_game.specs.Search.{FailsBelow, outcome-found, outcome-none}
+use Rattle.parity_game.specs.Search.{FailsBelow}
 use Rattle.checker.specs.Sides.{strayAt, partition-found, partition-none}
 use native.Mathlib.Omega.{arith}
 use borrow.Author.Needs.{needs}

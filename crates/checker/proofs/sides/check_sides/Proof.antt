@@ -1,11 +1,10 @@
 -- `check_sides` meets its contract. The loop over vertices: none passed leads out of its set. The loop over a vertex's edges: none passed does.
 use mathlib.Core.Bool.{true}
-use mathlib.Core.Path.{_≡_, refl, sym, ap, _∙_}
+use mathlib.Core.Path.{_≡_, refl, sym, _∙_}
 use Prim.Native.Nat.{ℕ, _+_, _-_, _≤_, _<_}
 use native.Mathlib.Nat.{le-refl}
 use borrow.Author.Count.{below-none, below-more}
-use borrow.Author.Tests.{not-true, not-false, ne-eqb}
-use lib.Dec.{eqb}
+use borrow.Author.Tests.{not-true, not-false}
 use lib.ListN.{length, getD}
 use Rattle.rules.specs.Outcome.{answered}
 use Rattle.parity_game.specs.Search.{FailsBelow, outcome-found, outcome-none}

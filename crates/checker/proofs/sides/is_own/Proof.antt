@@ -1,5 +1,5 @@
 -- `is_own` meets its contract.
-use mathlib.Core.Path.{_≡_, sym, _∙_}
+use mathlib.Core.Path.{sym, _∙_}
 use Rattle.checker.specs.Sides.{own-even, own-odd}
 use native.Mathlib.Omega.{arith}
 use borrow.Author.Needs.{needs}

@@ -1,6 +1,6 @@
 -- `is_stray` meets its contract.
 use mathlib.Core.Bool.{not}
-use mathlib.Core.Path.{_≡_, sym, ap, _∙_}
+use mathlib.Core.Path.{sym, ap, _∙_}
 use borrow.Author.Tests.{le-leb}
 use Rattle.checker.specs.Sides.{stray-in-past, stray-in, stray-out, stray-out-past}
 use native.Mathlib.Omega.{arith}

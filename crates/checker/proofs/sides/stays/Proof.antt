@@ -1,6 +1,6 @@
 -- `stays` meets its contract.
 use mathlib.Core.Bool.{not}
-use mathlib.Core.Path.{_≡_, sym, ap, _∙_}
+use mathlib.Core.Path.{sym, ap, _∙_}
 use Rattle.checker.specs.Sides.{side-even, side-odd}
 use native.Mathlib.Omega.{arith}
 use borrow.Author.Needs.{needs}

@@ -1,7 +1,6 @@
 -- `clear` meets its contract. The loop's invariant: the words before i are cleared.
 use mathlib.Core.Path.{_≡_, refl, subst}
-use mathlib.Core.List.{List}
-use Prim.Native.Nat.{ℕ, _+_, _-_, _≤_}
+use Prim.Native.Nat.{ℕ, _-_, _≤_}
 use lib.ListN.{length}
 use Rattle.parts.specs.Area.{Cleared, cleared-none, cleared-more}
 use native.Mathlib.Omega.{arith}

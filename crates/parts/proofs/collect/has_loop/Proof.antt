@@ -1,9 +1,9 @@
 -- `has_loop` meets its contract. The loop's invariant: no edge before e ends in v.
 use mathlib.Core.Path.{_≡_, refl, sym, _∙_}
-use Prim.Native.Nat.{ℕ, _+_, _-_, _≤_}
+use Prim.Native.Nat.{_+_, _-_, _≤_}
 use native.Mathlib.Nat.{le-refl}
 use borrow.Author.Tests.{not-true, not-false}
-use lib.ListN.{length, getD}
+use lib.ListN.{getD}
 use Rattle.parts.specs.Graph.{Graph, graph}
 use Rattle.parts.specs.Good.{Looping, loop-unkept, loop-found, loop-more, loop-none}
 use native.Mathlib.Omega.{arith}

@@ -1,5 +1,5 @@
 -- `is_good` meets its contract: it goes by the marks of the label.
-use mathlib.Core.Path.{_≡_, _∙_}
+use mathlib.Core.Path.{_∙_}
 use Rattle.parts.specs.Graph.{Graph, graph}
 use Rattle.parts.specs.Leading.{edge-within}
 use Rattle.parts.specs.Good.{good-high, good-unhit, good-pair, good-loop}

@@ -4,7 +4,7 @@ use mathlib.Core.List.{List}
 use mathlib.Core.Path.{_≡_, refl, sym, subst, _∙_}
 use Prim.Native.Nat.{ℕ, _+_, _-_, _≤_}
 use lib.ListN.{length}
-use Rattle.parts.specs.Noting.{Noted, noted-none, word-kept, noted-passes, label-below, noted-marks}
+use Rattle.parts.specs.Noting.{Noted, noted-none, noted-passes, label-below, noted-marks}
 use native.Mathlib.Omega.{arith}
 use borrow.Author.Needs.{needs}
 use Rattle.parts.proofs.collect.note.Statement.{statement}

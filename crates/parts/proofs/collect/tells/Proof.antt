@@ -1,5 +1,5 @@
 -- `tells` meets its contract.
-use mathlib.Core.Path.{_≡_, sym, ap, _∙_}
+use mathlib.Core.Path.{sym, ap, _∙_}
 use Rattle.parts.specs.Noting.{noteTest, tells-nothing, tells-two, tells-priority}
 use native.Mathlib.Omega.{arith}
 use borrow.Author.Needs.{needs}

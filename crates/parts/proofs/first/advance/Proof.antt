@@ -1,5 +1,5 @@
 -- `advance` meets its contract: the cursor moves, and then the next vertex goes onto the stack, or the top is finished.
-use mathlib.Core.Path.{_≡_, _∙_}
+use mathlib.Core.Path.{_∙_}
 use lib.ListN.{length-set}
 use Rattle.parts.specs.Graph.{Graph, graph}
 use Rattle.parts.specs.Walking.{advance-pushable, advance-pushes, advance-pops}

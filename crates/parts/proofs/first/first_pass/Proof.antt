@@ -1,7 +1,7 @@
 -- `first_pass` meets its contract. The loop's invariant: the roots below r were searched from.
 use mathlib.Core.Logic.{⊎-elim}
 use mathlib.Core.Path.{_≡_, refl, sym, _∙_}
-use Prim.Native.Nat.{_+_, _-_, _<_}
+use Prim.Native.Nat.{_-_, _<_}
 use lib.ListN.{length}
 use Rattle.parts.specs.Graph.{Graph, graph}
 use Rattle.parts.specs.Pass.{Rooting, rooting-as, roots-start, root-ready, root-passes, root-searched, roots-end}

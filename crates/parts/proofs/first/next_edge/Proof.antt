@@ -1,5 +1,5 @@
 -- `next_edge` meets its contract. The loop's invariant: no edge passed leads to a vertex not yet visited.
-use mathlib.Core.Path.{_≡_, sym, _∙_}
+use mathlib.Core.Path.{sym, _∙_}
 use Prim.Native.Nat.{_+_, _-_}
 use Rattle.parts.specs.Graph.{Graph, graph}
 use Rattle.parts.specs.Walking.{Scanning, scanning-starts, scanning-more, scan-found, scan-nothing}

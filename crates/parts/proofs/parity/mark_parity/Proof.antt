@@ -1,6 +1,6 @@
 -- `mark_parity` meets its contract. The loop's invariant: the priorities 2 j + parity for j below k were gone through.
 use mathlib.Core.Path.{_≡_, refl, subst}
-use Prim.Native.Nat.{ℕ, _+_, _-_, _≤_}
+use Prim.Native.Nat.{ℕ, _-_, _≤_}
 use lib.ListN.{length}
 use Rattle.parts.specs.Parity.{Swept, swept-none, sweep-ready, swept-more}
 use native.Mathlib.Omega.{arith}

@@ -1,6 +1,5 @@
 -- `find_part` meets its contract. The loop's invariant: the search for the part so far.
-use mathlib.Core.Path.{_≡_, _∙_}
-use Prim.Native.Nat.{_+_, _-_}
+use Prim.Native.Nat.{_-_}
 use lib.ListN.{length}
 use Rattle.parts.specs.Graph.{Graph, graph}
 use Rattle.parts.specs.Finding.{Seeking, root-putable, seek-starts, look-ready, seek-moves, seek-ends}

@@ -3,7 +3,6 @@ use mathlib.Core.Logic.{⊎-elim}
 use mathlib.Core.Path.{_≡_, refl, sym, subst, _∙_}
 use Prim.Native.Nat.{ℕ, _+_, _-_, _<_}
 use native.Mathlib.Nat.{le-refl}
-use lib.ListN.{length}
 use Rattle.parts.specs.Graph.{Graph, graph}
 use Rattle.parts.specs.Seeking.{rowStart, Looked, LookingBack, looking-as, looked-starts, entry-vertex, looked-passes, look-putable, looked-puts}
 use native.Mathlib.Omega.{arith}

@@ -1,9 +1,8 @@
 -- `second_pass` meets its contract. The loop's invariant: the parts of the last i vertices of the order are found.
 use mathlib.Core.Logic.{⊎-elim}
 use mathlib.Core.List.{List}
-use mathlib.Core.Path.{_≡_, sym, subst, _∙_}
+use mathlib.Core.Path.{sym, subst}
 use Prim.Native.Nat.{ℕ, _+_, _-_}
-use lib.ListN.{length}
 use Rattle.parts.specs.Graph.{Graph, graph}
 use Rattle.parts.specs.Finding.{Passing, passing-starts, next-vertex, passing-skips, find-ready, passing-finds, passing-ends}
 use native.Mathlib.Omega.{arith}

@@ -1,5 +1,5 @@
 -- `copy_from` meets its contract. The invariant: the first i words are copied.
-use Prim.Native.Nat.{_-_, _≤_}
+use Prim.Native.Nat.{_-_}
 use mathlib.Core.Path.{_≡_}
 use lib.ListN.{length}
 use lib.Seq.{ext-getD}

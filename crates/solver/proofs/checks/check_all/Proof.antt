@@ -2,7 +2,6 @@
 -- refuses is returned.
 use mathlib.Core.Path.{_≡_, _∙_, ap}
 use borrow.Author.Needs.{needs}
-use lib.ListN.{length}
 use Rattle.rules.specs.Outcome.{Verdict, none, _then_, outcome, answered}
 use Rattle.rules.specs.Tables.{Tables, vertices, edgesIn, tableChecks, Accepted, check10, tablesOf}
 use Rattle.parity_game.specs.Laws.{Sound, accepted-sound, passed, numbered-tables, numbered-check9}

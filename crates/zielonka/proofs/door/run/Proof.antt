@@ -1,6 +1,6 @@
 -- `run` meets its contract: the recursion on all vertices is what the rules ask for, and its sets and entries are copied out.
 use mathlib.Core.Path.{_≡_, refl, subst, _∙_}
-use Prim.Native.Nat.{ℕ, _+_, _*_, _≤_}
+use Prim.Native.Nat.{_+_, _*_, _≤_}
 use native.Mathlib.Omega.{arith}
 use lib.ListN.{length}
 use Rattle.rules.specs.Tables.{Tables, tablesOf}

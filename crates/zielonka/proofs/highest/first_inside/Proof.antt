@@ -1,9 +1,9 @@
 -- `first_inside` meets its contract: no edge passed ends inside.
 use Prim.Native.Nat.{ℕ, _+_, _-_, _≤_, _<_}
-use mathlib.Core.Bool.{true, false}
-use mathlib.Core.Path.{_≡_, refl, sym, _∙_}
+use mathlib.Core.Bool.{false}
+use mathlib.Core.Path.{_≡_, sym, _∙_}
 use native.Mathlib.Omega.{arith}
-use lib.ListN.{length, getD}
+use lib.ListN.{getD}
 use Rattle.rules.specs.Words.{setOf}
 use Rattle.zielonka.specs.Highest.{inside-found, inside-some, inside-next}
 use borrow.Author.Needs.{needs}

@@ -1,6 +1,6 @@
 -- `attract_lost` meets its contract: what the opponent won is the target of the cut.
 use native.Mathlib.Omega.{arith}
-use mathlib.Core.Logic.{inl, inr}
+use mathlib.Core.Logic.{inl}
 use Prim.Native.Nat.{_+_, _*_, _-_, _%_}
 use Rattle.rules.specs.Game.{playerOf}
 use Rattle.zielonka.specs.PiecesHold.{won-range, lost-cuttable, lost-made}

@@ -1,6 +1,6 @@
 -- `cut` meets its contract: what was drawn, copied and taken away is a cut.
 use native.Mathlib.Omega.{arith}
-use mathlib.Core.Logic.{inl, inr}
+use mathlib.Core.Logic.{inr}
 use Rattle.zielonka.specs.PiecesHold.{cut-attractable, cut-done}
 use borrow.Author.Needs.{needs}
 use Rattle.zielonka.proofs.level.cut.Statement.{statement}

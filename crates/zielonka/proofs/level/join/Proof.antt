@@ -1,7 +1,7 @@
 -- `join` meets its contract.
 use native.Mathlib.Omega.{arith}
 use mathlib.Core.Logic.{inl, inr}
-use Prim.Native.Nat.{_+_, _*_, _-_, _%_}
+use Prim.Native.Nat.{_-_, _%_}
 use Rattle.rules.specs.Game.{playerOf}
 use Rattle.zielonka.specs.PiecesHold.{won-range, joined-made}
 use borrow.Author.Needs.{needs}

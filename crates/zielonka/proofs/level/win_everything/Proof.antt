@@ -1,7 +1,6 @@
 -- `win_everything` meets its contract.
 use native.Mathlib.Omega.{arith}
-use mathlib.Core.Logic.{inl, inr}
-use Prim.Native.Nat.{_+_, _*_, _%_}
+use mathlib.Core.Logic.{inr}
 use Rattle.rules.specs.Game.{parity}
 use Rattle.zielonka.specs.PiecesHold.{won-range, all-extends, all-made}
 use borrow.Author.Needs.{needs}

@@ -1,7 +1,7 @@
 -- `zielonka_rec` meets its contract. The measure is the number of members of V. The pieces before a nested call make what it asks for, on
 -- fewer vertices, and the pieces after it make of what it left the run of this call.
-use mathlib.Core.Path.{_≡_, sym, subst, _∙_}
-use Prim.Native.Nat.{_+_, _*_, _-_, _≤_}
+use mathlib.Core.Path.{subst}
+use Prim.Native.Nat.{_+_, _*_, _-_}
 use native.Mathlib.Omega.{arith}
 use lib.ListN.{length}
 use Rattle.rules.specs.Counting.{count}
