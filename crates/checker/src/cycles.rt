@@ -46,7 +46,8 @@ fn mark_cycles(
 )
     requires { ⌜ MarksReady (now owners) (now priorities) (now offsets) (now targets) (now strategy) (now work) ⌝ }
     ensures { λ _.
-        ⌜ CyclesMarked (now (owners .entry)) (now (priorities .entry)) (now (offsets .entry)) (now (targets .entry)) (now (strategy .entry))
+        ⌜ CyclesMarked (now (owners .entry)) (now (priorities .entry)) (now (offsets .entry)) (now (targets .entry))
+        (now (strategy .entry))
         (now (work .entry)) (now (work .exit)) ⌝ }
 {
     let n = priorities.len();
@@ -67,9 +68,11 @@ pub fn check_cycles(
     strategy: &[u16],
     work: &mut [u64],
 ) -> Answer
-    requires { ⌜ CyclesReady (tablesOf (now owners) (now priorities) (now offsets) (now targets)) (now even) (now strategy) (now work) ⌝ }
+    requires { ⌜ CyclesReady (tablesOf (now owners) (now priorities) (now offsets) (now targets)) (now even)
+        (now strategy) (now work) ⌝ }
     ensures { λ r.
-        ⌜ CyclesTold (tablesOf (now (owners .entry)) (now (priorities .entry)) (now (offsets .entry)) (now (targets .entry))) (now (even .entry))
+        ⌜ CyclesTold (tablesOf (now (owners .entry)) (now (priorities .entry)) (now (offsets .entry))
+        (now (targets .entry))) (now (even .entry))
         (now (strategy .entry)) (now (work .entry)) (now (work .exit)) (said r) ⌝ }
 {
     mark_cycles(owners, priorities, offsets, targets, strategy, work);

@@ -1,4 +1,5 @@
-// The certificate checker: two sets and a strategy, checked without trust in any solver. Yes, or the first of 21 to 24 that applies.
+// The certificate checker: two sets and a strategy, checked without trust in any solver. Yes, or the first of 21 to 24
+// that applies.
 mod cycles;
 mod sides;
 
@@ -18,9 +19,11 @@ fn certify(
     strategy: &[u16],
     work: &mut [u64],
 ) -> Answer
-    requires { ⌜ Certifiable (tablesOf (now owners) (now priorities) (now offsets) (now targets)) (now even) (now odd) (now strategy) (now work) ⌝ }
+    requires { ⌜ Certifiable (tablesOf (now owners) (now priorities) (now offsets) (now targets)) (now even) (now odd)
+        (now strategy) (now work) ⌝ }
     ensures { λ r.
-        ⌜ Certifies (tablesOf (now (owners .entry)) (now (priorities .entry)) (now (offsets .entry)) (now (targets .entry))) (now (even .entry)) (now (odd .entry))
+        ⌜ Certifies (tablesOf (now (owners .entry)) (now (priorities .entry)) (now (offsets .entry))
+        (now (targets .entry))) (now (even .entry)) (now (odd .entry))
         (now (strategy .entry)) (now (work .entry)) (now (work .exit)) (said r) ⌝ }
 {
     let r = sides::check_partition(owners.len(), even, odd);
@@ -50,7 +53,8 @@ pub fn check(
     work: &mut [u64],
 ) -> Answer
     ensures { λ r.
-        ⌜ Checks (tablesOf (now (owners .entry)) (now (priorities .entry)) (now (offsets .entry)) (now (targets .entry))) (now (even .entry)) (now (odd .entry))
+        ⌜ Checks (tablesOf (now (owners .entry)) (now (priorities .entry)) (now (offsets .entry))
+        (now (targets .entry))) (now (even .entry)) (now (odd .entry))
         (now (strategy .entry)) (now (work .entry)) (now (work .exit)) (said r) ⌝ }
 {
     let r = solver::check_all(

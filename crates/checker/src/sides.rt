@@ -1,4 +1,5 @@
-// The kinds 21 to 23: the sets split the vertices, entries are edges of winners' own vertices, and edges stay on their side.
+// The kinds 21 to 23: the sets split the vertices, entries are edges of winners' own vertices, and edges stay on their
+// side.
 use parity_game::Answer;
 use parity_game::VertexIndex;
 ghost use mathlib.Core.Path.{_≡_};
@@ -62,7 +63,8 @@ pub fn check_entries(
         ⌜ said r ≡
         outcome
         (givenAt 22 (length (now (owners .entry)))
-        (wrongEntry (now (owners .entry)) (now (offsets .entry)) (now (targets .entry)) (now (even .entry)) (now (strategy .entry))))
+        (wrongEntry (now (owners .entry)) (now (offsets .entry)) (now (targets .entry)) (now (even .entry))
+        (now (strategy .entry))))
         (answered 0) ⌝ }
 {
     'vertices: for v in 0..owners.len() {
@@ -106,7 +108,8 @@ pub fn check_sides(
         ⌜ said r ≡
         outcome
         (givenAt 23 (length (now (owners .entry)))
-        (leavesSet (now (owners .entry)) (now (offsets .entry)) (now (targets .entry)) (now (even .entry)) (now (strategy .entry))))
+        (leavesSet (now (owners .entry)) (now (offsets .entry)) (now (targets .entry)) (now (even .entry))
+        (now (strategy .entry))))
         (answered 0) ⌝ }
 {
     'vertices: for v in 0..owners.len() {

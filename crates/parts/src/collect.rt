@@ -18,7 +18,8 @@ pub fn clear(work: &mut [u64], from: usize, to: usize)
     }
 }
 
-// Whether u, whose label's word is l, tells something of its part: that p is among its priorities, or that it has two vertices.
+// Whether u, whose label's word is l, tells something of its part: that p is among its priorities, or that it has two
+// vertices.
 fn tells(priorities: &[u16], p: u16, l: u64, u: usize, two: bool) -> bool
     requires { ⌜ u < length (now priorities) ⌝ }
     ensures { λ r. ⌜ r ≡ noteTest (now (priorities .entry)) p l u two ⌝ }
@@ -35,7 +36,8 @@ fn tells(priorities: &[u16], p: u16, l: u64, u: usize, two: bool) -> bool
 // Marks the labels of which some vertex tells so.
 pub fn note(priorities: &[u16], m: usize, p: u16, work: &mut [u64], row: usize, two: bool)
     requires { ⌜ Noteable (now priorities) m p (now work) row ⌝ }
-    ensures { λ _. ⌜ Noted (now (priorities .entry)) m p (now (work .entry)) row two (length (now (priorities .entry))) (now (work .exit)) ⌝ }
+    ensures { λ _. ⌜ Noted (now (priorities .entry)) m p (now (work .entry)) row two (length (now (priorities .entry)))
+        (now (work .exit)) ⌝ }
 {
     let n = priorities.len();
     let labels = n + 1 + m + n + n + n;
@@ -57,7 +59,8 @@ fn has_loop(
     v: usize,
 ) -> bool
     requires { ⌜ Loopable (graph (now priorities) (now offsets) (now targets) (now entries) p) v ⌝ }
-    ensures { λ r. ⌜ r ≡ loopsAt (graph (now (priorities .entry)) (now (offsets .entry)) (now (targets .entry)) (now (entries .entry)) p) v ⌝ }
+    ensures { λ r. ⌜ r ≡ loopsAt (graph (now (priorities .entry)) (now (offsets .entry)) (now (targets .entry))
+        (now (entries .entry)) p) v ⌝ }
 {
     if !links::keeps(entries, v, v) {
         return false;
@@ -82,7 +85,8 @@ fn is_good(
 ) -> bool
     requires { ⌜ Testable (graph (now priorities) (now offsets) (now targets) (now entries) p) (now work) v ⌝ }
     ensures { λ r.
-        ⌜ r ≡ goodAt (graph (now (priorities .entry)) (now (offsets .entry)) (now (targets .entry)) (now (entries .entry)) p)
+        ⌜ r ≡ goodAt (graph (now (priorities .entry)) (now (offsets .entry)) (now (targets .entry))
+        (now (entries .entry)) p)
         (now (work .entry)) v ⌝ }
 {
     if p < priorities[v] {
@@ -113,7 +117,8 @@ pub fn collect(
 )
     requires { ⌜ Collectable (graph (now priorities) (now offsets) (now targets) (now entries) p) (now work) base ⌝ }
     ensures { λ _.
-        ⌜ Collected (graph (now (priorities .entry)) (now (offsets .entry)) (now (targets .entry)) (now (entries .entry)) p)
+        ⌜ Collected (graph (now (priorities .entry)) (now (offsets .entry)) (now (targets .entry))
+        (now (entries .entry)) p)
         (now (work .entry)) base (length (now (priorities .entry))) (now (work .exit)) ⌝ }
 {
     for v in 0..priorities.len() {

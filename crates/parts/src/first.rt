@@ -1,4 +1,5 @@
-// The first pass: a depth-first search along the links, with the stack in the work area. It writes the vertices in the order in which
+// The first pass: a depth-first search along the links, with the stack in the work area. It writes the vertices in the
+// order in which
 // they finish.
 use crate::links;
 ghost use mathlib.Core.Path.{_≡_};
@@ -25,7 +26,8 @@ fn next_edge(
 ) -> usize
     requires { ⌜ Scannable (graph (now priorities) (now offsets) (now targets) (now entries) p) (now work) t from ⌝ }
     ensures { λ r.
-        ⌜ Scanned (graph (now (priorities .entry)) (now (offsets .entry)) (now (targets .entry)) (now (entries .entry)) p)
+        ⌜ Scanned (graph (now (priorities .entry)) (now (offsets .entry)) (now (targets .entry))
+        (now (entries .entry)) p)
         (now (work .entry)) t from r ⌝ }
 {
     let marks = priorities.len() + 1 + targets.len();
@@ -48,7 +50,8 @@ fn push(n: usize, marks: usize, offsets: &[u16], work: &mut [u64], y: usize, top
     work[marks + n + n + top] = y as u64;
 }
 
-// One move, with t on top of the stack: the next unvisited vertex that it leads to goes onto the stack, or it is finished.
+// One move, with t on top of the stack: the next unvisited vertex that it leads to goes onto the stack, or it is
+// finished.
 fn advance(
     priorities: &[u16],
     offsets: &[u16],
@@ -59,9 +62,11 @@ fn advance(
     t: usize,
     at: Progress,
 ) -> Progress
-    requires { ⌜ Advances (graph (now priorities) (now offsets) (now targets) (now entries) p) (now work) t (at .top) (at .done) ⌝ }
+    requires { ⌜ Advances (graph (now priorities) (now offsets) (now targets) (now entries) p) (now work) t (at .top)
+        (at .done) ⌝ }
     ensures { λ r.
-        ⌜ Advanced (graph (now (priorities .entry)) (now (offsets .entry)) (now (targets .entry)) (now (entries .entry)) p)
+        ⌜ Advanced (graph (now (priorities .entry)) (now (offsets .entry)) (now (targets .entry))
+        (now (entries .entry)) p)
         (now (work .entry)) (now (work .exit)) (at .top) (at .done) (r .top) (r .done) ⌝ }
 {
     let n = priorities.len();
@@ -96,7 +101,8 @@ fn search_from(
 ) -> usize
     requires { ⌜ Startable (graph (now priorities) (now offsets) (now targets) (now entries) p) (now work) r done ⌝ }
     ensures { λ k.
-        ⌜ Searches (graph (now (priorities .entry)) (now (offsets .entry)) (now (targets .entry)) (now (entries .entry)) p)
+        ⌜ Searches (graph (now (priorities .entry)) (now (offsets .entry)) (now (targets .entry))
+        (now (entries .entry)) p)
         (now (work .entry)) (now (work .exit)) r done k ⌝ }
 {
     let n = priorities.len();
@@ -121,7 +127,8 @@ pub fn first_pass(
 ) -> usize
     requires { ⌜ Passes (graph (now priorities) (now offsets) (now targets) (now entries) p) (now work) ⌝ }
     ensures { λ k.
-        ⌜ Finished (graph (now (priorities .entry)) (now (offsets .entry)) (now (targets .entry)) (now (entries .entry)) p)
+        ⌜ Finished (graph (now (priorities .entry)) (now (offsets .entry)) (now (targets .entry))
+        (now (entries .entry)) p)
         (now (work .entry)) (now (work .exit)) k ⌝ }
 {
     let marks = priorities.len() + 1 + targets.len();

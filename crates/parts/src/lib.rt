@@ -1,5 +1,7 @@
-// Strongly connected parts in two passes, over one lent work area: the vertices that lie on a cycle of chosen edges among vertices of
-// priority at most p that meets p exactly. One routine for solitaire and for the checker's kind 24, linear in vertices and edges.
+// Strongly connected parts in two passes, over one lent work area: the vertices that lie on a cycle of chosen edges
+// among vertices of
+// priority at most p that meets p exactly. One routine for solitaire and for the checker's kind 24, linear in vertices
+// and edges.
 mod collect;
 mod first;
 mod links;
@@ -11,7 +13,8 @@ pub use parity::mark_parity;
 ghost use Rattle.parts.specs.Graph.{graph};
 ghost use Rattle.parts.specs.Whole.{Markable, Marked};
 
-// Marks those vertices in a row of n words from base on. The predecessor table stands at the front of the work area, and six words for
+// Marks those vertices in a row of n words from base on. The predecessor table stands at the front of the work area,
+// and six words for
 // each vertex behind it are used.
 pub fn mark_parts(
     priorities: &[u16],
@@ -24,7 +27,8 @@ pub fn mark_parts(
 )
     requires { ⌜ Markable (graph (now priorities) (now offsets) (now targets) (now entries) p) (now work) base ⌝ }
     ensures { λ _.
-        ⌜ Marked (graph (now (priorities .entry)) (now (offsets .entry)) (now (targets .entry)) (now (entries .entry)) p)
+        ⌜ Marked (graph (now (priorities .entry)) (now (offsets .entry)) (now (targets .entry))
+        (now (entries .entry)) p)
         base (now (work .entry)) (now (work .exit)) ⌝ }
 {
     let n = priorities.len();

@@ -13,7 +13,8 @@ pub fn mark_parity(
 )
     requires { ⌜ Sweepable (now priorities) (now offsets) (now targets) (now entries) parity (now work) base ⌝ }
     ensures { λ _.
-        ⌜ Swept (now (priorities .entry)) (now (offsets .entry)) (now (targets .entry)) (now (entries .entry)) parity base 128
+        ⌜ Swept (now (priorities .entry)) (now (offsets .entry)) (now (targets .entry))
+        (now (entries .entry)) parity base 128
         (now (work .entry)) (now (work .exit)) ⌝ }
 {
     for k in 0..128u16 {

@@ -1,4 +1,5 @@
-// The second pass: one part after another, from the last finished vertex to the first, by a search against the links. It writes for each
+// The second pass: one part after another, from the last finished vertex to the first, by a search against the links.
+// It writes for each
 // vertex of priority at most p the label of its part.
 use crate::links;
 ghost use mathlib.Core.Path.{_≡_};
@@ -16,7 +17,8 @@ fn put(work: &mut [u64], row: usize, x: usize, word: u64, queue: usize, at: usiz
     work[queue + at] = x as u64;
 }
 
-// Each vertex without a label that leads to w gets the label of r, and goes to the end of the queue. Gives the queue's new end.
+// Each vertex without a label that leads to w gets the label of r, and goes to the end of the queue. Gives the queue's
+// new end.
 fn look_back(
     priorities: &[u16],
     offsets: &[u16],
@@ -30,7 +32,8 @@ fn look_back(
 ) -> usize
     requires { ⌜ Lookable (graph (now priorities) (now offsets) (now targets) (now entries) p) (now work) w r tail ⌝ }
     ensures { λ end.
-        ⌜ Looked (graph (now (priorities .entry)) (now (offsets .entry)) (now (targets .entry)) (now (entries .entry)) p)
+        ⌜ Looked (graph (now (priorities .entry)) (now (offsets .entry)) (now (targets .entry))
+        (now (entries .entry)) p)
         (now (work .entry)) w r tail (getD (now (work .entry)) (w + 1) 0) (now (work .exit)) end ⌝ }
 {
     let n = priorities.len();
@@ -86,7 +89,8 @@ pub fn second_pass(
 )
     requires { ⌜ Labelling (graph (now priorities) (now offsets) (now targets) (now entries) p) (now work) done ⌝ }
     ensures { λ _.
-        ⌜ Labelled (graph (now (priorities .entry)) (now (offsets .entry)) (now (targets .entry)) (now (entries .entry)) p)
+        ⌜ Labelled (graph (now (priorities .entry)) (now (offsets .entry)) (now (targets .entry))
+        (now (entries .entry)) p)
         (now (work .entry)) (now (work .exit)) ⌝ }
 {
     let n = priorities.len();

@@ -13,7 +13,8 @@ fn strategy_entry(
 ) -> u16
     requires { ⌜ Entered (now owners) (now even) (now odd) (now entries) v ⌝ }
     ensures { λ r.
-        ⌜ r ≡ chosen «compute_strategy» (now (owners .entry)) (now (even .entry)) (now (odd .entry)) (now (entries .entry)) v ⌝ }
+        ⌜ r ≡ chosen «compute_strategy» (now (owners .entry)) (now (even .entry)) (now (odd .entry))
+        (now (entries .entry)) v ⌝ }
 {
     if !compute_strategy {
         return 65535;

@@ -1,4 +1,5 @@
-// The pieces of a call, over the four sets of its level: V at `base`, then the attractor, then what Even and Odd win. The next
+// The pieces of a call, over the four sets of its level: V at `base`, then the attractor, then what Even and Odd win.
+// The next
 // level begins after them. `s` is the words of a set, `p` the highest priority in V.
 use crate::highest::collect;
 use crate::highest::extend_arbitrary;
@@ -43,9 +44,12 @@ fn cut(
     ensures { λ r.
         ⌜ ((priorities : List ℕ) →
         Accepted (tablesOf (now (owners .entry)) priorities (now (offsets .entry)) (now (targets .entry))) →
-        CutBy (tablesOf (now (owners .entry)) priorities (now (offsets .entry)) (now (targets .entry))) (playerOf alpha) base
-        (onLevel (tablesOf (now (owners .entry)) priorities (now (offsets .entry)) (now (targets .entry))) base (now (work .entry)))
-        (drawnAt (tablesOf (now (owners .entry)) priorities (now (offsets .entry)) (now (targets .entry))) base (now (work .entry)))
+        CutBy (tablesOf (now (owners .entry)) priorities (now (offsets .entry)) (now (targets .entry)))
+        (playerOf alpha) base
+        (onLevel (tablesOf (now (owners .entry)) priorities (now (offsets .entry)) (now (targets .entry))) base
+        (now (work .entry)))
+        (drawnAt (tablesOf (now (owners .entry)) priorities (now (offsets .entry)) (now (targets .entry))) base
+        (now (work .entry)))
         (now (work .entry)) (now (work .exit))) ⌝ }
 {
     attractor::attract(owners, offsets, targets, alpha, work, base, base + s);
@@ -66,10 +70,14 @@ pub fn attract_highest(
 )
     requires { ⌜ Ready (tablesOf (now owners) (now priorities) (now offsets) (now targets)) s base (now work) ⌝ }
     ensures { λ r.
-        ⌜ CutBy (tablesOf (now (owners .entry)) (now (priorities .entry)) (now (offsets .entry)) (now (targets .entry))) (parity p) base
-        (onLevel (tablesOf (now (owners .entry)) (now (priorities .entry)) (now (offsets .entry)) (now (targets .entry))) base (now (work .entry)))
-        (withPriority (gameOf (tablesOf (now (owners .entry)) (now (priorities .entry)) (now (offsets .entry)) (now (targets .entry))))
-        (onLevel (tablesOf (now (owners .entry)) (now (priorities .entry)) (now (offsets .entry)) (now (targets .entry))) base (now (work .entry))) p)
+        ⌜ CutBy (tablesOf (now (owners .entry)) (now (priorities .entry)) (now (offsets .entry))
+        (now (targets .entry))) (parity p) base
+        (onLevel (tablesOf (now (owners .entry)) (now (priorities .entry)) (now (offsets .entry))
+        (now (targets .entry))) base (now (work .entry)))
+        (withPriority (gameOf (tablesOf (now (owners .entry)) (now (priorities .entry)) (now (offsets .entry))
+        (now (targets .entry))))
+        (onLevel (tablesOf (now (owners .entry)) (now (priorities .entry)) (now (offsets .entry))
+        (now (targets .entry))) base (now (work .entry))) p)
         (now (work .entry)) (now (work .exit)) ⌝ }
 {
     sets::clear(work, base + s, s);
@@ -77,7 +85,8 @@ pub fn attract_highest(
     cut(owners, offsets, targets, (p % 2) as u8, s, work, base);
 }
 
-// B: the attractor of what the opponent of p's player won at the next level, for that opponent. V without B goes to the next level.
+// B: the attractor of what the opponent of p's player won at the next level, for that opponent. V without B goes to the
+// next level.
 pub fn attract_lost(
     owners: &[u8],
     offsets: &[u16],
@@ -91,9 +100,12 @@ pub fn attract_lost(
     ensures { λ r.
         ⌜ ((priorities : List ℕ) →
         Accepted (tablesOf (now (owners .entry)) priorities (now (offsets .entry)) (now (targets .entry))) →
-        CutBy (tablesOf (now (owners .entry)) priorities (now (offsets .entry)) (now (targets .entry))) (opponent (parity p)) base
-        (onLevel (tablesOf (now (owners .entry)) priorities (now (offsets .entry)) (now (targets .entry))) base (now (work .entry)))
-        (wonAt (tablesOf (now (owners .entry)) priorities (now (offsets .entry)) (now (targets .entry))) (nextLevel s base) (now (work .entry)) (opponent (parity p)))
+        CutBy (tablesOf (now (owners .entry)) priorities (now (offsets .entry)) (now (targets .entry)))
+        (opponent (parity p)) base
+        (onLevel (tablesOf (now (owners .entry)) priorities (now (offsets .entry)) (now (targets .entry))) base
+        (now (work .entry)))
+        (wonAt (tablesOf (now (owners .entry)) priorities (now (offsets .entry)) (now (targets .entry)))
+        (nextLevel s base) (now (work .entry)) (opponent (parity p)))
         (now (work .entry)) (now (work .exit))) ⌝ }
 {
     let lost = won_at(base + 4 * s, s, 1 - p % 2);
@@ -105,7 +117,8 @@ pub fn attract_lost(
 pub fn lost_nothing(p: usize, s: usize, work: &[u64], base: usize) -> bool
     requires { ⌜ base + 4 * s ≤ length (now work) ⌝ }
     ensures { λ r.
-        ⌜ r ≡ not (some (64 * s) (setOf (take s (drop (wonPlace s base (opponent (parity p))) (now (work .entry)))))) ⌝ }
+        ⌜ r ≡ not (some (64 * s) (setOf (take s
+        (drop (wonPlace s base (opponent (parity p))) (now (work .entry)))))) ⌝ }
 {
     let lost = won_at(base, s, 1 - p % 2);
     sets::is_empty(&work[lost..lost + s])
@@ -124,7 +137,8 @@ pub fn win_everything(
 )
     requires { ⌜ Ready (tablesOf (now owners) (now priorities) (now offsets) (now targets)) s base (now work) ⌝ }
     ensures { λ r.
-        ⌜ AllAt (tablesOf (now (owners .entry)) (now (priorities .entry)) (now (offsets .entry)) (now (targets .entry))) p base
+        ⌜ AllAt (tablesOf (now (owners .entry)) (now (priorities .entry)) (now (offsets .entry))
+        (now (targets .entry))) p base
         (now (work .entry)) (now (work .exit)) ⌝ }
 {
     sets::clear(work, base + 2 * s, 2 * s);

@@ -21,7 +21,8 @@ pub fn zielonka_rec(
 ) -> Ran
     requires { ⌜ Called (tablesOf (now owners) (now priorities) (now offsets) (now targets)) base (now work) ⌝ }
     ensures { λ r.
-        ⌜ Ends (tablesOf (now (owners .entry)) (now (priorities .entry)) (now (offsets .entry)) (now (targets .entry))) base calls budget
+        ⌜ Ends (tablesOf (now (owners .entry)) (now (priorities .entry)) (now (offsets .entry))
+        (now (targets .entry))) base calls budget
         (now (work .entry)) (now (work .exit)) r ⌝ }
 {
     if budget <= calls {
