@@ -1,5 +1,5 @@
-// The public attractor, for every input: it checks all that it takes, works in the work area, and writes only when
-// it answers.
+// The public attractor, for every input: it checks all that it takes, works in the work area, and writes only when it
+// answers.
 use crate::whole::attract;
 use parity_game::Answer;
 use parity_game::Player;

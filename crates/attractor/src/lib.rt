@@ -1,6 +1,6 @@
-// The attractor of document 01, by steps, over one lent work area. It serves every solver. The work area begins
-// with the predecessor table (n + 1 + m words), then a counter, a place in the queue and an entry for each vertex;
-// sets stand at bases that the caller gives.
+// The attractor of document 01, by steps, over one lent work area. It serves every solver. The work area begins with
+// the predecessor table (n + 1 + m words), then a counter, a place in the queue and an entry for each vertex; sets
+// stand at bases that the caller gives.
 mod counters;
 mod door;
 mod queue;

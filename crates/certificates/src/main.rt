@@ -1,6 +1,5 @@
 // The checker on the worked games: C10 and C11, and right results of C6 and C7. Each line is a name, then the number
-// and place
-// given back.
+// and place given back.
 use libc::STDOUT_FILENO;
 
 // C6: E2→1; O1→1.

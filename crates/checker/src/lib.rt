@@ -1,5 +1,5 @@
-// The certificate checker: two sets and a strategy, checked without trust in any solver. Yes, or the first of 21 to 24
-// that applies.
+// The certificate checker: two sets and a strategy, checked without trust in any solver. Yes, or the first of 21 to
+// 24 that applies.
 mod cycles;
 mod sides;
 

@@ -1,5 +1,5 @@
-// The kinds 21 to 23: the sets split the vertices, entries are edges of winners' own vertices, and edges stay on their
-// side.
+// The kinds 21 to 23: the sets split the vertices, entries are edges of winners' own vertices, and edges stay on
+// their side.
 use parity_game::Answer;
 use parity_game::VertexIndex;
 ghost use mathlib.Core.Path.{_≡_};

@@ -1,5 +1,5 @@
-// Priority compaction by document 01's rule: the priorities that are used, in order, get the lowest numbers that
-// keep order and parity. The rule itself is in `next_number` alone.
+// Priority compaction by document 01's rule: the priorities that are used, in order, get the lowest numbers that keep
+// order and parity. The rule itself is in `next_number` alone.
 use parity_game::Answer;
 ghost use mathlib.Core.List.{map};
 ghost use mathlib.Core.Path.{_≡_};

@@ -1,6 +1,5 @@
-// Document 01's run list for Zielonka on C6, whose W is 8·4·1 + 4·2 + 2·2 + 272 = 316 words: each line is a name, then
-// the
-// number, place and count given back.
+// Document 01's run list for Zielonka on C6, whose W is 8·4·1 + 4·2 + 2·2 + 272 = 316 words: each line is a name,
+// then the number, place and count given back.
 use libc::STDOUT_FILENO;
 
 fn report(name: &[u8], budget: u64, work: &mut [u64]) {

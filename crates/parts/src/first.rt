@@ -1,6 +1,5 @@
-// The first pass: a depth-first search along the links, with the stack in the work area. It writes the vertices in the
-// order in which
-// they finish.
+// The first pass: a depth-first search along the links, with the stack in the work area. It writes the vertices in
+// the order in which they finish.
 use crate::links;
 ghost use mathlib.Core.Path.{_≡_};
 ghost use Prim.Native.Nat.{_+_, _<_};

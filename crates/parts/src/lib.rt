@@ -1,7 +1,6 @@
 // Strongly connected parts in two passes, over one lent work area: the vertices that lie on a cycle of chosen edges
-// among vertices of
-// priority at most p that meets p exactly. One routine for solitaire and for the checker's kind 24, linear in vertices
-// and edges.
+// among vertices of priority at most p that meets p exactly. One routine for solitaire and for the checker's kind 24,
+// linear in vertices and edges.
 mod collect;
 mod first;
 mod links;
@@ -14,8 +13,7 @@ ghost use Rattle.parts.specs.Graph.{graph};
 ghost use Rattle.parts.specs.Whole.{Markable, Marked};
 
 // Marks those vertices in a row of n words from base on. The predecessor table stands at the front of the work area,
-// and six words for
-// each vertex behind it are used.
+// and six words for each vertex behind it are used.
 pub fn mark_parts(
     priorities: &[u16],
     offsets: &[u16],

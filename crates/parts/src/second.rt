@@ -1,6 +1,5 @@
 // The second pass: one part after another, from the last finished vertex to the first, by a search against the links.
-// It writes for each
-// vertex of priority at most p the label of its part.
+// It writes for each vertex of priority at most p the label of its part.
 use crate::links;
 ghost use mathlib.Core.Path.{_≡_};
 ghost use Prim.Native.Nat.{_+_, _<_};
@@ -17,8 +16,8 @@ fn put(work: &mut [u64], row: usize, x: usize, word: u64, queue: usize, at: usiz
     work[queue + at] = x as u64;
 }
 
-// Each vertex without a label that leads to w gets the label of r, and goes to the end of the queue. Gives the queue's
-// new end.
+// Each vertex without a label that leads to w gets the label of r, and goes to the end of the queue. Gives the
+// queue's new end.
 fn look_back(
     priorities: &[u16],
     offsets: &[u16],

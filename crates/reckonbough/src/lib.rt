@@ -1,5 +1,5 @@
-// The doors: every public function, exported for C and Rust. Each returns the number of document 01's table, 0 for
-// an answer, and writes place and count through the last two references. None has a `requires`.
+// The doors: every public function, exported for C and Rust. Each returns the number of document 01's table, 0 for an
+// answer, and writes place and count through the last two references. None has a `requires`.
 use parity_game::Answer;
 use parity_game::Player;
 ghost use mathlib.Core.Path.{_≡_};

@@ -1,6 +1,5 @@
 // What the general solvers share: the checks 1 to 10 in order, the first tables in the work area, what a run under a
-// budget gives, and
-// the strategy as it is written out.
+// budget gives, and the strategy as it is written out.
 mod area;
 mod checks;
 mod entries;

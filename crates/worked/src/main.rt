@@ -1,6 +1,5 @@
 // Document 01's table of worked games: name, winner of each vertex in order (0 Even, 1 Odd), calls. The column of
-// rounds joins it
-// with priority promotion.
+// rounds joins it with priority promotion.
 use libc::STDOUT_FILENO;
 
 // The winners of n vertices, from the word of Odd's set.

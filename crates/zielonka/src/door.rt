@@ -1,5 +1,5 @@
-// The public solver, for every input: it checks all that it takes, works in the first W words of the work area, writes only when it
-// answers, and leaves those words 0.
+// The public solver, for every input: it checks all that it takes, works in the first W words of the work area,
+// writes only when it answers, and leaves those words 0.
 use crate::recursion::zielonka_rec;
 use parity_game::Answer;
 use solver::Ran;

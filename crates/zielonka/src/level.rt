@@ -1,6 +1,5 @@
 // The pieces of a call, over the four sets of its level: V at `base`, then the attractor, then what Even and Odd win.
-// The next
-// level begins after them. `s` is the words of a set, `p` the highest priority in V.
+// The next level begins after them. `s` is the words of a set, `p` the highest priority in V.
 use crate::highest::collect;
 use crate::highest::extend_arbitrary;
 ghost use mathlib.Core.List.{List};
@@ -85,8 +84,8 @@ pub fn attract_highest(
     cut(owners, offsets, targets, (p % 2) as u8, s, work, base);
 }
 
-// B: the attractor of what the opponent of p's player won at the next level, for that opponent. V without B goes to the
-// next level.
+// B: the attractor of what the opponent of p's player won at the next level, for that opponent. V without B goes to
+// the next level.
 pub fn attract_lost(
     owners: &[u8],
     offsets: &[u16],
