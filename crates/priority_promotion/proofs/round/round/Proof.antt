@@ -1,0 +1,289 @@
+-- `round` meets its contract: each call finds what it asks for, and the three ways out are the three kinds of round.
+use mathlib.Core.Bool.{true, false}
+use mathlib.Core.List.{List}
+use mathlib.Core.Logic.{inr}
+use mathlib.Core.Path.{_≡_, refl, sym, _∙_}
+use Prim.Native.Nat.{ℕ}
+use native.Mathlib.Nat.{le-refl}
+use native.Mathlib.Omega.{arith}
+use lib.Dec.{eqb}
+use lib.ListN.{length}
+use Rattle.theory.specs.Basics.{count-le}
+use Rattle.priority_promotion.specs.Layout.{regionsAt}
+use Rattle.priority_promotion.specs.Regions.{regionAt}
+use Rattle.priority_promotion.specs.Query.{Queried}
+use Rattle.priority_promotion.specs.Round.{current-small, round-query, escapes, open-told, round-opens, round-promote-ready, promoted-same}
+use Rattle.priority_promotion.specs.Round.{round-promotes, round-dominion-ready, left-counted, round-solves}
+use borrow.Author.Needs.{needs}
+use Rattle.priority_promotion.proofs.round.round.Statement.{statement}
+use Rattle.priority_promotion.proofs.round.round.Tie as tie
+use Rattle.priority_promotion.proofs.round.round.Reads as reads
+use Rattle.priority_promotion.proofs.round.round.Lts as lts
+use Rattle.priority_promotion.proofs.dominion.solve_dominion.Reads as solve-dominion-reads
+use Rattle.priority_promotion.proofs.open.is_open.Reads as is-open-reads
+use Rattle.priority_promotion.proofs.promote.apply_priority_promotion.Reads as apply-priority-promotion-reads
+use Rattle.priority_promotion.proofs.promote.best_escape.Reads as best-escape-reads
+use Rattle.priority_promotion.proofs.query.query.Reads as query-reads
+use Rattle.priority_promotion.proofs.regions.next_priority.Reads as next-priority-reads
+
+-- where the function begins
+abbrev first : tie.After-query → tie.Start
+first c = c .before .before .before .before .before .before .before .before
+
+-- the query, where it is known whether R is open
+abbrev asked : tie.After-is-open → tie.After-query
+asked c = c .before .before .before .before
+
+queried :
+    (c : tie.After-query) →
+    let a = first c .args in
+    Queried (a .owners .now) (a .priorities .now) (a .offsets .now) (a .targets .now) (a .s) (a .state .current .0) (a .work .now) (c .query .last .1 .1 .1 .1 .1 .0)
+queried c = let g = first c in c .query .ensures (g .args .priorities .now) (g .pre .accepted)
+
+-- src/round.rt:39:19
+add-entries : tie.Need-add-entries
+add-entries c = search needs
+
+-- src/round.rt:39:19
+add-entries-2 : tie.Need-add-entries-2
+add-entries-2 c = search needs
+
+-- src/round.rt:39:19
+add-entries-3 : tie.Need-add-entries-3
+add-entries-3 c = search needs
+
+-- src/round.rt:39:19
+add-entries-4 : tie.Need-add-entries-4
+add-entries-4 c = search needs
+
+-- src/round.rt:40:20
+add-unsolved : tie.Need-add-unsolved
+add-unsolved c = search needs
+
+-- src/round.rt:41:16
+add-held : tie.Need-add-held
+add-held c = search needs
+
+-- src/round.rt:41:16
+add-held-2 : tie.Need-add-held-2
+add-held-2 c = search needs
+
+-- src/round.rt:42:26
+mul-regions : tie.Need-mul-regions
+mul-regions c = search needs
+
+-- src/round.rt:42:19
+add-regions : tie.Need-add-regions
+add-regions c = search needs
+
+-- src/round.rt:44:17
+cast-alpha : tie.Need-cast-alpha
+cast-alpha c = search needs
+
+-- src/round.rt:45:18
+add-rounds : tie.Need-add-rounds
+add-rounds c = search needs
+
+-- src/round.rt:46:5
+query-requires : tie.Need-query-requires
+query-requires c κs =
+    let g = c .before .before .before .before .before .before .before in
+    let a = g .args in
+    round-query (a .owners .now) (a .priorities .now) (a .offsets .now) (a .targets .now) (g .pre .accepted) (a .s) (g .pre .made)
+    (a .state .current .0) (a .state .unsolved) (a .work .now) (g .pre .shows)
+
+-- src/round.rt:47:8
+is-open-requires : tie.Need-is-open-requires
+is-open-requires c κs =
+    let q = c .before .before .before in
+    let g = first q in
+    let a = g .args in
+    escapes (a .owners .now) (a .priorities .now) (a .offsets .now) (a .targets .now) (g .pre .accepted) (a .s) (g .pre .made) (a .state .current .0) (a .state .unsolved) (a .work .now) (g .pre .shows) (queried q)
+
+-- src/round.rt:48:13
+next-priority-requires : tie.Need-next-priority-requires
+next-priority-requires c κs =
+    let q = asked (c .before .before) in
+    let g = first q in
+    let a = g .args in
+    let small = current-small (a .owners .now) (a .priorities .now) (a .offsets .now) (a .targets .now) (g .pre .accepted) (a .s) (g .pre .made)
+    (a .state .current .0) (a .state .unsolved) (a .work .now) (g .pre .shows) in
+    (queried q .ready .tallied, omega arith)
+
+-- src/round.rt:49:9
+same-length : tie.Need-same-length
+same-length c = search needs
+
+-- src/round.rt:49:9
+returns : tie.Need-returns
+returns c =
+    let d = c .before .before .before in
+    let q = asked d in
+    let g = first q in
+    let a = g .args in
+    record {
+      long = queried q .long;
+      counted = refl;
+      shown =
+          λ k sh.
+          round-opens (a .owners .now) (a .priorities .now) (a .offsets .now) (a .targets .now) (g .pre .accepted) (a .s) k (a .state .current .0) (a .state .unsolved) (a .work .now) sh (queried q)
+          (sym (open-told (a .owners .now) (a .priorities .now) (a .offsets .now) (a .targets .now) (g .pre .accepted) (a .s) k (a .state .current .0) (a .state .unsolved) (a .work .now) sh (queried q) (d .is-open .ensures)) ∙ c .before .before .if1 .taken) (c .next-priority .ensures);
+      rest = λ i l. queried q .rest i (omega arith) (inr l);
+    }
+
+-- src/round.rt:51:9
+best-escape-requires : tie.Need-best-escape-requires
+best-escape-requires c κs =
+    let q = asked (c .before .before) in
+    let g = first q in
+    let a = g .args in
+    escapes (a .owners .now) (a .priorities .now) (a .offsets .now) (a .targets .now) (g .pre .accepted) (a .s) (g .pre .made) (a .state .current .0) (a .state .unsolved) (a .work .now) (g .pre .shows) (queried q)
+
+-- src/round.rt:53:9
+apply-priority-promotion-requires : tie.Need-apply-priority-promotion-requires
+apply-priority-promotion-requires c κs =
+    let b = c .before .before in
+    let d = b .before .before .before in
+    let q = asked d in
+    let g = first q in
+    let a = g .args in
+    round-promote-ready (a .owners .now) (a .priorities .now) (a .offsets .now) (a .targets .now) (g .pre .accepted) (a .s) (g .pre .made) (a .state .current .0) (a .state .unsolved) (a .work .now) (g .pre .shows) (queried q)
+    (sym (open-told (a .owners .now) (a .priorities .now) (a .offsets .now) (a .targets .now) (g .pre .accepted) (a .s) (g .pre .made) (a .state .current .0) (a .state .unsolved) (a .work .now) (g .pre .shows) (queried q) (d .is-open .ensures)) ∙ b .before .before .if1 .left) (b .best-escape .ensures)
+
+-- src/round.rt:54:9
+same-length-2 : tie.Need-same-length-2
+same-length-2 c = search needs
+
+-- src/round.rt:54:9
+returns-2 : tie.Need-returns-2
+returns-2 c =
+    let e = c .before .before in
+    let b = e .before .before .before in
+    let d = b .before .before .before in
+    let q = asked d in
+    let g = first q in
+    let a = g .args in
+    let same =
+    promoted-same (a .owners .now) (a .priorities .now) (a .offsets .now) (a .targets .now) (g .pre .accepted) (a .s) (g .pre .made) (a .state .current .0) (a .state .unsolved) (a .work .now) (g .pre .shows) (queried q)
+    (sym (open-told (a .owners .now) (a .priorities .now) (a .offsets .now) (a .targets .now) (g .pre .accepted) (a .s) (g .pre .made) (a .state .current .0) (a .state .unsolved) (a .work .now) (g .pre .shows) (queried q) (d .is-open .ensures)) ∙ b .before .before .if1 .left) (b .best-escape .ensures)
+    (e .before .before .if2 .taken) (e .apply-priority-promotion .ensures) in
+    record {
+      long = same .0 ∙ queried q .long;
+      counted = refl;
+      shown =
+          λ k sh.
+          round-promotes (a .owners .now) (a .priorities .now) (a .offsets .now) (a .targets .now) (g .pre .accepted) (a .s) k (a .state .current .0) (a .state .unsolved) (a .work .now) sh (queried q)
+          (sym (open-told (a .owners .now) (a .priorities .now) (a .offsets .now) (a .targets .now) (g .pre .accepted) (a .s) k (a .state .current .0) (a .state .unsolved) (a .work .now) sh (queried q) (d .is-open .ensures)) ∙ b .before .before .if1 .left) (b .best-escape .ensures)
+          (e .before .before .if2 .taken) (e .apply-priority-promotion .ensures);
+      rest = λ i l. same .1 i l ∙ queried q .rest i (omega arith) (inr l);
+    }
+
+-- src/round.rt:56:5
+solve-dominion-requires : tie.Need-solve-dominion-requires
+solve-dominion-requires c κs =
+    let b = c .before .before in
+    let d = b .before .before .before in
+    let q = asked d in
+    let g = first q in
+    let a = g .args in
+    round-dominion-ready (a .owners .now) (a .priorities .now) (a .offsets .now) (a .targets .now) (g .pre .accepted) (a .s) (g .pre .made) (a .state .current .0) (a .state .unsolved) (a .work .now) (g .pre .shows) (queried q)
+    (sym (open-told (a .owners .now) (a .priorities .now) (a .offsets .now) (a .targets .now) (g .pre .accepted) (a .s) (g .pre .made) (a .state .current .0) (a .state .unsolved) (a .work .now) (g .pre .shows) (queried q) (d .is-open .ensures)) ∙ b .before .before .if1 .left) (b .best-escape .ensures)
+
+-- src/round.rt:57:25
+add-left : tie.Need-add-left
+add-left c =
+    let e = c .before .before in
+    let q = asked (e .before .before .before .before .before .before) in
+    omega (arith, e .solve-dominion .ensures .ready .tallied .room, e .solve-dominion .ensures .long, queried q .long, first q .good)
+
+-- src/round.rt:57:25
+add-left-2 : tie.Need-add-left-2
+add-left-2 c =
+    let e = c .before .before in
+    let q = asked (e .before .before .before .before .before .before) in
+    omega (arith, e .solve-dominion .ensures .ready .tallied .room, e .solve-dominion .ensures .long, queried q .long, first q .good)
+
+-- src/round.rt:57:20
+mul-left : tie.Need-mul-left
+mul-left c =
+    let e = c .before .before in
+    let q = asked (e .before .before .before .before .before .before) in
+    omega (arith, e .solve-dominion .ensures .ready .tallied .room, e .solve-dominion .ensures .long, queried q .long, first q .good)
+
+-- src/round.rt:57:20
+slice-read-left : tie.Need-slice-read-left
+slice-read-left c = search needs
+
+-- src/round.rt:57:16
+sub-left : tie.Need-sub-left
+sub-left c =
+    let e = c .before .before .before in
+    let a = first (asked (e .before .before .before .before .before .before)) .args in
+    let n = length (a .owners .now) in
+    let counted = e .solve-dominion .ensures .ready .tallied .counts 256 (le-refl 256) in
+    omega (arith, count-le n (λ v. eqb (regionAt (regionsAt n (length (a .targets .now)) (a .s)) (e .solve-dominion .last .1 .1 .1 .1 .1 .1 .0) v) 256))
+
+-- src/round.rt:58:9
+next-priority-requires-2 : tie.Need-next-priority-requires-2
+next-priority-requires-2 c κs = search needs
+
+-- src/round.rt:19:1
+same-length-3 : tie.Need-same-length-3
+same-length-3 c = search needs
+
+-- src/round.rt:19:1
+returns-3 : tie.Need-returns-3
+returns-3 c =
+    let e = c .before .before .before .before .before in
+    let b = e .before .before .before in
+    let d = b .before .before .before in
+    let q = asked d in
+    let g = first q in
+    let a = g .args in
+    record {
+      long = e .solve-dominion .ensures .long ∙ queried q .long;
+      counted = refl;
+      shown =
+          λ k sh.
+          let closed = sym (open-told (a .owners .now) (a .priorities .now) (a .offsets .now) (a .targets .now) (g .pre .accepted) (a .s) k (a .state .current .0) (a .state .unsolved) (a .work .now) sh (queried q) (d .is-open .ensures)) ∙ b .before .before .if1 .left in
+          let more = e .before .before .if2 .left in
+          round-solves (a .owners .now) (a .priorities .now) (a .offsets .now) (a .targets .now) (g .pre .accepted) (a .s) k (a .state .current .0) (a .state .unsolved) (a .work .now) sh (queried q)
+          closed (b .best-escape .ensures) more (e .solve-dominion .ensures) (c .next-priority2 .ensures)
+          (left-counted (a .owners .now) (a .priorities .now) (a .offsets .now) (a .targets .now) (g .pre .accepted) (a .s) k (a .state .current .0) (a .state .unsolved) (a .work .now) sh (queried q)
+          closed (b .best-escape .ensures) more (e .solve-dominion .ensures) refl);
+      rest = λ i l. e .solve-dominion .ensures .rest i l ∙ queried q .rest i (omega arith) (inr l);
+    }
+
+pub round-spec : {M : Type 1} → statement M
+round-spec =
+    tie.close
+    (tie.spec
+    add-entries
+    add-entries-2
+    add-entries-3
+    add-entries-4
+    add-unsolved
+    add-held
+    add-held-2
+    mul-regions
+    add-regions
+    cast-alpha
+    add-rounds
+    query-requires
+    is-open-requires
+    next-priority-requires
+    same-length
+    returns
+    best-escape-requires
+    apply-priority-promotion-requires
+    same-length-2
+    returns-2
+    solve-dominion-requires
+    add-left
+    add-left-2
+    mul-left
+    slice-read-left
+    sub-left
+    next-priority-requires-2
+    same-length-3
+    returns-3)

@@ -1,0 +1,253 @@
+-- A walk over the members of a set in the work area that changes each member it passes: members passed are changed, those still to come
+-- and the vertices outside the set are as they were. What is looked at of a vertex, and what a change is, the walk leaves open.
+use mathlib.Core.Bool.{Bool, true, false, cond}
+use mathlib.Core.List.{List, [], _∷_}
+use mathlib.Core.Logic.{_⊎_, inl, inr, ⊎-elim}
+use mathlib.Core.Path.{_≡_, refl, sym, ap, subst, _∙_}
+use Prim.Native.Nat.{ℕ, suc, _+_, _-_, _*_, _≤_, _<_}
+use native.Mathlib.Decide.{ℕ-discrete}
+use native.Mathlib.Omega.{arith}
+use borrow.Author.Tests.{eq-eqb, ne-eqb}
+use lib.Dec.{eqb}
+use lib.ListN.{length, getD, take, drop, length-take}
+use Rattle.rules.specs.Counting.{times}
+use Rattle.rules.specs.Tables.{words}
+use Rattle.rules.specs.Words.{bit, setOf}
+use Rattle.theory.specs.Basics.{bool-cases, clash}
+use Rattle.sets.specs.Laws.{bit-member, member-bit, times-members}
+use Rattle.sets.specs.Whole.{bit-lt}
+use Rattle.sets.specs.Walk.{members, left}
+use Rattle.sets.specs.declared.members.Members.{Members}
+use Rattle.attractor.specs.Area.{wordsAt, setAt}
+use Rattle.attractor.specs.Views.{part-is, words-alike, words-few}
+
+-- the words of a part, as the code has it, are those of the set
+pub lent-part : (n s a : ℕ) (xs : List ℕ) → s ≡ words n → take ((a + s) - a) (drop a xs) ≡ wordsAt n a xs
+lent-part n s a xs size = part-is a s xs ∙ ap (λ (k : ℕ). take k (drop a xs)) size
+
+-- how often each vertex stands in what is left
+times-next : (v x : ℕ) (l : List ℕ) → times v (x ∷ l) ≡ cond (eqb v x) 1 0 + times v l
+unfolding times
+times-next v x l = refl
+
+times-here : (v : ℕ) (l : List ℕ) → times v (v ∷ l) ≡ 1 + times v l
+times-here v l = times-next v v l ∙ ap (λ (t : Bool). cond t 1 0 + times v l) (eq-eqb v v refl)
+
+times-there : (v x : ℕ) (l : List ℕ) → (v ≡ x → ⊥) → times v (x ∷ l) ≡ times v l
+times-there v x l d = times-next v x l ∙ ap (λ (t : Bool). cond t 1 0 + times v l) (ne-eqb v x d) ∙ zero
+  where
+    zero : 0 + times v l ≡ times v l
+    zero = omega arith
+
+times-gone : (v : ℕ) → times v [] ≡ 0
+unfolding times
+times-gone v = refl
+
+-- what is left of the walk are members
+pub record Walking (xs : List ℕ) (walk : Members) : Type 0 where
+  pub at : walk .at ≤ 64
+  pub inside : (v : ℕ) → times v (left xs walk) ≤ bit xs v
+
+pub walking-start : (xs : List ℕ) (walk : Members) → left xs walk ≡ members xs → walk .at ≡ 0 → Walking xs walk
+walking-start xs walk e z =
+    record { at = omega arith; inside = λ v. omega (arith, ap (times v) e, times-members xs v) }
+
+module _ {xs : List ℕ} {walk : Members} (rest : Members) {v : ℕ} (w : Walking xs walk) (e : left xs walk ≡ v ∷ left xs rest) where
+  counted : times v (left xs walk) ≡ 1 + times v (left xs rest)
+  counted = ap (times v) e ∙ times-here v (left xs rest)
+
+  -- the next one is a member
+  pub next-member : setOf xs v ≡ true
+  next-member =
+      let inside = w .inside v in
+      let small = bit-lt xs v in
+      bit-member xs v (omega (arith, counted))
+
+  -- that does not come again
+  next-once : times v (left xs rest) ≡ 0
+  next-once =
+      let inside = w .inside v in
+      let small = bit-lt xs v in
+      omega (arith, counted)
+
+  next-other : (u : ℕ) → (u ≡ v → ⊥) → times u (left xs walk) ≡ times u (left xs rest)
+  next-other u d = ap (times u) e ∙ times-there u v (left xs rest) d
+
+  pub walking-next : rest .at ≤ 64 → Walking xs rest
+  walking-next l =
+      record {
+        at = l;
+        inside =
+            λ u.
+            let inside = w .inside u in omega (arith, ap (times u) e, times-next u v (left xs rest));
+      }
+
+  pub next-shorter : length (left xs rest) < length (left xs walk)
+  next-shorter = omega (arith, ap length e)
+
+-- the set at a base can be walked: s words of vertices below n, in words that no change touches
+pub record Walkable (n s base : ℕ) (Out : ℕ → Type 0) (work : List ℕ) : Type 0 where
+  pub size : s ≡ words n
+  pub few : n ≤ 4096
+  pub high : base + words n ≤ length work
+  pub below : (v : ℕ) → setAt n base work v ≡ true → v < n
+  pub out : (i : ℕ) → base ≤ i → i < base + words n → Out i
+
+-- the work area after a change: the words outside stay, and what is good stays good
+pub record Keeps (Out : ℕ → Type 0) (Good : List ℕ → Type 0) (before after : List ℕ) : Type 0 where
+  pub long : length after ≡ length before
+  pub rest : (i : ℕ) → Out i → getD after i 0 ≡ getD before i 0
+  pub good : Good after
+
+pub keeps-none : {Out : ℕ → Type 0} {Good : List ℕ → Type 0} {work : List ℕ} → Good work → Keeps Out Good work work
+keeps-none g = record { long = refl; rest = λ i o. refl; good = g }
+
+pub keeps-then : {Out : ℕ → Type 0} {Good : List ℕ → Type 0} {x y z : List ℕ} → Keeps Out Good x y → Keeps Out Good y z → Keeps Out Good x z
+keeps-then a b = record { long = b .long ∙ a .long; rest = λ i o. b .rest i o ∙ a .rest i o; good = b .good }
+
+-- one vertex is changed
+pub record Turn {C : Type 0} (n : ℕ) (Out : ℕ → Type 0) (Good : List ℕ → Type 0) (view : List ℕ → ℕ → C) (Does : ℕ → C → C → Type 0) (v : ℕ)
+    (before after : List ℕ) : Type 0 where
+  pub keeps : Keeps Out Good before after
+  pub here : Does v (view before v) (view after v)
+  pub there : (u : ℕ) → u < n → (u ≡ v → ⊥) → view after u ≡ view before u
+
+-- the walk has come to `walk`
+pub record WalkedTo {C : Type 0} (n base : ℕ) (Out : ℕ → Type 0) (Good : List ℕ → Type 0) (view : List ℕ → ℕ → C) (Does : ℕ → C → C → Type 0)
+    (before : List ℕ) (walk : Members) (work : List ℕ) : Type 0 where
+  pub walking : Walking (wordsAt n base before) walk
+  pub keeps : Keeps Out Good before work
+  pub seen :
+      (u : ℕ) →
+      setAt n base before u ≡ true →
+      times u (left (wordsAt n base before) walk) ≡ 0 →
+      Does u (view before u) (view work u)
+  pub unseen :
+      (u : ℕ) →
+      u < n →
+      (setAt n base before u ≡ false) ⊎ (0 < times u (left (wordsAt n base before) walk)) →
+      view work u ≡ view before u
+
+-- the walk is over
+pub record Walked {C : Type 0} (n base : ℕ) (Out : ℕ → Type 0) (Good : List ℕ → Type 0) (view : List ℕ → ℕ → C) (Does : ℕ → C → C → Type 0)
+    (before work : List ℕ) : Type 0 where
+  pub keeps : Keeps Out Good before work
+  pub inside : (u : ℕ) → setAt n base before u ≡ true → Does u (view before u) (view work u)
+  pub outside : (u : ℕ) → u < n → setAt n base before u ≡ false → view work u ≡ view before u
+
+module _ {C : Type 0} {n s base : ℕ} {Out : ℕ → Type 0} {Good : List ℕ → Type 0} {view : List ℕ → ℕ → C} {Does : ℕ → C → C → Type 0}
+    {before : List ℕ} (given : Walkable n s base Out before)
+  where
+    -- the walk begins
+    pub walked-none :
+        Good before →
+        (walk : Members) →
+        (left (take ((base + s) - base) (drop base before)) walk ≡ members (take ((base + s) - base) (drop base before))) ×
+        (walk .at ≡ 0) →
+        WalkedTo n base Out Good view Does before walk before
+    walked-none good walk first =
+        record {
+          walking = walking-start (wordsAt n base before) walk begins (first .1);
+          keeps = keeps-none good;
+          seen =
+              λ u m gone.
+              absurd
+              (let all = ap (times u) begins ∙ times-members (wordsAt n base before) u in
+              omega (arith, member-bit (wordsAt n base before) u m));
+          unseen = λ u l o. refl;
+        }
+      where
+        begins : left (wordsAt n base before) walk ≡ members (wordsAt n base before)
+        begins = rw (lent-part n s base before (given .size)) at (first .0)
+
+    module _ {walk : Members} {work : List ℕ} (c : WalkedTo n base Out Good view Does before walk work) where
+      -- the words of the set are as they were
+      pub walked-words : wordsAt n base work ≡ wordsAt n base before
+      walked-words =
+          words-alike n base before work (c .keeps .long)
+          (λ i l. c .keeps .rest (base + i) (given .out (base + i) (omega arith) (omega arith)))
+
+      pub walked-lent : take ((base + s) - base) (drop base work) ≡ wordsAt n base before
+      walked-lent = lent-part n s base work (given .size) ∙ walked-words
+
+      -- as a step of the walk asks
+      pub walked-few : (length (take ((base + s) - base) (drop base work)) ≤ 64) × (walk .at ≤ 64)
+      walked-few = (
+        rw walked-lent (let few = words-few n (given .few) in omega (arith, length-take (words n) (drop base before))),
+        c .walking .at,
+      )
+
+      pub walked-fits : base + s ≤ length work
+      walked-fits = omega (arith, given .size, given .high, c .keeps .long)
+
+      -- the walk is over
+      pub walked-all : left (take ((base + s) - base) (drop base work)) walk ≡ [] → Walked n base Out Good view Does before work
+      walked-all e =
+          record { keeps = c .keeps; inside = λ u m. c .seen u m (gone u); outside = λ u l m. c .unseen u l (inl m) }
+        where
+          gone : (u : ℕ) → times u (left (wordsAt n base before) walk) ≡ 0
+          gone u = ap (λ (xs : List ℕ). times u (left xs walk)) (sym walked-lent) ∙ ap (times u) e ∙ times-gone u
+
+      module _ (rest : Members) {v : ℕ}
+          (moved :
+          (left (take ((base + s) - base) (drop base work)) walk ≡ v ∷ left (take ((base + s) - base) (drop base work)) rest) ×
+          (rest .at ≤ 64))
+        where
+          next : left (wordsAt n base before) walk ≡ v ∷ left (wordsAt n base before) rest
+          next = rw walked-lent at (moved .0)
+
+          pub walked-member : setAt n base before v ≡ true
+          walked-member = next-member rest (c .walking) next
+
+          -- the next member is a vertex
+          pub walked-small : v < n
+          walked-small = given .below v walked-member
+
+          pub walked-shorter : length (left (wordsAt n base before) rest) < length (left (wordsAt n base before) walk)
+          walked-shorter = next-shorter rest (c .walking) next
+
+          -- it is as it was
+          pub walked-fresh : view work v ≡ view before v
+          walked-fresh = c .unseen v walked-small (inr (omega (arith, counted rest (c .walking) next)))
+
+          -- it is changed
+          pub walked-more : {after : List ℕ} → Turn n Out Good view Does v work after → WalkedTo n base Out Good view Does before rest after
+          walked-more {after} turn =
+              record {
+                walking = walking-next rest (c .walking) next (moved .1);
+                keeps = keeps-then (c .keeps) (turn .keeps);
+                seen = λ u m gone. changed u m gone (ℕ-discrete u v);
+                unseen = λ u l o. unchanged u l o (ℕ-discrete u v);
+              }
+            where
+              changed :
+                  (u : ℕ) →
+                  setAt n base before u ≡ true →
+                  times u (left (wordsAt n base before) rest) ≡ 0 →
+                  Dec (u ≡ v) →
+                  Does u (view before u) (view after u)
+              changed u m gone (yes e) =
+                  subst (λ (x : ℕ). Does x (view before x) (view after x)) (sym e)
+                  (subst (λ (x : C). Does v x (view after v)) walked-fresh (turn .here))
+              changed u m gone (no d) =
+                  subst (Does u (view before u)) (sym (turn .there u (given .below u m) d))
+                  (c .seen u m (next-other rest (c .walking) next u d ∙ gone))
+
+              unchanged :
+                  (u : ℕ) →
+                  u < n →
+                  (setAt n base before u ≡ false) ⊎ (0 < times u (left (wordsAt n base before) rest)) →
+                  Dec (u ≡ v) →
+                  view after u ≡ view before u
+              unchanged u l o (yes e) =
+                  absurd
+                  (⊎-elim
+                  (λ out. clash walked-member (ap (setAt n base before) (sym e) ∙ out))
+                  (λ more.
+                  let once = next-once rest (c .walking) next in
+                  let same = ap (λ (x : ℕ). times x (left (wordsAt n base before) rest)) e in
+                  omega arith)
+                  o)
+              unchanged u l o (no d) =
+                  turn .there u l d ∙
+                  c .unseen u l (⊎-elim inl (λ more. inr (omega (arith, next-other rest (c .walking) next u d))) o)
