@@ -9,7 +9,7 @@ use native.Mathlib.Omega.{arith}
 use lib.ListN.{length}
 use Rattle.rules.specs.Budget.{differentPriorities}
 use Rattle.rules.specs.Game.{Player, everywhere}
-use Rattle.rules.specs.Tables.{gameOf}
+use Rattle.rules.specs.Tables.{gameOf, tablesOf}
 use Rattle.rules.specs.Winning.{WinningSets, WinningEntries}
 use Rattle.rules.specs.Words.{noEntry, entry}
 use Rattle.rules.specs.Promotion.{afterRounds, roundsNeeded}
@@ -20,7 +20,6 @@ use Rattle.theory.specs.PromotionSound.{winning-sets-agree}
 use Rattle.theory.specs.Zielonka.{zielonka-wins}
 use Rattle.theory.specs.PromotionAccepted.{accepted-finishes, accepted-promotion-sets, accepted-promotion-entries}
 use Rattle.priority_promotion.specs.Layout.{entryOf}
-use Rattle.priority_promotion.specs.Query.{tablesOf}
 use Rattle.priority_promotion.specs.Solve.{Ended, none-left, ended-needed, ended-over}
 
 module _ (owners priorities offsets targets : List ℕ) (s : ℕ) {budget at many made : ℕ} {before after : List ℕ}

@@ -11,7 +11,7 @@ use lib.Dec.{eqb, ltb}
 use lib.ListN.{length, getD}
 use Rattle.rules.specs.Counting.{Set}
 use Rattle.rules.specs.Game.{Player, Even, Odd, Game, parity, playerOf, same}
-use Rattle.rules.specs.Tables.{Tables, words, gameOf, Accepted}
+use Rattle.rules.specs.Tables.{Tables, words, gameOf, Accepted, tablesOf}
 use Rattle.rules.specs.Words.{noEntry}
 use Rattle.rules.specs.Attractor.{attractor}
 use Rattle.rules.specs.Promotion.{unsolved}
@@ -31,7 +31,7 @@ use Rattle.priority_promotion.specs.Promotion.{promote-ready, promoted-l
 use Rattle.priority_promotion.specs.Promotion.{promoted-entry}
 use Rattle.priority_promotion.specs.Layout.{lowerAt, heldAt, evenAt, oddAt, regionsAt, tableAt, table-below, entryOf, Ready, unsolved-small}
 use Rattle.priority_promotion.specs.Pulled.{Pulled, pulled-as}
-use Rattle.priority_promotion.specs.Query.{tablesOf, tallied-kept}
+use Rattle.priority_promotion.specs.Query.{tallied-kept}
 
 -- where what a player has won stands
 abbrev pub wonAt : ℕ → ℕ → ℕ → Player → ℕ

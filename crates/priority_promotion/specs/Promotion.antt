@@ -10,7 +10,7 @@ use borrow.Author.Tests.{lt-ltb, le-ltb, ltb-false}
 use lib.Dec.{ltb}
 use lib.ListN.{length, getD}
 use Rattle.rules.specs.Counting.{Set}
-use Rattle.rules.specs.Tables.{Tables, words, Accepted}
+use Rattle.rules.specs.Tables.{Tables, words, Accepted, tablesOf}
 use Rattle.rules.specs.Words.{noEntry}
 use Rattle.theory.specs.Basics.{bool-cases, and-false-cases, clash}
 use Rattle.theory.specs.Tables.{accepted-sound}
@@ -22,7 +22,6 @@ use Rattle.priority_promotion.specs.SetsAt.{set-kept}
 use Rattle.priority_promotion.specs.Cells.{Aside}
 use Rattle.priority_promotion.specs.Promoting.{PromoteAll, PromoteAllOf, PromotedAll, PromotedAllOf}
 use Rattle.priority_promotion.specs.Layout.{lowerAt, heldAt, evenAt, regionsAt, tableAt, table-below, entryOf, Ready, unsolved-small}
-use Rattle.priority_promotion.specs.Query.{tablesOf}
 
 module _ (owners priorities offsets targets : List ℕ) (ok : Accepted (tablesOf owners priorities offsets targets)) (q s : ℕ) (w0 : List ℕ)
     (ready : Ready (length owners) offsets targets s w0) (most : q ≤ 256)

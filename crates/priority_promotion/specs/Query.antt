@@ -11,7 +11,7 @@ use lib.Dec.{eqb, leb, ltb}
 use lib.ListN.{length, getD}
 use Rattle.rules.specs.Counting.{Set, count, someOf}
 use Rattle.rules.specs.Game.{Player, Game, Edge, parity}
-use Rattle.rules.specs.Tables.{Tables, words, gameOf, Accepted}
+use Rattle.rules.specs.Tables.{Tables, words, gameOf, Accepted, tablesOf}
 use Rattle.rules.specs.Words.{noEntry, setOf}
 use Rattle.rules.specs.Attractor.{attractor}
 use Rattle.rules.specs.Promotion.{unsolved}
@@ -32,9 +32,6 @@ use Rattle.priority_promotion.specs.Sorting.{Collects, Collected}
 use Rattle.priority_promotion.specs.Settling.{SettleAll, SettledAll}
 use Rattle.priority_promotion.specs.Layout.{lowerAt, heldAt, evenAt, regionsAt, tableAt, table-below, table-above, entryOf, Ready, unsolved-small}
 use Rattle.priority_promotion.specs.Pulled.{Pulled, pulled-as, owner-number}
-
-abbrev pub tablesOf : List ℕ → List ℕ → List ℕ → List ℕ → Tables
-tablesOf owners priorities offsets targets = record { owners = owners; priorities = priorities; offsets = offsets; targets = targets }
 
 -- what `query` asks for: the tables are accepted with some priorities
 pub record QueryReady (owners offsets targets : List ℕ) (s p : ℕ) (work : List ℕ) : Type 0 where

@@ -11,7 +11,7 @@ use lib.Dec.{eqb, ltb}
 use lib.ListN.{length, getD}
 use Rattle.rules.specs.Counting.{Set, count, some, someOf, lowest, greatest}
 use Rattle.rules.specs.Game.{Player, Even, Odd, Game, Total, Edge, parity, same}
-use Rattle.rules.specs.Tables.{Tables, words, gameOf, Accepted}
+use Rattle.rules.specs.Tables.{Tables, words, gameOf, Accepted, tablesOf}
 use Rattle.rules.specs.Words.{noEntry}
 use Rattle.rules.specs.Promotion.{Regions, unsolved, highestRegion, regionSet, isOpen, wayOut, roundOf, afterRounds}
 use Rattle.theory.specs.Basics.{bool-cases, clash, not-true-is-false, and-intro, and-left, and-right, lt-or-ge, some-intro, some-elim, false-some, some-cong, someOf-cong, someOf-intro, someOf-elim, same-false, false-same, lowest-none, lowest-unique, within-below, within-above, count-cong}
@@ -30,7 +30,7 @@ use Rattle.priority_promotion.specs.Opening.{opensAt, isOpenAt}
 use Rattle.priority_promotion.specs.Escapes.{Escapes, LowestAbove, Reaches}
 use Rattle.priority_promotion.specs.Layout.{lowerAt, heldAt, evenAt, regionsAt, tableAt, table-below, table-above, entryOf, Ready, unsolved-small}
 use Rattle.priority_promotion.specs.Pulled.{owner-test, owner-number, number-owner}
-use Rattle.priority_promotion.specs.Query.{tablesOf, QueryReady, Queried}
+use Rattle.priority_promotion.specs.Query.{QueryReady, Queried}
 use Rattle.priority_promotion.specs.Promoting.{PromoteAll, PromotedAll}
 use Rattle.priority_promotion.specs.Promotion.{promote-ready, promoted-long, promoted-tallied, promoted-sets, promoted-listed, promoted-region}
 use Rattle.priority_promotion.specs.Promotion.{promoted-entry}

@@ -3,11 +3,10 @@ use mathlib.Core.List.{List}
 use mathlib.Core.Path.{_≡_, _∙_}
 use Prim.Native.Nat.{ℕ, _+_, _≤_, _<_}
 use lib.ListN.{length, getD}
-use Rattle.rules.specs.Tables.{gameOf, Accepted}
+use Rattle.rules.specs.Tables.{gameOf, Accepted, tablesOf}
 use Rattle.rules.specs.Promotion.{roundOf, afterRounds}
 use Rattle.theory.specs.PromotionEntries.{RoundEntries}
 use Rattle.priority_promotion.specs.Layout.{regionsAt, entryOf}
-use Rattle.priority_promotion.specs.Query.{tablesOf}
 use Rattle.priority_promotion.specs.Round.{Shows}
 
 -- the work area and the small state show the state after some number of rounds

@@ -13,13 +13,12 @@ use lib.Dec.{ltb}
 use lib.ListN.{length, getD}
 use Rattle.rules.specs.Counting.{Set, count, some, lowest}
 use Rattle.rules.specs.Game.{Game}
-use Rattle.rules.specs.Tables.{Tables, gameOf, Accepted}
+use Rattle.rules.specs.Tables.{Tables, gameOf, Accepted, tablesOf}
 use Rattle.rules.specs.Promotion.{Regions, unsolved, atStart, roundOf, afterRounds, allSolved, roundsNeeded}
 use Rattle.theory.specs.Basics.{some-intro, false-some, count-zero, count-some, count-cong, lowest-unique, lowest-none, IsLowest}
 use Rattle.theory.specs.PromotionEntries.{Rounded, starts, rounds}
 use Rattle.attractor.specs.Area.{free, setAt}
 use Rattle.priority_promotion.specs.Layout.{regionsAt, tableAt, table-below, entryOf}
-use Rattle.priority_promotion.specs.Query.{tablesOf}
 use Rattle.priority_promotion.specs.Round.{Shows}
 use Rattle.priority_promotion.specs.Rounds.{RoundReady, RoundDone}
 

@@ -5,11 +5,11 @@ use sets::Members;
 use sets::Next;
 ghost use mathlib.Core.List.{List};
 ghost use Prim.Native.Nat.{ℕ};
-ghost use Rattle.rules.specs.Tables.{Accepted};
+ghost use Rattle.rules.specs.Tables.{Accepted, tablesOf};
 ghost use Rattle.attractor.specs.Counters.{EdgesOf};
 ghost use Rattle.priority_promotion.specs.Edges.{FoundIn};
 ghost use Rattle.priority_promotion.specs.Sorting.{Sortable, Sorted, Collects, Collected};
-ghost use Rattle.priority_promotion.specs.Query.{tablesOf, QueryReady, Queried};
+ghost use Rattle.priority_promotion.specs.Query.{QueryReady, Queried};
 ghost use Rattle.priority_promotion.specs.Settling.{Settleable, Settled, SettleAll, SettledAll};
 
 // v goes into X where its region is at most p, and into R where it is p.
