@@ -145,19 +145,20 @@ module _ (priorities : List ℕ) (m s : ℕ) (w0 : List ℕ) (given : Beginnable
         entry v l (yes e) = ap (λ (x : ℕ). getD next (E + x) 0) e ∙ ch .entry-here
         entry v l (no d) = ch .entry-there v (omega arith) d ∙ b .entry v (omega (arith, d))
 
--- what `begin` leaves
-pub record Begun (priorities : List ℕ) (m s : ℕ) (before after : List ℕ) (current : ℕ) : Type 0 where
+-- what `begin` leaves, for n vertices
+pub record BegunOf (n : ℕ) (priorities : List ℕ) (m s : ℕ) (before after : List ℕ) (current : ℕ) : Type 0 where
   pub long : length after ≡ length before
-  pub tallied : Tallied (length priorities) (regionsAt (length priorities) m s) after
-  pub region : (v : ℕ) → v < length priorities → regionAt (regionsAt (length priorities) m s) after v ≡ getD priorities v 0
-  pub entry : (v : ℕ) → v < length priorities → getD after (entries (length priorities) m + v) 0 ≡ noEntry
-  pub highest : current ≡ highestUnder (length priorities) (regionsAt (length priorities) m s) 256 after
-  pub zeros : (i : ℕ) → lowerAt (length priorities) m s ≤ i → i < regionsAt (length priorities) m s → getD after i 0 ≡ 0
-  pub front : (i : ℕ) → i < entries (length priorities) m → getD after i 0 ≡ getD before i 0
-  pub unsolved :
-      (i : ℕ) → entries (length priorities) m + length priorities ≤ i → i < lowerAt (length priorities) m s → getD after i 0 ≡ getD before i 0
-  pub rest :
-      (i : ℕ) → regionsAt (length priorities) m s + length priorities + 257 ≤ i → getD after i 0 ≡ getD before i 0
+  pub tallied : Tallied n (regionsAt n m s) after
+  pub region : (v : ℕ) → v < n → regionAt (regionsAt n m s) after v ≡ getD priorities v 0
+  pub entry : (v : ℕ) → v < n → getD after (entries n m + v) 0 ≡ noEntry
+  pub highest : current ≡ highestUnder n (regionsAt n m s) 256 after
+  pub zeros : (i : ℕ) → lowerAt n m s ≤ i → i < regionsAt n m s → getD after i 0 ≡ 0
+  pub front : (i : ℕ) → i < entries n m → getD after i 0 ≡ getD before i 0
+  pub unsolved : (i : ℕ) → entries n m + n ≤ i → i < lowerAt n m s → getD after i 0 ≡ getD before i 0
+  pub rest : (i : ℕ) → regionsAt n m s + n + 257 ≤ i → getD after i 0 ≡ getD before i 0
+
+abbrev pub Begun : List ℕ → ℕ → ℕ → List ℕ → List ℕ → ℕ → Type 0
+Begun priorities = BegunOf (length priorities) priorities
 
 module _ (priorities : List ℕ) (m s : ℕ) (w0 : List ℕ) (given : Beginnable priorities m s w0) {w1 : List ℕ}
     (c : Cleared (lowerAt (length priorities) m s) (4 * s + length priorities + 257) w0 w1) {i : ℕ} {after : List ℕ}

@@ -19,3 +19,4 @@ pub mod Rounds
 pub mod Solve
 pub mod Conclusions
 pub mod Beginning
+pub mod Starting
