@@ -72,6 +72,21 @@ set-kept n base before after same =
     (set-past n base after)
     (set-past n base before)
 
+-- a set whose words are 0
+pub set-zeros :
+    (n base : ℕ) (work : List ℕ) →
+    ((i : ℕ) → base ≤ i → i < base + words n → getD work i 0 ≡ 0) →
+    (v : ℕ) →
+    setAt n base work v ≡ false
+set-zeros n base work zeros =
+    by-words n (setAt n base work) (λ v. false)
+    (λ v l.
+    set-word n base work v l ∙
+    ap (λ (x : ℕ). eqb (digit x (v % 64)) 1) (zeros (base + v / 64) (omega arith) (omega arith)) ∙
+    ap (λ (x : ℕ). eqb x 1) (digit-zero (v % 64)))
+    (set-past n base work)
+    (λ v h. refl)
+
 -- a set whose words are cleared
 pub set-cleared :
     (n at s base : ℕ) {before after : List ℕ} →
@@ -81,13 +96,7 @@ pub set-cleared :
     (v : ℕ) →
     setAt n base after v ≡ false
 set-cleared n at s base {after} c low high =
-    by-words n (setAt n base after) (λ v. false)
-    (λ v l.
-    set-word n base after v l ∙
-    ap (λ (x : ℕ). eqb (digit x (v % 64)) 1) (c .zeros (base + v / 64) (omega arith) (omega arith)) ∙
-    ap (λ (x : ℕ). eqb x 1) (digit-zero (v % 64)))
-    (set-past n base after)
-    (λ v h. refl)
+    set-zeros n base after (λ i l h. c .zeros i (omega arith) (omega arith))
 
 -- the set at an offset of k words
 offset-set : (base k : ℕ) (xs : List ℕ) (v : ℕ) → setOf (drop (base + k) xs) v ≡ setOf (drop base xs) (64 * k + v)

@@ -50,7 +50,7 @@ walking-start xs walk e z =
     record { at = omega arith; inside = λ v. omega (arith, ap (times v) e, times-members xs v) }
 
 module _ {xs : List ℕ} {walk : Members} (rest : Members) {v : ℕ} (w : Walking xs walk) (e : left xs walk ≡ v ∷ left xs rest) where
-  counted : times v (left xs walk) ≡ 1 + times v (left xs rest)
+  pub counted : times v (left xs walk) ≡ 1 + times v (left xs rest)
   counted = ap (times v) e ∙ times-here v (left xs rest)
 
   -- the next one is a member
@@ -66,6 +66,9 @@ module _ {xs : List ℕ} {walk : Members} (rest : Members) {v : ℕ} (w : Walkin
       let inside = w .inside v in
       let small = bit-lt xs v in
       omega (arith, counted)
+
+  pub next-other : (u : ℕ) → (u ≡ v → ⊥) → times u (left xs walk) ≡ times u (left xs rest)
+  next-other u d = ap (times u) e ∙ times-there u v (left xs rest) d
 
   pub walking-next : rest .at ≤ 64 → Walking xs rest
   walking-next l =

@@ -25,7 +25,7 @@ use Rattle.attractor.specs.Area.{entries, free, setAt, wordsAt}
 use Rattle.attractor.specs.Attracted.{Attractable, Attracted}
 use Rattle.attractor.specs.Running.{listed-kept}
 use Rattle.priority_promotion.specs.Regions.{regionAt, Tallied, Elsewhere}
-use Rattle.priority_promotion.specs.SetsAt.{set-kept, set-united, set-reduced}
+use Rattle.attractor.specs.SetsAt.{set-kept, set-united, set-reduced}
 use Rattle.priority_promotion.specs.Promoting.{PromoteAll, PromotedAll}
 use Rattle.priority_promotion.specs.Promotion.{promote-ready, promoted-long, promoted-tallied, promoted-sets, promoted-listed, promoted-region}
 use Rattle.priority_promotion.specs.Promotion.{promoted-entry}

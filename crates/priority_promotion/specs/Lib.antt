@@ -8,7 +8,6 @@ pub mod Settling
 pub mod Promoting
 pub mod Escapes
 pub mod Opening
-pub mod SetsAt
 pub mod Layout
 pub mod Pulled
 pub mod Query
@@ -20,3 +19,4 @@ pub mod Solve
 pub mod Conclusions
 pub mod Beginning
 pub mod Starting
+pub mod Running

@@ -18,7 +18,7 @@ use Rattle.attractor.specs.Area.{entries, free, setAt, wordsAt}
 use Rattle.attractor.specs.Attracted.{Listed}
 use Rattle.attractor.specs.Running.{listed-kept}
 use Rattle.priority_promotion.specs.Regions.{regionAt, Tallied, Elsewhere}
-use Rattle.priority_promotion.specs.SetsAt.{set-kept}
+use Rattle.attractor.specs.SetsAt.{set-kept}
 use Rattle.priority_promotion.specs.Cells.{Aside}
 use Rattle.priority_promotion.specs.Promoting.{PromoteAll, PromoteAllOf, PromotedAll, PromotedAllOf}
 use Rattle.priority_promotion.specs.Layout.{lowerAt, heldAt, evenAt, regionsAt, tableAt, table-below, entryOf, Ready, unsolved-small}

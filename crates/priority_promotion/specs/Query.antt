@@ -26,7 +26,7 @@ use Rattle.attractor.specs.Area.{entries, free, setAt, wordsAt}
 use Rattle.attractor.specs.Attracted.{Attractable, Attracted}
 use Rattle.attractor.specs.Running.{listed-kept}
 use Rattle.priority_promotion.specs.Regions.{regionAt, Tallied, Elsewhere}
-use Rattle.priority_promotion.specs.SetsAt.{set-kept, set-cleared}
+use Rattle.attractor.specs.SetsAt.{set-kept, set-cleared}
 use Rattle.priority_promotion.specs.Cells.{Aside, Between, between-words}
 use Rattle.priority_promotion.specs.Sorting.{Collects, Collected}
 use Rattle.priority_promotion.specs.Settling.{SettleAll, SettledAll}

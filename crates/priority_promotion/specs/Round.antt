@@ -25,7 +25,7 @@ use Rattle.theory.specs.PromotionTable.{openAt, leadsUp, nextAbove, nextBelow, 
 use Rattle.theory.specs.PromotionTable.{table-opens, table-promotes, table-solves, promoted-entries-read, solved-entries-read}
 use Rattle.attractor.specs.Area.{entries, free, setAt}
 use Rattle.priority_promotion.specs.Regions.{regionAt, Tallied, Elsewhere, highestUnder}
-use Rattle.priority_promotion.specs.SetsAt.{set-kept}
+use Rattle.attractor.specs.SetsAt.{set-kept}
 use Rattle.priority_promotion.specs.Opening.{opensAt, isOpenAt}
 use Rattle.priority_promotion.specs.Escapes.{Escapes, LowestAbove, Reaches}
 use Rattle.priority_promotion.specs.Layout.{lowerAt, heldAt, evenAt, regionsAt, tableAt, table-below, table-above, entryOf, Ready, unsolved-small}

@@ -22,7 +22,7 @@ use Rattle.attractor.specs.Area.{entries, free, setAt}
 use Rattle.attractor.specs.Attracted.{Listed}
 use Rattle.attractor.specs.Running.{listed-kept}
 use Rattle.priority_promotion.specs.Regions.{regionAt, highestUnder}
-use Rattle.priority_promotion.specs.SetsAt.{set-kept, set-zeros}
+use Rattle.attractor.specs.SetsAt.{set-kept, set-zeros}
 use Rattle.priority_promotion.specs.Layout.{lowerAt, heldAt, evenAt, oddAt, regionsAt, tableAt, table-below, entryOf, accepted-edges}
 use Rattle.priority_promotion.specs.Dominion.{wonAt}
 use Rattle.priority_promotion.specs.Beginning.{Beginnable, Begun, BegunOf}

@@ -6,8 +6,8 @@ ghost use mathlib.Core.Path.{_≡_};
 ghost use lib.ListN.{length};
 ghost use Rattle.priority_promotion.specs.Beginning.{Beginnable, Begun};
 
-// Each vertex has its priority as region and no entry, and nobody has won anything. The table of predecessors and the set of
-// unsolved vertices stand already.
+// Each vertex has its priority as region and no entry, and nobody has won anything. The table of predecessors and the
+// set of unsolved vertices stand already.
 pub fn begin(priorities: &[u16], m: usize, s: usize, work: &mut [u64]) -> State
     requires { ⌜ Beginnable (now priorities) m s (now work) ⌝ }
     ensures { λ r.

@@ -19,7 +19,8 @@ pub fn is_open(
 ) -> bool
     requires { ⌜ Escapes (now owners) (now offsets) (now targets) s held regions (now work) ⌝ }
     ensures { λ r.
-        ⌜ r ≡ isOpenAt (now (owners .entry)) (now (offsets .entry)) (now (targets .entry)) alpha p held regions (now (work .entry)) ⌝ }
+        ⌜ r ≡ isOpenAt (now (owners .entry)) (now (offsets .entry)) (now (targets .entry)) alpha p held regions
+        (now (work .entry)) ⌝ }
 {
     let mut walk = Members::new(&work[held..held + s]);
     'vertices: loop {

@@ -47,7 +47,8 @@ pub fn best_escape(
 ) -> usize
     requires { ⌜ Escapes (now owners) (now offsets) (now targets) s held regions (now work) ⌝ }
     ensures { λ r.
-        ⌜ LowestAbove (now (owners .entry)) (now (offsets .entry)) (now (targets .entry)) alpha p held regions (now (work .entry)) r ⌝ }
+        ⌜ LowestAbove (now (owners .entry)) (now (offsets .entry)) (now (targets .entry)) alpha p held regions
+        (now (work .entry)) r ⌝ }
 {
     let mut lowest = 256;
     let mut walk = Members::new(&work[held..held + s]);
@@ -76,7 +77,8 @@ fn promote_vertex(
     v: usize,
 )
     requires { ⌜ Promotable (now priorities) q s held regions entries v (now work) ⌝ }
-    ensures { λ r. ⌜ Promoted (now (priorities .entry)) q held regions entries v (now (work .entry)) (now (work .exit)) ⌝ }
+    ensures { λ r.
+        ⌜ Promoted (now (priorities .entry)) q held regions entries v (now (work .entry)) (now (work .exit)) ⌝ }
 {
     if sets::contains(&work[held..held + s], v) {
         set_region(priorities.len(), work, regions, v, Priority(q));
@@ -100,7 +102,9 @@ pub fn apply_priority_promotion(
     entries: usize,
 )
     requires { ⌜ PromoteAll (now priorities) q s unsolved held regions entries (now work) ⌝ }
-    ensures { λ r. ⌜ PromotedAll (now (priorities .entry)) q unsolved held regions entries (now (work .entry)) (now (work .exit)) ⌝ }
+    ensures { λ r.
+        ⌜ PromotedAll (now (priorities .entry)) q unsolved held regions entries
+        (now (work .entry)) (now (work .exit)) ⌝ }
 {
     let mut walk = Members::new(&work[unsolved..unsolved + s]);
     loop {

@@ -150,7 +150,8 @@ pub fn query(owners: &[u8], offsets: &[u16], targets: &[u16], p: usize, s: usize
     ensures { λ r.
         ⌜ ((priorities : List ℕ) →
         Accepted (tablesOf (now (owners .entry)) priorities (now (offsets .entry)) (now (targets .entry))) →
-        Queried (now (owners .entry)) priorities (now (offsets .entry)) (now (targets .entry)) s p (now (work .entry)) (now (work .exit))) ⌝ }
+        Queried (now (owners .entry)) priorities (now (offsets .entry)) (now (targets .entry)) s p
+        (now (work .entry)) (now (work .exit))) ⌝ }
 {
     let n = owners.len();
     let m = targets.len();

@@ -3,4 +3,5 @@ pub mod Checks
 pub mod Preparing
 pub mod Entries
 pub mod Running
+pub mod Outputs
 pub mod Promises

@@ -3,9 +3,11 @@
 mod area;
 mod checks;
 mod entries;
+mod outputs;
 mod ran;
 
 pub use area::prepare;
 pub use checks::check_all;
 pub use entries::write_strategy;
+pub use outputs::write_out;
 pub use ran::Ran;

@@ -1,0 +1,173 @@
+-- `run` meets its contract: the rounds from the first state are those of the rules, and what they found is written out.
+use mathlib.Core.Path.{_≡_, refl, sym, subst, _∙_}
+use Prim.Native.Nat.{ℕ, _+_, _≤_, _<_}
+use native.Mathlib.Omega.{arith}
+use lib.ListN.{length}
+use Rattle.rules.specs.Tables.{Tables, words, tablesOf}
+use Rattle.theory.specs.Tables.{accepted-sound}
+use Rattle.attractor.specs.Views.{words-few}
+use Rattle.solver.specs.Running.{all-zero}
+use Rattle.solver.specs.Outputs.{Found, found-writable, found-finished}
+use Rattle.priority_promotion.specs.Layout.{evenAt}
+use Rattle.priority_promotion.specs.Solve.{Reached}
+use Rattle.priority_promotion.specs.Running.{wonIn, run-preparable, run-beginnable, run-reached, run-over, run-rounds, run-found}
+use borrow.Author.Needs.{needs}
+use Rattle.priority_promotion.proofs.door.run.Statement.{statement}
+use Rattle.priority_promotion.proofs.door.run.Tie as tie
+
+-- the tables, and where the function begins
+abbrev tables : tie.Start → Tables
+tables g = tablesOf (g .args .owners .now) (g .args .priorities .now) (g .args .offsets .now) (g .args .targets .now)
+
+-- there are few vertices, edges and words
+few : (g : tie.Start) → (length (g .args .owners .now) ≤ 4096) × (length (g .args .targets .now) ≤ 16384) × (words (length (g .args .owners .now)) ≤ 64)
+few g =
+    let f = accepted-sound (tables g) (g .pre .accepted) in
+    (f .few-vertices, f .few-edges, words-few (length (g .args .owners .now)) (f .few-vertices))
+
+abbrev start : tie.After-struct-known → tie.Start
+start d = d .before .before .before .before .before .before .before .before .before .before .before .before .before .before .before .before .before .before .before .before .before .before
+
+-- the work area is as long as it was
+kept-long : (d : tie.After-struct-known) → length (d .before .before .before .solve .last .1 .1 .1 .1 .1 .1 .0) ≡ length (start d .args .work .now)
+kept-long d =
+    d .before .before .before .solve .ensures .long ∙ d .before .before .before .before .before .before .before .begin .ensures .0 .long ∙ d .before .before .before .before .before .before .before .before .before .before .before .prepare .ensures .long
+
+-- where all are solved, the rounds have found what is to be written
+found :
+    (d : tie.After-struct-known) →
+    d .before .before .before .solve .result .unsolved ≡ 0 →
+    let g = start d in
+    Found (tables g) (wonIn (tables g) (g .args .budget)) (d .before .before .before .before .before .before .before .before .before .before .before .before .before .set-words .result)
+    (evenAt (length (g .args .owners .now)) (length (g .args .targets .now)) (d .before .before .before .before .before .before .before .before .before .before .before .before .before .set-words .result))
+    (d .before .before .before .solve .last .1 .1 .1 .1 .1 .1 .0)
+found d z =
+    let a = start d .args in
+    run-found (a .owners .now) (a .priorities .now) (a .offsets .now) (a .targets .now) (d .before .before .before .solve .ensures) z
+
+set-words-requires : tie.Need-set-words-requires
+set-words-requires c κs = search needs
+
+add-entries : tie.Need-add-entries
+add-entries c = search needs
+
+add-entries-2 : tie.Need-add-entries-2
+add-entries-2 c = search needs
+
+add-entries-3 : tie.Need-add-entries-3
+add-entries-3 c = search needs
+
+add-entries-4 : tie.Need-add-entries-4
+add-entries-4 c = search needs
+
+add-unsolved : tie.Need-add-unsolved
+add-unsolved c = omega (arith, few (c .before .before .before .before .before .before .before .before .before))
+
+prepare-requires : tie.Need-prepare-requires
+prepare-requires c κs =
+    let g = c .before .before .before .before .before .before .before .before .before .before in
+    run-preparable (g .args .owners .now) (g .args .priorities .now) (g .args .offsets .now) (g .args .targets .now) (g .pre .accepted) (c .before .set-words .result) (c .before .set-words .ensures) (g .args .work .now) (g .pre .room)
+
+begin-requires : tie.Need-begin-requires
+begin-requires c κs =
+    let g = c .before .before .before .before .before .before .before .before .before .before .before .before .before .before in
+    run-beginnable (g .args .owners .now) (g .args .priorities .now) (g .args .offsets .now) (g .args .targets .now) (g .pre .accepted) (c .before .before .before .before .before .set-words .result) (c .before .before .before .before .before .set-words .ensures) (g .args .work .now) (g .pre .room)
+    (c .before .before .before .prepare .ensures)
+
+solve-requires : tie.Need-solve-requires
+solve-requires c κs =
+    let g = c .before .before .before .before .before .before .before .before .before .before .before .before .before .before .before .before .before .before in
+    let begun = c .before .before .before .begin .ensures in (
+      subst
+          (λ (k : ℕ). Reached (g .args .owners .now) (g .args .priorities .now) (g .args .offsets .now) (g .args .targets .now) (c .before .before .before .before .before .before .before .before .before .set-words .result) (c .before .before .before .begin .result .current .0) (c .before .before .before .begin .result .unsolved) k (c .before .before .before .begin .last .1 .1 .1 .0))
+          (sym (begun .2))
+          (run-reached (g .args .owners .now) (g .args .priorities .now) (g .args .offsets .now) (g .args .targets .now) (g .pre .accepted) (c .before .before .before .before .before .before .before .before .before .set-words .result) (c .before .before .before .before .before .before .before .before .before .set-words .ensures) (g .args .work .now) (g .pre .room)
+          (c .before .before .before .before .before .before .before .prepare .ensures) (begun .0) (begun .1)),
+      omega (arith, begun .2),
+    )
+
+clear-requires : tie.Need-clear-requires
+clear-requires c κs = search needs
+
+same-length : tie.Need-same-length
+same-length c = search needs
+
+returns : tie.Need-returns
+returns c =
+    let d = c .before .before .before .before .before in
+    let g = start d in (
+      all-zero (g .args .work .now) (d .before .before .before .solve .last .1 .1 .1 .1 .1 .1 .0) (kept-long d) (c .before .before .clear .ensures),
+      record {
+        over =
+            run-over (g .args .owners .now) (g .args .priorities .now) (g .args .offsets .now) (g .args .targets .now) (d .before .before .before .solve .ensures) (c .before .before .before .before .if1 .taken);
+        same = refl;
+      },
+    )
+
+add-held : tie.Need-add-held
+add-held c = let d = c .before in omega (arith, few (start d), d .before .before .before .before .before .before .before .before .before .before .before .before .before .set-words .ensures)
+
+add-held-2 : tie.Need-add-held-2
+add-held-2 c = let d = c .before in omega (arith, few (start d), d .before .before .before .before .before .before .before .before .before .before .before .before .before .set-words .ensures)
+
+add-write-out : tie.Need-add-write-out
+add-write-out c = let d = c .before in omega (arith, few (start d), d .before .before .before .before .before .before .before .before .before .before .before .before .before .set-words .ensures)
+
+write-out-requires : tie.Need-write-out-requires
+write-out-requires c κs =
+    let d = c .before .before .before .before .before in
+    let g = start d in
+    found-writable (found d (omega (arith, c .before .before .before .before .if1 .left))) (g .pre .even-size) (g .pre .odd-size) (g .pre .strategy-size)
+
+clear-requires-2 : tie.Need-clear-requires-2
+clear-requires-2 c κs = search needs
+
+same-length-2 : tie.Need-same-length-2
+same-length-2 c = search needs
+
+same-length-3 : tie.Need-same-length-3
+same-length-3 c = search needs
+
+same-length-4 : tie.Need-same-length-4
+same-length-4 c = search needs
+
+same-length-5 : tie.Need-same-length-5
+same-length-5 c = let d = c .before .before .before .before .before .before .before .before .before .before .before .before .before .before .before .before in c .before .before .clear2 .ensures .long ∙ kept-long d
+
+returns-2 : tie.Need-returns-2
+returns-2 c =
+    let d = c .before .before .before .before .before .before .before .before .before .before .before .before .before .before .before .before in
+    let g = start d in
+    let none : d .before .before .before .solve .result .unsolved ≡ 0 = omega (arith, c .before .before .before .before .before .before .before .before .before .before .before .before .before .before .before .if1 .left) in (
+      all-zero (g .args .work .now) (d .before .before .before .solve .last .1 .1 .1 .1 .1 .1 .0) (kept-long d) (c .before .before .clear2 .ensures),
+      found-finished (found d none) (g .pre .strategy-size) (c .before .before .before .before .before .before .before .before .before .before .write-out .ensures)
+          (run-rounds (g .args .owners .now) (g .args .priorities .now) (g .args .offsets .now) (g .args .targets .now) (d .before .before .before .solve .ensures) none)
+          (d .before .before .before .solve .ensures .within),
+    )
+
+pub run-spec : {M : Type 1} → statement M
+run-spec =
+    tie.close
+    (tie.spec
+    set-words-requires
+    add-entries
+    add-entries-2
+    add-entries-3
+    add-entries-4
+    add-unsolved
+    prepare-requires
+    begin-requires
+    solve-requires
+    clear-requires
+    same-length
+    returns
+    add-held
+    add-held-2
+    add-write-out
+    write-out-requires
+    clear-requires-2
+    same-length-2
+    same-length-3
+    same-length-4
+    same-length-5
+    returns-2)

@@ -1,0 +1,129 @@
+// The public solver, for every input: it checks all that it takes, works in the first W words of the work area, writes
+// only when it answers, and leaves those words 0.
+use crate::begin::begin;
+use crate::solve::solve;
+use parity_game::Answer;
+use solver::Ran;
+ghost use mathlib.Core.Path.{_≡_};
+ghost use lib.ListN.{length, replicate};
+ghost use Rattle.rules.specs.Promotion.{afterRounds, roundsNeeded};
+ghost use Rattle.rules.specs.Solver.{Solves};
+ghost use Rattle.rules.specs.Tables.{gameOf, tablesOf};
+ghost use Rattle.parity_game.specs.Said.{said};
+ghost use Rattle.solver.specs.Running.{Runnable, Runs};
+
+// The work itself, in W words, which are left 0.
+fn run(
+    owners: &[u8],
+    priorities: &[u16],
+    offsets: &[u16],
+    targets: &[u16],
+    compute_strategy: bool,
+    budget: u64,
+    even: &mut [u64],
+    odd: &mut [u64],
+    strategy: &mut [u16],
+    work: &mut [u64],
+) -> Ran
+    requires { ⌜ Runnable (tablesOf (now owners) (now priorities) (now offsets) (now targets))
+        (now even) (now odd) (now strategy) (now work) ⌝ }
+    ensures { λ r.
+        ⌜ (let t =
+        tablesOf (now (owners .entry)) (now (priorities .entry)) (now (offsets .entry)) (now (targets .entry)) in
+        (now (work .exit) ≡ replicate (length (now (work .entry))) 0) ×
+        Runs «compute_strategy» budget t (roundsNeeded (gameOf t) budget)
+        (afterRounds (gameOf t) (roundsNeeded (gameOf t) budget) .won)
+        (record { even = now (even .entry); odd = now (odd .entry); strategy = now (strategy .entry) })
+        (record { even = now (even .exit); odd = now (odd .exit); strategy = now (strategy .exit) })
+        r) ⌝ }
+{
+    let n = owners.len();
+    let m = targets.len();
+    let s = parity_game::set_words(n);
+    let entries = n + 1 + m + n + n;
+    let unsolved = entries + n;
+    solver::prepare(offsets, targets, n, s, work, unsolved);
+    let start = begin(priorities, m, s, work);
+    let end = solve(owners, priorities, offsets, targets, budget, s, work, start);
+    if 0 < end.unsolved {
+        sets::clear(work, 0, work.len());
+        return Ran::OverBudget;
+    }
+    let held = unsolved + s + s;
+    solver::write_out(
+        compute_strategy,
+        owners,
+        s,
+        entries,
+        held + s,
+        work,
+        even,
+        odd,
+        strategy,
+    );
+    sets::clear(work, 0, work.len());
+    Ran::Needed(end.rounds)
+}
+
+pub fn solve_priority_promotion(
+    owners: &[u8],
+    priorities: &[u16],
+    offsets: &[u16],
+    targets: &[u16],
+    compute_strategy: bool,
+    budget: u64,
+    even: &mut [u64],
+    odd: &mut [u64],
+    strategy: &mut [u16],
+    work: &mut [u64],
+) -> Answer
+    ensures { λ r.
+        ⌜ (let t =
+        tablesOf (now (owners .entry)) (now (priorities .entry)) (now (offsets .entry)) (now (targets .entry)) in
+        Solves «compute_strategy» budget t (roundsNeeded (gameOf t) budget)
+        (afterRounds (gameOf t) (roundsNeeded (gameOf t) budget) .won)
+        (record {
+          even = now (even .entry);
+          odd = now (odd .entry);
+          strategy = now (strategy .entry);
+          work = now (work .entry);
+        })
+        (record {
+          even = now (even .exit);
+          odd = now (odd .exit);
+          strategy = now (strategy .exit);
+          work = now (work .exit);
+        })
+        (said r)) ⌝ }
+{
+    let r = solver::check_all(
+        owners,
+        priorities,
+        offsets,
+        targets,
+        even.len(),
+        odd.len(),
+        strategy.len(),
+        work.len(),
+    );
+    let Answer::Answered(_) = r else {
+        return r;
+    };
+    let w = parity_game::work_words(owners.len(), targets.len());
+    let ran = run(
+        owners,
+        priorities,
+        offsets,
+        targets,
+        compute_strategy,
+        budget,
+        even,
+        odd,
+        strategy,
+        &mut work[0..w],
+    );
+    let Ran::Needed(rounds) = ran else {
+        return Answer::OverBudget(budget);
+    };
+    Answer::Answered(rounds)
+}

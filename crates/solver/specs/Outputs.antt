@@ -1,0 +1,225 @@
+-- What stands in the work area when a solver has ended, how it is written out, and that this is what the rules ask for.
+use mathlib.Core.Bool.{Bool, true, false, _&&_, cond}
+use mathlib.Core.List.{List, [], _∷_}
+use mathlib.Core.Path.{_≡_, refl, sym, ap, ap₂, _∙_}
+use Prim.Native.Nat.{ℕ, zero, suc, _+_, _*_, _≤_, _<_}
+use native.Mathlib.Nat.{not-suc-le-zero, le-of-suc-le-suc}
+use native.Mathlib.Omega.{arith}
+use lib.Dec.{eqb, eqb·suc-zero}
+use lib.ListN.{length, getD, take, drop, replicate, length-replicate, getD-replicate}
+use lib.Seq.{ext-getD, getD-take, getD-drop}
+use Rattle.rules.specs.Counting.{Set, listed, noted}
+use Rattle.rules.specs.Game.{Player, Even, Odd, playerOf}
+use Rattle.rules.specs.Solver.{Entries}
+use Rattle.rules.specs.Tables.{Tables, gameOf, vertices, edgesIn, words, Accepted}
+use Rattle.rules.specs.Winning.{WinningSets, WinningEntries}
+use Rattle.rules.specs.Words.{setOf, Holds, noEntry, entry}
+use Rattle.theory.specs.Basics.{not-true-is-false}
+use Rattle.theory.specs.PromotionBasics.{noted-below}
+use Rattle.theory.specs.Tables.{accepted-sound, accepted-total}
+use Rattle.theory.specs.Zielonka.{determinacy}
+use Rattle.sets.specs.Laws.{other-bit}
+use Rattle.attractor.specs.Area.{entries, setAt, wordsAt, entryAt}
+use Rattle.attractor.specs.Views.{part-length, words-enough}
+use Rattle.solver.specs.Entries.{ownerWins, chosen, Enterable, Written}
+use Rattle.solver.specs.Running.{Outputs, Finished}
+
+-- ---- what `write_out` asks for and leaves
+
+-- room for the outputs, and entries that fit where they are asked for
+pub record Writable (owners : List ℕ) (s from at : ℕ) (work even odd strategy : List ℕ) : Type 0 where
+  pub even-long : length even ≡ s
+  pub odd-long : length odd ≡ s
+  pub entries : from + length owners ≤ length work
+  pub sets : at + s + s ≤ length work
+  pub enterable :
+      Enterable owners (take s (drop at work)) (take s (drop (at + s) work)) (take (length owners) (drop from work)) strategy
+
+-- the sets as they stand, and the strategy by them
+pub record WroteOut (flag : Bool) (owners : List ℕ) (s from at : ℕ) (work : List ℕ) (before after : Outputs) : Type 0 where
+  pub even : after .even ≡ take s (drop at work)
+  pub odd : after .odd ≡ take s (drop (at + s) work)
+  pub strategy :
+      Written flag owners (take s (drop at work)) (take s (drop (at + s) work)) (take (length owners) (drop from work))
+      (before .strategy) (after .strategy)
+
+-- ---- what a solver has found
+
+-- what Even wins stands at a place, what Odd wins behind it
+abbrev pub wonFrom : ℕ → ℕ → Player → ℕ
+wonFrom s at Even = at
+wonFrom s at Odd = at + s
+
+-- the sets that are won, and the entries: at the winners' own vertices they are a winning choice
+pub record Found (t : Tables) (won : Player → Set) (s at : ℕ) (work : List ℕ) : Type 0 where
+  pub accepted : Accepted t
+  pub size : s ≡ words (vertices t)
+  pub low : entries (vertices t) (edgesIn t) + vertices t ≤ at
+  pub high : at + s + s ≤ length work
+  pub inside : (c : Player) (v : ℕ) → v < vertices t → setAt (vertices t) (wonFrom s at c) work v ≡ won c v
+  pub bare : (c : Player) (v : ℕ) → vertices t ≤ v → setAt (vertices t) (wonFrom s at c) work v ≡ false
+  pub sets : WinningSets (gameOf t) won
+  pub wins :
+      (strategy : List ℕ) →
+      ((a : Player) (v : ℕ) →
+      v < vertices t →
+      won a v ≡ true →
+      gameOf t .owner v ≡ a →
+      entry strategy v ≡ entryAt (vertices t) (edgesIn t) work v) →
+      ((a : Player) (v : ℕ) → v < vertices t → won a v ≡ true → (gameOf t .owner v ≡ a → ⊥) → entry strategy v ≡ noEntry) →
+      WinningEntries (gameOf t) won strategy
+
+-- within a list the default does not matter
+getD-any : (l : List ℕ) (k x y : ℕ) → k < length l → getD l k x ≡ getD l k y
+getD-any [] k x y h = absurd (not-suc-le-zero h)
+getD-any (z ∷ l) zero x y h = refl
+getD-any (z ∷ l) (suc k) x y h = getD-any l k x y (le-of-suc-le-suc h)
+
+module _ {t : Tables} {won : Player → Set} {s at : ℕ} {w : List ℕ} (found : Found t won s at w) where
+  abbrev n : ℕ
+  n = vertices t
+
+  abbrev E : ℕ
+  E = entries (vertices t) (edgesIn t)
+
+  -- the words of a set
+  abbrev part : Player → List ℕ
+  part c = take s (drop (wonFrom s at c) w)
+
+  set-is : (c : Player) (v : ℕ) → setOf (part c) v ≡ setAt n (wonFrom s at c) w v
+  set-is c v = ap (λ (k : ℕ). setOf (take k (drop (wonFrom s at c) w)) v) (found .size)
+
+  fits : (c : Player) → wonFrom s at c + s ≤ length w
+  fits Even = omega (arith, found .high)
+  fits Odd = omega (arith, found .high)
+
+  long : (c : Player) → length (part c) ≡ s
+  long c = part-length (wonFrom s at c) s w (fits c)
+
+  holds : (c : Player) → Holds n (won c) (part c)
+  holds c =
+      record {
+        long = long c ∙ found .size;
+        bits = λ v l. set-is c v ∙ found .inside c v l;
+        clear = λ v l. other-bit (part c) v (set-is c v ∙ found .bare c v l);
+      }
+
+  -- one player wins a vertex
+  not-both : (c : Player) (v : ℕ) → v < n → won c v ≡ true → won (gameOf t .owner v) v ≡ true → (gameOf t .owner v ≡ c → ⊥) → ⊥
+  unfolding gameOf
+  not-both c v l p q other = go c (gameOf t .owner v) p q other
+    where
+      apart : won Even v ≡ true → won Odd v ≡ true → ⊥
+      apart a b = determinacy t (found .accepted) v l .1 (found .sets Even v l .0 a) (found .sets Odd v l .0 b)
+
+      go : (a b : Player) → won a v ≡ true → won b v ≡ true → (b ≡ a → ⊥) → ⊥
+      go Even Even p q d = d refl
+      go Even Odd p q d = apart p q
+      go Odd Even p q d = apart q p
+      go Odd Odd p q d = d refl
+
+  -- the owner's set
+  owner-won : (v : ℕ) → v < n → ownerWins (t .owners) (part Even) (part Odd) v ≡ won (gameOf t .owner v) v
+  unfolding gameOf
+  owner-won v l = go (getD (t .owners) v 0)
+    where
+      go : (k : ℕ) → cond (eqb k 0) (setOf (part Even) v) (setOf (part Odd) v) ≡ won (playerOf k) v
+      go zero = holds Even .bits v l
+      go (suc k) = rw (eqb·suc-zero k) (holds Odd .bits v l)
+
+  -- the entry of v where its owner wins it
+  abbrev own : Bool → ℕ → ℕ
+  own flag v = cond (flag && won (gameOf t .owner v) v) (entryAt n (edgesIn t) w v) noEntry
+
+  own-wins :
+      (strategy : List ℕ) → ((v : ℕ) → v < n → entry strategy v ≡ own true v) → WinningEntries (gameOf t) won strategy
+  own-wins strategy is =
+      found .wins strategy
+      (λ c v l p mine.
+      is v l ∙ ap (λ (b : Bool). cond b (entryAt n (edgesIn t) w v) noEntry) (ap (λ (a : Player). won a v) mine ∙ p))
+      (λ c v l p other.
+      is v l ∙
+      ap (λ (b : Bool). cond b (entryAt n (edgesIn t) w v) noEntry)
+      (not-true-is-false (won (gameOf t .owner v) v) (λ q. not-both c v l p q other)))
+
+  -- such an entry is a vertex
+  own-small : (v : ℕ) → v < n → won (gameOf t .owner v) v ≡ true → entryAt n (edgesIn t) w v < n
+  unfolding gameOf noted
+  own-small v l p =
+      let is : entry (listed n (own true)) v ≡ entryAt n (edgesIn t) w v =
+      noted-below noEntry n (own true) v l ∙ ap (λ (b : Bool). cond b (entryAt n (edgesIn t) w v) noEntry) p in
+      let edge = own-wins (listed n (own true)) (noted-below noEntry n (own true)) .given (gameOf t .owner v) v l p refl in
+      let small = accepted-total t (found .accepted) .ends v (entry (listed n (own true)) v) edge in
+      rw is at small
+
+  abbrev entriesIn : List ℕ
+  entriesIn = take n (drop E w)
+
+  entry-is : (v : ℕ) → v < n → getD entriesIn v 0 ≡ entryAt n (edgesIn t) w v
+  entry-is v l = getD-take n (drop E w) v 0 l ∙ getD-drop E w v 0
+
+  -- what `write_out` asks for
+  pub found-writable :
+      {even odd strategy : List ℕ} →
+      length even ≡ words (vertices t) →
+      length odd ≡ words (vertices t) →
+      length strategy ≡ vertices t →
+      Writable (t .owners) s (entries (vertices t) (edgesIn t)) at w even odd strategy
+  found-writable even-size odd-size strategy-size =
+      record {
+        even-long = even-size ∙ sym (found .size);
+        odd-long = odd-size ∙ sym (found .size);
+        entries = omega (arith, found .low, found .high);
+        sets = found .high;
+        enterable =
+            record {
+              each = strategy-size;
+              entered =
+                  λ v l.
+                  record {
+                    small = l;
+                    long = part-length E n w (omega (arith, found .low, found .high));
+                    even-bits = rw (holds Even .long) (words-enough n v l);
+                    odd-bits = rw (holds Odd .long) (words-enough n v l);
+                    narrow =
+                        λ p.
+                        let small = own-small v l (sym (owner-won v l) ∙ p) in
+                        let few = accepted-sound t (found .accepted) .few-vertices in
+                        omega (arith, entry-is v l);
+                  };
+            };
+      }
+
+  module _ {flag : Bool} {before after : Outputs} (size : length (before .strategy) ≡ vertices t)
+      (wrote : WroteOut flag (t .owners) s (entries (vertices t) (edgesIn t)) at w before after)
+    where
+      strategy-long : length (after .strategy) ≡ n
+      strategy-long = wrote .strategy .long ∙ size
+
+      written-entry : (v : ℕ) → v < n → entry (after .strategy) v ≡ own flag v
+      written-entry v l =
+          getD-any (after .strategy) v noEntry 0 (omega (arith, strategy-long)) ∙
+          wrote .strategy .all v l ∙
+          ap₂ (λ (b : Bool) (x : ℕ). cond (flag && b) x noEntry) (owner-won v l) (entry-is v l)
+
+      by-flag : (f : Bool) → flag ≡ f → Entries f t won (after .strategy)
+      by-flag true e =
+          own-wins (after .strategy) (λ v l. written-entry v l ∙ ap (λ (b : Bool). own b v) e)
+      by-flag false e =
+          ext-getD noEntry (after .strategy) (replicate n noEntry) (strategy-long ∙ sym (length-replicate n noEntry))
+          (λ v h.
+          let l : v < n = omega (arith, strategy-long) in
+          written-entry v l ∙ ap (λ (b : Bool). own b v) e ∙ sym (getD-replicate n v noEntry noEntry l))
+
+      -- **What is written out is what the rules ask for.**
+      pub found-finished :
+          {budget needed made : ℕ} → made ≡ needed → made ≤ budget → Finished flag budget t needed won made after
+      found-finished is within =
+          record {
+            exact = is;
+            within = within;
+            even = rw (wrote .even) (holds Even);
+            odd = rw (wrote .odd) (holds Odd);
+            long = strategy-long;
+            entries = by-flag flag refl;
+          }
