@@ -9,7 +9,8 @@ use lib.ListN.{length}
 use Rattle.rules.specs.Counting.{Set}
 use Rattle.rules.specs.Game.{Player, Even, Odd}
 use Rattle.rules.specs.Tables.{Tables, gameOf, vertices, edgesIn, words, workWords, Accepted, tablesOf}
-use Rattle.rules.specs.Promotion.{afterRounds, roundsNeeded}
+use Rattle.rules.specs.Promotion.{afterRounds, allSolved, roundsNeeded}
+use Rattle.theory.specs.PromotionAccepted.{accepted-promotion-sets, accepted-promotion-entries}
 use Rattle.attractor.specs.Area.{free, setAt}
 use Rattle.solver.specs.Preparing.{Preparable, Prepared}
 use Rattle.solver.specs.Outputs.{wonFrom, Found}
@@ -17,8 +18,7 @@ use Rattle.priority_promotion.specs.Layout.{evenAt, regionsAt, accepted-
 use Rattle.priority_promotion.specs.Dominion.{wonAt}
 use Rattle.priority_promotion.specs.Beginning.{Beginnable, Begun}
 use Rattle.priority_promotion.specs.Starting.{tables-room, begin-ready, begun-reached}
-use Rattle.priority_promotion.specs.Solve.{Reached, Ended, ended-needed, ended-over}
-use Rattle.priority_promotion.specs.Conclusions.{ended-sets, ended-entries}
+use Rattle.priority_promotion.specs.Solve.{Reached, Ended, none-left, ended-needed, ended-over}
 
 -- the sets that the rules' rounds win under a budget
 abbrev pub wonIn : Tables → ℕ → Player → Set
@@ -70,6 +70,9 @@ module _ (owners priorities offsets targets : List ℕ) {s budget at many made :
       pub run-rounds : made ≡ roundsNeeded (gameOf (tablesOf owners priorities offsets targets)) budget
       run-rounds = sym (ended-needed owners priorities offsets targets s ended all)
 
+      solved : allSolved (gameOf t) (afterRounds (gameOf t) made) ≡ true
+      solved = none-left owners priorities offsets targets s (ended .reached .shows) all
+
       won-place : (c : Player) → wonFrom s (evenAt (length owners) (length targets) s) c ≡ wonAt (length owners) (length targets) s c
       won-place Even = refl
       won-place Odd = omega arith
@@ -94,6 +97,6 @@ module _ (owners priorities offsets targets : List ℕ) {s budget at many made :
             bare =
                 λ c v l.
                 ap (λ (i : ℕ). setAt (length owners) i w3 v) (won-place c) ∙ ended .reached .shows .bare c v l;
-            sets = ended-sets owners priorities offsets targets s ended all;
-            wins = ended-entries owners priorities offsets targets s ended all;
+            sets = accepted-promotion-sets t (ended .reached .accepted) (ended .reached .entries) solved;
+            wins = accepted-promotion-entries t (ended .reached .accepted) (ended .reached .entries) solved;
           })

@@ -2,10 +2,11 @@
 -- any two results that meet the contract are the same but for strategy entries.
 use mathlib.Core.Bool.{Bool, true, false, cond}
 use mathlib.Core.List.{List}
+use mathlib.Core.Logic.{_⊎_, inl, inr, ⊎-elim}
 use mathlib.Core.Path.{_≡_, refl, sym, ap, _∙_}
-use Prim.Native.Nat.{ℕ, _≤_}
+use Prim.Native.Nat.{ℕ, _≤_, _<_}
 use native.Mathlib.Omega.{arith}
-use borrow.Author.Tests.{le-ltb, eqb-false}
+use borrow.Author.Tests.{le-ltb, ltb-false, eqb-false}
 use lib.Dec.{ltb}
 use Rattle.rules.specs.Counting.{Set}
 use Rattle.rules.specs.Game.{Player, Even, Odd}
@@ -17,6 +18,7 @@ use Rattle.rules.specs.Words.{setOf, Holds}
 use Rattle.parity_game.specs.Laws.{then-none, zero-none}
 use Rattle.sets.specs.Same.{Narrow, holds-same}
 use Rattle.theory.specs.Basics.{clash}
+use Rattle.theory.specs.Zielonka.{determinacy}
 use Rattle.solver.specs.Checks.{numbered-checks}
 
 -- the words of a player's set
@@ -48,6 +50,9 @@ module _ {flag : Bool} {budget : ℕ} {t : Tables} {needed : ℕ} {won : Player 
         (sym (ap (λ (v : Verdict). outcome v (budgeted budget needed)) (not-refused e)) ∙ sym (p .gives)) ∙
         e)
 
+    pub answered-within : o .number ≡ 0 → needed ≤ budget
+    answered-within e = ltb-false budget needed (within-budget e)
+
     pub answer : o .number ≡ 0 → Answered flag t won before after
     answer e = rw (not-refused e, within-budget e) at (p .leaves)
 
@@ -74,6 +79,21 @@ module _ {flag : Bool} {budget : ℕ} {t : Tables} {needed : ℕ} {won : Player 
         let same = answered-holds e c .bits v small in
         (λ q. wins c v small .0 (sym same ∙ q), λ w. same ∙ wins c v small .1 w)
 
+    -- **Then each vertex has exactly one winner, and is in that player's set.**
+    pub answered-one :
+        o .number ≡ 0 →
+        WinningSets (gameOf t) won →
+        (v : ℕ) →
+        v < vertices t →
+        ((gotBy after Even v ≡ true) ⊎ (gotBy after Odd v ≡ true)) × (gotBy after Even v ≡ true → gotBy after Odd v ≡ true → ⊥)
+    unfolding gameOf
+    answered-one e wins v small =
+        let got = answered-winning e wins in
+        let (either, both) = determinacy t (answered-accepted e) v small in (
+          ⊎-elim (λ w. inl (got Even v small .1 w)) (λ w. inr (got Odd v small .1 w)) either,
+          λ a b. both (got Even v small .0 a) (got Odd v small .0 b),
+        )
+
     -- **It answers whenever nothing is refused and the budget is enough.**
     pub answers-within : solverChecks t before ≡ none → needed ≤ budget → o ≡ answered needed
     answers-within passed enough =
@@ -82,6 +102,10 @@ module _ {flag : Bool} {budget : ℕ} {t : Tables} {needed : ℕ} {won : Player 
         ap (λ (b : Bool). cond b (record { number = 13; place = 0; count = budget }) (answered needed)) (le-ltb budget needed (omega arith))
 
 -- ---- two results that meet the contract
+
+-- a set by its members below n
+pub holds-alike : {n : ℕ} {S T : Set} {xs : List ℕ} → ((v : ℕ) → v < n → S v ≡ T v) → Holds n S xs → Holds n T xs
+holds-alike same h = record { long = h .long; bits = λ v l. h .bits v l ∙ same v l; clear = h .clear }
 
 -- two results agree in all but strategy entries
 pub record Agree (flag : Bool) (after after′ : Lent) (o o′ : Outcome) : Type 0 where

@@ -2,7 +2,7 @@
 -- each vertex has one winner, the strategy wins and the count is the recursion's calls; it answers whenever nothing is refused and the
 -- budget is demand 3's bound or more; and any two results that meet the contract are the same but for strategy entries.
 use mathlib.Core.Bool.{Bool, true}
-use mathlib.Core.Logic.{_⊎_, inl, inr, ⊎-elim}
+use mathlib.Core.Logic.{_⊎_}
 use mathlib.Core.Path.{_≡_}
 use Prim.Native.Nat.{ℕ, _≤_, _<_}
 use native.Mathlib.Omega.{arith}
@@ -16,9 +16,10 @@ use Rattle.rules.specs.Zielonka.{zielonka}
 use Rattle.parity_game.specs.Laws.{then-none}
 use Rattle.theory.specs.Bound.{zielonka-bound}
 use Rattle.theory.specs.Tables.{accepted-total}
-use Rattle.theory.specs.Zielonka.{zielonka-wins, determinacy}
+use Rattle.theory.specs.Zielonka.{zielonka-wins}
 use Rattle.sets.specs.Same.{Narrow}
-use Rattle.solver.specs.Promises.{setFor, gotBy, answer, answered-accepted, answered-count, answered-winning, answers-within, Agree, results-agree}
+use Rattle.solver.specs.Promises.{setFor, gotBy, answer, answered-accepted, answered-count, answered-winning, answered-one, answers-within}
+use Rattle.solver.specs.Promises.{Agree, results-agree}
 
 -- the contract of `solve_zielonka`
 abbrev pub Promise : Bool → ℕ → Tables → Lent → Lent → Outcome → Type 0
@@ -40,12 +41,7 @@ module _ {flag : Bool} {budget : ℕ} {t : Tables} {before after : Lent} {o : Ou
       (v : ℕ) →
       v < vertices t →
       ((gotBy after Even v ≡ true) ⊎ (gotBy after Odd v ≡ true)) × (gotBy after Even v ≡ true → gotBy after Odd v ≡ true → ⊥)
-  unfolding gameOf
-  answered-one-winner e v small =
-      let (either, both) = determinacy t (answered-accepted p e) v small in (
-        ⊎-elim (λ w. inl (answered-wins e Even v small .1 w)) (λ w. inr (answered-wins e Odd v small .1 w)) either,
-        λ a b. both (answered-wins e Even v small .0 a) (answered-wins e Odd v small .0 b),
-      )
+  answered-one-winner e = answered-one p e (zielonka-wins (gameOf t) (accepted-total t (answered-accepted p e)))
 
   -- **It answers whenever nothing is refused and the budget is demand 3's bound or more.**
   pub answers-within-bound :

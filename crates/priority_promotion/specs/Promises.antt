@@ -1,0 +1,152 @@
+-- What a reader may conclude of `solve_priority_promotion`, from its contract alone: whenever it answers, its sets are the winning sets of
+-- demand 2 and Zielonka's, each vertex has one winner, the strategy wins and the count is the rules' rounds; it answers whenever nothing is
+-- refused and the budget is n · (n + 2) ^ d or more; and any two results that meet the contract are the same but for strategy entries.
+use mathlib.Core.Bool.{Bool, true, false}
+use mathlib.Core.List.{List}
+use mathlib.Core.Logic.{_⊎_, ⊎-elim}
+use mathlib.Core.Path.{_≡_, refl, sym, ap, subst, _∙_}
+use Prim.Native.Nat.{ℕ, suc, _+_, _*_, _^_, _≤_, _<_}
+use native.Mathlib.Omega.{arith}
+use Rattle.rules.specs.Budget.{differentPriorities}
+use Rattle.rules.specs.Counting.{some, lowest}
+use Rattle.rules.specs.Game.{Player, Even, Odd, everywhere}
+use Rattle.rules.specs.Outcome.{Outcome, none, answered}
+use Rattle.rules.specs.Promotion.{afterRounds, allSolved, roundsNeeded}
+use Rattle.rules.specs.Solver.{Lent, solverChecks, Solves}
+use Rattle.rules.specs.Tables.{Tables, gameOf, vertices, tableChecks, Accepted, tablesOf}
+use Rattle.rules.specs.Winning.{WinningSets, WinningEntries}
+use Rattle.rules.specs.Zielonka.{zielonka}
+use Rattle.parity_game.specs.Laws.{then-none}
+use Rattle.theory.specs.Basics.{bool-cases, lowest-found, lowest-none, lowest-unique, IsLowest}
+use Rattle.theory.specs.PromotionAccepted.{accepted-finishes, accepted-rounds-sets}
+use Rattle.theory.specs.PromotionSound.{winning-sets-agree}
+use Rattle.theory.specs.Tables.{accepted-total}
+use Rattle.theory.specs.Zielonka.{zielonka-wins}
+use Rattle.solver.specs.Promises.{setFor, gotBy, answer, answered-accepted, answered-within, answered-count, answered-holds, answered-winning}
+use Rattle.sets.specs.Same.{Narrow, holds-same}
+use Rattle.solver.specs.Promises.{answered-one, answers-within, holds-alike, Agree, results-agree}
+use Rattle.priority_promotion.specs.Round.{Shows}
+use Rattle.priority_promotion.specs.Rounds.{RoundDone}
+
+-- the contract of `solve_priority_promotion`
+abbrev pub Promise : Bool → ℕ → Tables → Lent → Lent → Outcome → Type 0
+Promise flag budget t before after o =
+    Solves flag budget t (roundsNeeded (gameOf t) budget) (afterRounds (gameOf t) (roundsNeeded (gameOf t) budget) .won) before after o
+
+module _ {flag : Bool} {budget : ℕ} {t : Tables} {before after : Lent} {o : Outcome} (p : Promise flag budget t before after o) where
+  -- **The count is the rounds of the rules: after as many all vertices are solved, and after fewer some are not.**
+  pub answered-rounds :
+      o .number ≡ 0 →
+      (allSolved (gameOf t) (afterRounds (gameOf t) (o .count)) ≡ true) ×
+      ((k : ℕ) → k < o .count → allSolved (gameOf t) (afterRounds (gameOf t) k) ≡ false)
+  unfolding roundsNeeded
+  answered-rounds e =
+      let within = answered-within p e in
+      let found =
+      ⊎-elim
+      (λ (s : some (suc budget) _ ≡ true). lowest-found (suc budget) (λ k. allSolved (gameOf t) (afterRounds (gameOf t) k)) s)
+      (λ s. absurd (let none = lowest-none (suc budget) (λ k. allSolved (gameOf t) (afterRounds (gameOf t) k)) s in omega arith))
+      (bool-cases (some (suc budget) (λ k. allSolved (gameOf t) (afterRounds (gameOf t) k)))) in
+      rw (answered-count p e) (found .passes, found .first)
+
+  -- the rules' sets at the end
+  rules-sets : o .number ≡ 0 → WinningSets (gameOf t) (afterRounds (gameOf t) (roundsNeeded (gameOf t) budget) .won)
+  rules-sets e =
+      accepted-rounds-sets t (answered-accepted p e) (roundsNeeded (gameOf t) budget) (rw (answered-count p e) at (answered-rounds e .0))
+
+  -- **The two sets are exactly the winning sets of demand 2,**
+  pub answered-wins : o .number ≡ 0 → WinningSets (gameOf t) (gotBy after)
+  answered-wins e = answered-winning p e (rules-sets e)
+
+  -- **and those of Zielonka's recursion.**
+  pub answered-as-zielonka : o .number ≡ 0 → (c : Player) (v : ℕ) → v < vertices t → gotBy after c v ≡ zielonka (gameOf t) .won c v
+  unfolding gameOf
+  answered-as-zielonka e =
+      winning-sets-agree (gameOf t) (gotBy after) (zielonka (gameOf t) .won) (answered-wins e)
+      (zielonka-wins (gameOf t) (accepted-total t (answered-accepted p e)))
+
+  -- **Each vertex has exactly one winner, and is in that player's set.**
+  pub answered-one-winner :
+      o .number ≡ 0 →
+      (v : ℕ) →
+      v < vertices t →
+      ((gotBy after Even v ≡ true) ⊎ (gotBy after Odd v ≡ true)) × (gotBy after Even v ≡ true → gotBy after Odd v ≡ true → ⊥)
+  answered-one-winner e = answered-one p e (rules-sets e)
+
+  -- **It answers whenever nothing is refused and the budget is n · (n + 2) ^ d or more.**
+  pub answers-within-bound :
+      solverChecks t before ≡ none →
+      vertices t * (vertices t + 2) ^ differentPriorities (gameOf t) (everywhere (gameOf t)) ≤ budget →
+      o ≡ answered (roundsNeeded (gameOf t) budget)
+  unfolding Accepted gameOf
+  answers-within-bound passed enough =
+      answers-within p passed (accepted-finishes t (then-none (tableChecks t) _ passed .0) budget enough .0)
+
+-- **With the flag the strategy wins: it is a winning choice for both players.**
+pub answered-strategy :
+    {budget : ℕ} {t : Tables} {before after : Lent} {o : Outcome} →
+    Promise true budget t before after o →
+    o .number ≡ 0 →
+    WinningEntries (gameOf t) (afterRounds (gameOf t) (roundsNeeded (gameOf t) budget) .won) (after .strategy)
+answered-strategy p e = answer p e .entries
+
+-- **Any two results that meet the contract are the same but for strategy entries,**
+pub promotion-results-agree :
+    {flag : Bool} {budget : ℕ} {t : Tables} {before after after′ : Lent} {o o′ : Outcome} →
+    ((c : Player) → Narrow (setFor after c)) →
+    ((c : Player) → Narrow (setFor after′ c)) →
+    Promise flag budget t before after o →
+    Promise flag budget t before after′ o′ →
+    Agree flag after after′ o o′
+promotion-results-agree = results-agree
+
+-- **any two answers count the same rounds, whatever the budgets,**
+pub answers-count-the-same :
+    {flag flag′ : Bool} {budget budget′ : ℕ} {t : Tables} {before before′ after after′ : Lent} {o o′ : Outcome} →
+    Promise flag budget t before after o →
+    Promise flag′ budget′ t before′ after′ o′ →
+    o .number ≡ 0 →
+    o′ .number ≡ 0 →
+    o .count ≡ o′ .count
+answers-count-the-same {t = t} {o = o} {o′ = o′} p p′ e e′ =
+    let (solved, first) = answered-rounds p e in
+    let (solved′, first′) = answered-rounds p′ e′ in
+    sym (once solved first) ∙ other solved′ first′
+  where
+    all : ℕ → Bool
+    all k = allSolved (gameOf t) (afterRounds (gameOf t) k)
+
+    once : all (o .count) ≡ true → ((k : ℕ) → k < o .count → all k ≡ false) → lowest (o .count + o′ .count + 1) all ≡ o .count
+    once s f = lowest-unique (o .count + o′ .count + 1) all (o .count) (record { below = omega arith; passes = s; first = f })
+
+    other : all (o′ .count) ≡ true → ((k : ℕ) → k < o′ .count → all k ≡ false) → lowest (o .count + o′ .count + 1) all ≡ o′ .count
+    other s f = lowest-unique (o .count + o′ .count + 1) all (o′ .count) (record { below = omega arith; passes = s; first = f })
+
+-- **and the words of the sets are those that Zielonka's solver gives.**
+pub same-words-as-zielonka :
+    {flag flag′ : Bool} {budget budget′ : ℕ} {t : Tables} {before before′ after after′ : Lent} {o o′ : Outcome} →
+    Promise flag budget t before after o →
+    Solves flag′ budget′ t (zielonka (gameOf t) .calls) (zielonka (gameOf t) .won) before′ after′ o′ →
+    o .number ≡ 0 →
+    o′ .number ≡ 0 →
+    (c : Player) →
+    Narrow (setFor after c) →
+    Narrow (setFor after′ c) →
+    setFor after c ≡ setFor after′ c
+unfolding gameOf
+same-words-as-zielonka {t = t} {after = after} {after′ = after′} p z e e′ c n n′ =
+    holds-same (setFor after c) (setFor after′ c) n n′
+    (holds-alike
+    (λ v l. sym (answered-holds p e c .bits v l) ∙ answered-as-zielonka p e c v l)
+    (answered-holds p e c))
+    (answered-holds z e′ c)
+
+-- **Where the work area and the small state show the state after k rounds, a round leaves them showing the state after one more.**
+pub round-shows-next :
+    {owners priorities offsets targets : List ℕ} {s at many made at′ many′ made′ : ℕ} {before after : List ℕ} →
+    RoundDone owners priorities offsets targets s at many made at′ many′ made′ before after →
+    (k : ℕ) →
+    Shows owners priorities offsets targets s (afterRounds (gameOf (tablesOf owners priorities offsets targets)) k) at many before →
+    Shows owners priorities offsets targets s (afterRounds (gameOf (tablesOf owners priorities offsets targets)) (suc k)) at′ many′ after
+unfolding afterRounds
+round-shows-next d k shows = d .shown k shows .0
