@@ -6,7 +6,7 @@ use lib.ListN.{length}
 use Rattle.rules.specs.Tables.{Tables, words, tablesOf}
 use Rattle.theory.specs.Tables.{accepted-sound}
 use Rattle.attractor.specs.Views.{words-few}
-use Rattle.solver.specs.Running.{all-zero}
+use Rattle.sets.specs.Laws.{cleared-all}
 use Rattle.solver.specs.Outputs.{Found, found-writable, found-finished}
 use Rattle.priority_promotion.specs.Layout.{evenAt}
 use Rattle.priority_promotion.specs.Solve.{Reached}
@@ -96,7 +96,7 @@ returns : tie.Need-returns
 returns c =
     let d = c .before .before .before .before .before in
     let g = start d in (
-      all-zero (g .args .work .now) (d .before .before .before .solve .last .1 .1 .1 .1 .1 .1 .0) (kept-long d) (c .before .before .clear .ensures),
+      cleared-all (g .args .work .now) (d .before .before .before .solve .last .1 .1 .1 .1 .1 .1 .0) (kept-long d) (c .before .before .clear .ensures),
       record {
         over =
             run-over (g .args .owners .now) (g .args .priorities .now) (g .args .offsets .now) (g .args .targets .now) (d .before .before .before .solve .ensures) (c .before .before .before .before .if1 .taken);
@@ -139,7 +139,7 @@ returns-2 c =
     let d = c .before .before .before .before .before .before .before .before .before .before .before .before .before .before .before .before in
     let g = start d in
     let none : d .before .before .before .solve .result .unsolved ≡ 0 = omega (arith, c .before .before .before .before .before .before .before .before .before .before .before .before .before .before .before .if1 .left) in (
-      all-zero (g .args .work .now) (d .before .before .before .solve .last .1 .1 .1 .1 .1 .1 .0) (kept-long d) (c .before .before .clear2 .ensures),
+      cleared-all (g .args .work .now) (d .before .before .before .solve .last .1 .1 .1 .1 .1 .1 .0) (kept-long d) (c .before .before .clear2 .ensures),
       found-finished (found d none) (g .pre .strategy-size) (c .before .before .before .before .before .before .before .before .before .before .write-out .ensures)
           (run-rounds (g .args .owners .now) (g .args .priorities .now) (g .args .offsets .now) (g .args .targets .now) (d .before .before .before .solve .ensures) none)
           (d .before .before .before .solve .ensures .within),
