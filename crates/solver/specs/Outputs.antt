@@ -2,7 +2,7 @@
 use mathlib.Core.Bool.{Bool, true, false, _&&_, cond}
 use mathlib.Core.List.{List, [], _∷_}
 use mathlib.Core.Path.{_≡_, refl, sym, ap, ap₂, _∙_}
-use Prim.Native.Nat.{ℕ, zero, suc, _+_, _*_, _≤_, _<_}
+use Prim.Native.Nat.{ℕ, zero, suc, _+_, _-_, _≤_, _<_}
 use native.Mathlib.Nat.{not-suc-le-zero, le-of-suc-le-suc}
 use native.Mathlib.Omega.{arith}
 use lib.Dec.{eqb, eqb·suc-zero}
@@ -20,7 +20,7 @@ use Rattle.theory.specs.Tables.{accepted-sound, accepted-total}
 use Rattle.theory.specs.Zielonka.{determinacy}
 use Rattle.sets.specs.Laws.{other-bit}
 use Rattle.attractor.specs.Area.{entries, setAt, wordsAt, entryAt}
-use Rattle.attractor.specs.Views.{part-length, words-enough}
+use Rattle.attractor.specs.Views.{part-is, part-length, words-enough}
 use Rattle.solver.specs.Entries.{ownerWins, chosen, Enterable, Written}
 use Rattle.solver.specs.Running.{Outputs, Finished}
 
@@ -42,6 +42,30 @@ pub record WroteOut (flag : Bool) (owners : List ℕ) (s from at : ℕ) (work : 
   pub strategy :
       Written flag owners (take s (drop at work)) (take s (drop (at + s) work)) (take (length owners) (drop from work))
       (before .strategy) (after .strategy)
+
+-- the parts, as the code lends them
+abbrev pub partAt : ℕ → ℕ → List ℕ → List ℕ
+partAt a k work = take ((a + k) - a) (drop a work)
+
+pub lent-enterable :
+    {owners : List ℕ} {s from at : ℕ} {work even odd strategy : List ℕ} →
+    Writable owners s from at work even odd strategy →
+    Enterable owners (partAt at s work) (partAt (at + s) s work) (partAt from (length owners) work) strategy
+lent-enterable {owners} {s} {from} {at} {work} w =
+    rw (part-is at s work, part-is (at + s) s work, part-is from (length owners) work) (w .enterable)
+
+pub wrote-parts :
+    {flag : Bool} {owners : List ℕ} (s from at : ℕ) (work : List ℕ) {even odd strategy : List ℕ} (was : Outputs) →
+    even ≡ partAt at s work →
+    odd ≡ partAt (at + s) s work →
+    Written flag owners (partAt at s work) (partAt (at + s) s work) (partAt from (length owners) work) (was .strategy) strategy →
+    WroteOut flag owners s from at work was (record { even = even; odd = odd; strategy = strategy })
+wrote-parts {flag} {owners} s from at work was e o w =
+    record {
+      even = e ∙ part-is at s work;
+      odd = o ∙ part-is (at + s) s work;
+      strategy = rw (part-is at s work, part-is (at + s) s work, part-is from (length owners) work) at w;
+    }
 
 -- ---- what a solver has found
 

@@ -1,8 +1,5 @@
 -- `write_out` meets its contract.
-use mathlib.Core.Path.{_∙_}
-use Prim.Native.Nat.{_+_}
-use lib.ListN.{length}
-use Rattle.attractor.specs.Views.{part-is}
+use Rattle.solver.specs.Outputs.{lent-enterable, wrote-parts}
 use borrow.Author.Needs.{needs}
 use Rattle.solver.proofs.outputs.write_out.Statement.{statement}
 use Rattle.solver.proofs.outputs.write_out.Tie as tie
@@ -92,10 +89,7 @@ part-write-strategy-end-3 : tie.Need-part-write-strategy-end-3
 part-write-strategy-end-3 c = search needs
 
 write-strategy-requires : tie.Need-write-strategy-requires
-write-strategy-requires c κs =
-    let g = c .before .before .before .before .before .before .before .before .before .before .before .before .before .before .before .before .before .before .before in
-    let a = g .args in
-    rw (part-is (a .at) (a .s) (a .work .now), part-is (a .at + a .s) (a .s) (a .work .now), part-is (a .from) (length (a .owners .now)) (a .work .now)) (g .pre .enterable)
+write-strategy-requires c κs = lent-enterable (c .before .before .before .before .before .before .before .before .before .before .before .before .before .before .before .before .before .before .before .pre)
 
 same-length : tie.Need-same-length
 same-length c = search needs
@@ -108,15 +102,11 @@ same-length-3 c = search needs
 
 returns : tie.Need-returns
 returns c =
-    let g = c .before .before .before .before .before .before .before .before .before .before .before .before .before .before .before .before .before .before .before .before .before .before in
-    let a = g .args in
-    record {
-      even = c .before .before .before .before .before .before .before .before .before .before .before .before .before .before .copy-from .ensures ∙ part-is (a .at) (a .s) (a .work .now);
-      odd = c .before .before .before .before .before .before .before .before .before .copy-from2 .ensures ∙ part-is (a .at + a .s) (a .s) (a .work .now);
-      strategy =
-          rw (part-is (a .at) (a .s) (a .work .now), part-is (a .at + a .s) (a .s) (a .work .now), part-is (a .from) (length (a .owners .now)) (a .work .now)) at
-          (c .before .before .write-strategy .ensures);
-    }
+    let a = c .before .before .before .before .before .before .before .before .before .before .before .before .before .before .before .before .before .before .before .before .before .before .args in
+    wrote-parts (a .s) (a .from) (a .at) (a .work .now) (record { even = a .even .now; odd = a .odd .now; strategy = a .strategy .now })
+    (c .before .before .before .before .before .before .before .before .before .before .before .before .before .before .copy-from .ensures)
+    (c .before .before .before .before .before .before .before .before .before .copy-from2 .ensures)
+    (c .before .before .write-strategy .ensures)
 
 pub write-out-spec : {M : Type 1} → statement M
 write-out-spec =
