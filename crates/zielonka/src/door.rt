@@ -45,14 +45,15 @@ fn run(
         sets::clear(work, 0, work.len());
         return Ran::OverBudget;
     };
-    sets::copy_from(even, &work[base + 2 * s..base + 3 * s]);
-    sets::copy_from(odd, &work[base + 3 * s..base + 4 * s]);
-    solver::write_strategy(
+    solver::write_out(
         compute_strategy,
         owners,
-        &work[base + 2 * s..base + 3 * s],
-        &work[base + 3 * s..base + 4 * s],
-        &work[entries..entries + n],
+        s,
+        entries,
+        base + 2 * s,
+        work,
+        even,
+        odd,
         strategy,
     );
     sets::clear(work, 0, work.len());
