@@ -12,12 +12,11 @@ use lib.ListN.{length, getD, set, length-set}
 use lib.Seq.{getD-set-same, getD-set-other}
 use Rattle.rules.specs.Counting.{count}
 use Rattle.rules.specs.Words.{noEntry}
-use Rattle.theory.specs.Basics.{count-cong, count-none}
 use Rattle.sets.specs.After.{Cleared}
 use Rattle.attractor.specs.Area.{entries}
-use Rattle.priority_promotion.specs.Regions.{regionAt, Tallied, Elsewhere, highestUnder}
+use Rattle.priority_promotion.specs.Regions.{regionAt, Tallied, highestUnder}
 use Rattle.priority_promotion.specs.Walking.{Keeps, keeps-none, keeps-then}
-use Rattle.priority_promotion.specs.Cells.{Aside, Room, Placed, Becomes, Changes}
+use Rattle.priority_promotion.specs.Cells.{Aside, Placed, Becomes}
 use Rattle.priority_promotion.specs.Layout.{lowerAt, regionsAt}
 
 -- what `begin` asks for

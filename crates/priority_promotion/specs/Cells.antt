@@ -14,7 +14,7 @@ use Rattle.attractor.specs.Area.{wordsAt, setAt}
 use Rattle.attractor.specs.Views.{words-alike}
 use Rattle.priority_promotion.specs.Walking.{Keeps, keeps-none, Turn, Walkable}
 use Rattle.theory.specs.Basics.{count-cong}
-use Rattle.priority_promotion.specs.Regions.{Tallied, regionAt, Movable, Moved}
+use Rattle.priority_promotion.specs.Regions.{Tallied, regionAt, Moved}
 
 -- a word that is no region, no count and no entry
 abbrev pub Aside : ℕ → ℕ → ℕ → ℕ → Type 0

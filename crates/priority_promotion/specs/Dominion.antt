@@ -4,10 +4,10 @@ use mathlib.Core.Bool.{Bool, true, false, _&&_, _||_, not, cond}
 use mathlib.Core.List.{List}
 use mathlib.Core.Logic.{_⊎_, inl, inr, ⊎-elim}
 use mathlib.Core.Path.{_≡_, refl, sym, ap, ap₂, subst, _∙_}
-use Prim.Native.Nat.{ℕ, _+_, _-_, _*_, _%_, _≤_, _<_, max}
+use Prim.Native.Nat.{ℕ, _+_, _-_, _%_, _≤_, _<_, max}
 use native.Mathlib.Omega.{arith}
-use borrow.Author.Tests.{eqb-true, eq-eqb, lt-ltb, le-ltb, ltb-true}
-use lib.Dec.{eqb, ltb}
+use borrow.Author.Tests.{lt-ltb, le-ltb, ltb-true}
+use lib.Dec.{ltb}
 use lib.ListN.{length, getD}
 use Rattle.rules.specs.Counting.{Set}
 use Rattle.rules.specs.Game.{Player, Even, Odd, Game, parity, playerOf, same}
@@ -15,16 +15,16 @@ use Rattle.rules.specs.Tables.{Tables, words, gameOf, Accepted, tablesOf}
 use Rattle.rules.specs.Words.{noEntry}
 use Rattle.rules.specs.Attractor.{attractor}
 use Rattle.rules.specs.Promotion.{unsolved}
-use Rattle.theory.specs.Basics.{bool-cases, clash, not-true-is-false, and-intro, and-left, and-right, lt-or-ge, same-true}
+use Rattle.theory.specs.Basics.{bool-cases, clash, not-true-is-false, and-intro, and-right, lt-or-ge, same-true}
 use Rattle.theory.specs.Tables.{accepted-sound}
 use Rattle.theory.specs.AttractorRank.{Certificate}
-use Rattle.theory.specs.PromotionBasics.{atRegion, upTo, at-intro, at-is, at-in}
+use Rattle.theory.specs.PromotionBasics.{atRegion, at-intro, at-is, at-in}
 use Rattle.sets.specs.After.{Combined, Parts}
 use Rattle.sets.specs.Laws.{bit-other}
 use Rattle.attractor.specs.Area.{entries, free, setAt, wordsAt}
 use Rattle.attractor.specs.Attracted.{Attractable, Attracted}
 use Rattle.attractor.specs.Running.{listed-kept}
-use Rattle.priority_promotion.specs.Regions.{regionAt, Tallied, Elsewhere}
+use Rattle.priority_promotion.specs.Regions.{regionAt, Elsewhere}
 use Rattle.attractor.specs.SetsAt.{set-kept, set-united, set-reduced}
 use Rattle.priority_promotion.specs.Promoting.{PromoteAll, PromotedAll}
 use Rattle.priority_promotion.specs.Promotion.{promote-ready, promoted-long, promoted-tallied, promoted-sets, promoted-listed, promoted-region}

@@ -1,16 +1,15 @@
 -- Looking at R without changing anything: what such a walk asks for, and the lowest region above p that the opponent can go to.
-use mathlib.Core.Bool.{true, false}
+use mathlib.Core.Bool.{true}
 use mathlib.Core.List.{List, List·Memᴰ}
 use mathlib.Core.Logic.{_⊎_, inl, inr, ⊎-elim}
-use mathlib.Core.Path.{_≡_, refl, sym, ap, subst, _∙_}
-use Prim.Native.Nat.{ℕ, _+_, _-_, _*_, _≤_, _<_}
+use mathlib.Core.Path.{_≡_, refl, sym, subst}
+use Prim.Native.Nat.{ℕ, _+_, _-_, _≤_, _<_}
 use native.Mathlib.Decide.{ℕ-discrete}
 use native.Mathlib.Nat.{le-refl}
 use native.Mathlib.Omega.{arith}
 use lib.ListN.{length, getD}
 use Rattle.rules.specs.Tables.{words, targetsOf}
 use Rattle.theory.specs.Tables.{never-falls}
-use Rattle.theory.specs.Basics.{lt-or-ge}
 use Rattle.predecessors.specs.Table.{SoundEdges}
 use Rattle.sets.specs.declared.members.Members.{Members}
 use Rattle.attractor.specs.Area.{setAt}

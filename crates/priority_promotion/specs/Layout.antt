@@ -1,17 +1,16 @@
 -- Where the promotion's tables stand behind the attractor's, and what holds of the work area between two steps of a round.
-use mathlib.Core.Bool.{true, false, _&&_, cond}
+use mathlib.Core.Bool.{true, _&&_, cond}
 use mathlib.Core.List.{List}
-use mathlib.Core.Path.{_≡_, refl, sym, ap, _∙_}
+use mathlib.Core.Path.{_≡_, sym, _∙_}
 use Prim.Native.Nat.{ℕ, _+_, _*_, _≤_, _<_}
-use native.Mathlib.Omega.{arith}
 use borrow.Author.Tests.{lt-ltb, le-ltb, ltb-true}
 use lib.Dec.{ltb}
 use lib.ListN.{length, getD}
-use Rattle.rules.specs.Tables.{Tables, vertices, edgesIn, words, gameOf, Accepted}
+use Rattle.rules.specs.Tables.{Tables, vertices, words, Accepted}
 use Rattle.theory.specs.Basics.{and-left}
-use Rattle.theory.specs.Tables.{Sound, accepted-sound}
+use Rattle.theory.specs.Tables.{accepted-sound}
 use Rattle.predecessors.specs.Table.{SoundEdges}
-use Rattle.attractor.specs.Area.{entries, free, setAt, wordsAt}
+use Rattle.attractor.specs.Area.{entries, free, setAt}
 use Rattle.attractor.specs.Attracted.{Listed}
 use Rattle.priority_promotion.specs.Regions.{regionAt, Tallied}
 

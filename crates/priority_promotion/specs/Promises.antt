@@ -4,7 +4,7 @@
 use mathlib.Core.Bool.{Bool, true, false}
 use mathlib.Core.List.{List}
 use mathlib.Core.Logic.{_⊎_, ⊎-elim}
-use mathlib.Core.Path.{_≡_, refl, sym, ap, subst, _∙_}
+use mathlib.Core.Path.{_≡_, sym, _∙_}
 use Prim.Native.Nat.{ℕ, suc, _+_, _*_, _^_, _≤_, _<_}
 use native.Mathlib.Omega.{arith}
 use Rattle.rules.specs.Budget.{differentPriorities}
@@ -17,7 +17,7 @@ use Rattle.rules.specs.Tables.{Tables, gameOf, vertices, tableChecks, Accepted,
 use Rattle.rules.specs.Winning.{WinningSets, WinningEntries}
 use Rattle.rules.specs.Zielonka.{zielonka}
 use Rattle.parity_game.specs.Laws.{then-none}
-use Rattle.theory.specs.Basics.{bool-cases, lowest-found, lowest-none, lowest-unique, IsLowest}
+use Rattle.theory.specs.Basics.{bool-cases, lowest-found, lowest-none, lowest-unique}
 use Rattle.theory.specs.PromotionAccepted.{accepted-finishes, accepted-rounds-sets}
 use Rattle.theory.specs.PromotionSound.{winning-sets-agree}
 use Rattle.theory.specs.Tables.{accepted-total}

@@ -2,7 +2,7 @@
 -- that is what a dominion does.
 use mathlib.Core.Bool.{true, false, cond}
 use mathlib.Core.List.{List}
-use mathlib.Core.Path.{_≡_, refl, sym, ap, subst, _∙_}
+use mathlib.Core.Path.{_≡_, sym, ap, subst, _∙_}
 use Prim.Native.Nat.{ℕ, _+_, _-_, _*_, _≤_, _<_}
 use native.Mathlib.Omega.{arith}
 use borrow.Author.Tests.{lt-ltb, le-ltb}
@@ -11,7 +11,7 @@ use lib.ListN.{length, getD, take, drop}
 use Rattle.rules.specs.Counting.{Set}
 use Rattle.rules.specs.Tables.{words}
 use Rattle.rules.specs.Words.{noEntry, setOf}
-use Rattle.attractor.specs.Area.{setAt, wordsAt}
+use Rattle.attractor.specs.Area.{setAt}
 use Rattle.attractor.specs.Views.{bit-fits, part-set}
 use Rattle.priority_promotion.specs.Regions.{regionAt, Tallied, Moved, Movable}
 use Rattle.priority_promotion.specs.Walking.{Walkable, Keeps, Turn, Walked}

@@ -1,27 +1,25 @@
 -- The step that a promotion and a dominion share, over the whole work area: R goes over to region q, the other unsolved vertices of a region
 -- below q get their priorities back.
-use mathlib.Core.Bool.{Bool, true, false, _&&_, cond}
+use mathlib.Core.Bool.{true, false, cond}
 use mathlib.Core.List.{List}
 use mathlib.Core.Logic.{_⊎_, inl, inr, ⊎-elim}
-use mathlib.Core.Path.{_≡_, refl, sym, ap, subst, _∙_}
-use Prim.Native.Nat.{ℕ, _+_, _*_, _≤_, _<_}
+use mathlib.Core.Path.{_≡_, sym, ap, subst, _∙_}
+use Prim.Native.Nat.{ℕ, _≤_, _<_}
 use native.Mathlib.Omega.{arith}
 use borrow.Author.Tests.{lt-ltb, le-ltb, ltb-false}
 use lib.Dec.{ltb}
 use lib.ListN.{length, getD}
 use Rattle.rules.specs.Counting.{Set}
-use Rattle.rules.specs.Tables.{Tables, words, Accepted, tablesOf}
+use Rattle.rules.specs.Tables.{words, Accepted, tablesOf}
 use Rattle.rules.specs.Words.{noEntry}
 use Rattle.theory.specs.Basics.{bool-cases, and-false-cases, clash}
 use Rattle.theory.specs.Tables.{accepted-sound}
-use Rattle.attractor.specs.Area.{entries, free, setAt, wordsAt}
+use Rattle.attractor.specs.Area.{entries, free, setAt}
 use Rattle.attractor.specs.Attracted.{Listed}
 use Rattle.attractor.specs.Running.{listed-kept}
 use Rattle.priority_promotion.specs.Regions.{regionAt, Tallied, Elsewhere}
-use Rattle.attractor.specs.SetsAt.{set-kept}
-use Rattle.priority_promotion.specs.Cells.{Aside}
 use Rattle.priority_promotion.specs.Promoting.{PromoteAll, PromoteAllOf, PromotedAll, PromotedAllOf}
-use Rattle.priority_promotion.specs.Layout.{lowerAt, heldAt, evenAt, regionsAt, tableAt, table-below, entryOf, Ready, unsolved-small}
+use Rattle.priority_promotion.specs.Layout.{heldAt, regionsAt, tableAt, table-below, entryOf, Ready, unsolved-small}
 
 module _ (owners priorities offsets targets : List ℕ) (ok : Accepted (tablesOf owners priorities offsets targets)) (q s : ℕ) (w0 : List ℕ)
     (ready : Ready (length owners) offsets targets s w0) (most : q ≤ 256)

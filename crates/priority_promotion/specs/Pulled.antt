@@ -1,14 +1,14 @@
 -- What an attractor leaves of the entries: own vertices that were drawn in have the entries of a certificate, all other entries stay. And
 -- how an own vertex is told by its owner's number.
 use mathlib.Core.Bool.{true, false}
-use mathlib.Core.Path.{_≡_, refl, sym, ap, subst₃, fun-ext, _∙_}
-use Prim.Native.Nat.{ℕ, zero, suc, _%_, _≤_, _<_}
+use mathlib.Core.Path.{_≡_, sym, subst₃, fun-ext, _∙_}
+use Prim.Native.Nat.{ℕ, _%_, _<_}
 use native.Mathlib.Omega.{arith}
 use borrow.Author.Tests.{eqb-true, eq-eqb}
 use lib.Dec.{eqb}
-use lib.ListN.{length, getD}
+use lib.ListN.{getD}
 use Rattle.rules.specs.Counting.{Set}
-use Rattle.rules.specs.Game.{Player, Game, playerOf, parity, same}
+use Rattle.rules.specs.Game.{Player, Game, parity, same}
 use Rattle.rules.specs.Tables.{Tables, vertices, gameOf, Accepted}
 use Rattle.theory.specs.Basics.{same-true, true-same}
 use Rattle.theory.specs.Tables.{accepted-sound}

@@ -6,18 +6,17 @@ use mathlib.Core.Logic.{_⊎_, inl, inr, ⊎-elim}
 use mathlib.Core.Path.{_≡_, refl, sym, ap, ap₂, subst, _∙_}
 use Prim.Native.Nat.{ℕ, _+_, _*_, _%_, _≤_, _<_}
 use native.Mathlib.Omega.{arith}
-use borrow.Author.Tests.{eqb-true, eq-eqb, leb-true, le-leb, lt-ltb, le-ltb, ltb-true}
+use borrow.Author.Tests.{eqb-true, le-leb, lt-ltb, le-ltb}
 use lib.Dec.{eqb, leb, ltb}
 use lib.ListN.{length, getD}
-use Rattle.rules.specs.Counting.{Set, count, someOf}
-use Rattle.rules.specs.Game.{Player, Game, Edge, parity}
-use Rattle.rules.specs.Tables.{Tables, words, gameOf, Accepted, tablesOf}
+use Rattle.rules.specs.Counting.{Set, someOf}
+use Rattle.rules.specs.Game.{Game, Edge, parity}
+use Rattle.rules.specs.Tables.{words, gameOf, Accepted, tablesOf}
 use Rattle.rules.specs.Words.{noEntry, setOf}
 use Rattle.rules.specs.Attractor.{attractor}
 use Rattle.rules.specs.Promotion.{unsolved}
 use Rattle.theory.specs.Basics.{bool-cases, clash, not-true-is-false, and-intro, and-left, and-right, lt-or-ge, count-cong}
 use Rattle.theory.specs.Tables.{accepted-total}
-use Rattle.theory.specs.AttractorRank.{Certificate}
 use Rattle.theory.specs.PromotionBasics.{atRegion, upTo}
 use Rattle.theory.specs.PromotionEntries.{Attracts}
 use Rattle.sets.specs.After.{Cleared}
@@ -27,10 +26,10 @@ use Rattle.attractor.specs.Attracted.{Attractable, Attracted}
 use Rattle.attractor.specs.Running.{listed-kept}
 use Rattle.priority_promotion.specs.Regions.{regionAt, Tallied, Elsewhere}
 use Rattle.attractor.specs.SetsAt.{set-kept, set-cleared}
-use Rattle.priority_promotion.specs.Cells.{Aside, Between, between-words}
+use Rattle.priority_promotion.specs.Cells.{Between, between-words}
 use Rattle.priority_promotion.specs.Sorting.{Collects, Collected}
 use Rattle.priority_promotion.specs.Settling.{SettleAll, SettledAll}
-use Rattle.priority_promotion.specs.Layout.{lowerAt, heldAt, evenAt, regionsAt, tableAt, table-below, table-above, entryOf, Ready, unsolved-small}
+use Rattle.priority_promotion.specs.Layout.{lowerAt, heldAt, evenAt, regionsAt, tableAt, table-below, entryOf, Ready, unsolved-small}
 use Rattle.priority_promotion.specs.Pulled.{Pulled, pulled-as, owner-number}
 
 -- what `query` asks for: the tables are accepted with some priorities

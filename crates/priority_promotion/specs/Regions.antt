@@ -1,17 +1,17 @@
 -- The regions in the work area, one word for each vertex, and behind them how many vertices have each region from 0 to 256.
-use mathlib.Core.Bool.{Bool, true, false, cond}
+use mathlib.Core.Bool.{true, false}
 use mathlib.Core.List.{List}
 use mathlib.Core.Logic.{_⊎_, inl, inr, ⊎-elim}
 use mathlib.Core.Path.{_≡_, refl, sym, ap, _∙_}
 use Prim.Native.Nat.{ℕ, zero, suc, _+_, _-_, _≤_, _<_}
 use native.Mathlib.Decide.{ℕ-discrete}
-use native.Mathlib.Nat.{le-refl, not-suc-le-zero, le-step}
+use native.Mathlib.Nat.{not-suc-le-zero, le-step}
 use native.Mathlib.Omega.{arith}
 use borrow.Author.Tests.{eq-eqb, ne-eqb, eqb-true, lt-ltb, ltb-true}
 use lib.Dec.{eqb, ltb}
 use lib.ListN.{length, getD, set, length-set}
 use lib.Seq.{getD-set-same, getD-set-other}
-use Rattle.rules.specs.Counting.{Set, count, some, greatest}
+use Rattle.rules.specs.Counting.{count, greatest}
 use Rattle.theory.specs.Basics.{below-suc, bool-cases, count-cong, count-le, count-pos, count-some, some-intro, false-some}
 use Rattle.theory.specs.PromotionBasics.{greatest-bounds, greatest-attained, greatest-none}
 use Rattle.attractor.specs.Tally.{flag, flag-one, flag-zero}

@@ -1,14 +1,14 @@
 -- From the checked tables to what a run leaves: W words have room, the first state is the rules', and the end of the rounds is what is
 -- written out.
-use mathlib.Core.Bool.{Bool, true, false}
+use mathlib.Core.Bool.{true}
 use mathlib.Core.List.{List}
 use mathlib.Core.Path.{_≡_, refl, sym, ap, subst, _∙_}
-use Prim.Native.Nat.{ℕ, suc, _+_, _*_, _≤_, _<_}
+use Prim.Native.Nat.{ℕ, _+_, _≤_, _<_}
 use native.Mathlib.Omega.{arith}
 use lib.ListN.{length}
 use Rattle.rules.specs.Counting.{Set}
 use Rattle.rules.specs.Game.{Player, Even, Odd}
-use Rattle.rules.specs.Tables.{Tables, gameOf, vertices, edgesIn, words, workWords, Accepted, tablesOf}
+use Rattle.rules.specs.Tables.{Tables, gameOf, words, workWords, Accepted, tablesOf}
 use Rattle.rules.specs.Promotion.{afterRounds, allSolved, roundsNeeded}
 use Rattle.theory.specs.PromotionAccepted.{accepted-promotion-sets, accepted-promotion-entries}
 use Rattle.attractor.specs.Area.{free, setAt}

@@ -1,9 +1,9 @@
 -- R gets region p, and an own vertex of R that has no entry takes an edge that ends in R, if there is one.
 use mathlib.Core.Bool.{true, false}
 use mathlib.Core.List.{List, List·Memᴰ}
-use mathlib.Core.Logic.{_⊎_, inl, inr, ⊎-elim}
-use mathlib.Core.Path.{_≡_, refl, sym, ap, subst, _∙_}
-use Prim.Native.Nat.{ℕ, _+_, _-_, _*_, _≤_, _<_}
+use mathlib.Core.Logic.{inl}
+use mathlib.Core.Path.{_≡_, refl, sym, subst, _∙_}
+use Prim.Native.Nat.{ℕ, _+_, _-_, _≤_, _<_}
 use native.Mathlib.Nat.{le-refl}
 use native.Mathlib.Omega.{arith}
 use lib.ListN.{length, getD, take, drop, set}
@@ -15,11 +15,11 @@ use Rattle.predecessors.specs.Table.{SoundEdges}
 use Rattle.attractor.specs.Area.{setAt, wordsAt}
 use Rattle.attractor.specs.Counters.{EdgesOf}
 use Rattle.attractor.specs.Views.{words-alike, words-enough, part-length}
-use Rattle.priority_promotion.specs.Regions.{regionAt, Tallied, Moved, Movable}
+use Rattle.priority_promotion.specs.Regions.{Tallied, Moved, Movable}
 use Rattle.attractor.specs.Walking.{lent-part}
 use Rattle.priority_promotion.specs.Walking.{Walkable, Keeps, Turn, Walked}
 use Rattle.priority_promotion.specs.Edges.{FoundIn}
-use Rattle.priority_promotion.specs.Cells.{Aside, Room, Changes, cellAt, changes-region, changes-both, changes-turn, Between, between-words}
+use Rattle.priority_promotion.specs.Cells.{Aside, Room, cellAt, changes-region, changes-both, changes-turn, Between, between-words}
 use Rattle.priority_promotion.specs.Cells.{between-walkable, keeps-room}
 
 -- what a vertex of R gets, with S for R

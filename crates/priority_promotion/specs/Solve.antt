@@ -1,24 +1,21 @@
 -- Rounds one after another until all vertices are solved or the budget is used up, and what that says of the rounds needed.
-use mathlib.Core.Bool.{Bool, true, false, _&&_, not}
+use mathlib.Core.Bool.{true, false, _&&_, not}
 use mathlib.Core.List.{List}
-use mathlib.Core.Logic.{_⊎_, inl, inr, ⊎-elim}
-use mathlib.Core.Path.{_≡_, refl, sym, ap, subst, _∙_}
-use Prim.Native.Nat.{ℕ, zero, suc, _+_, _≤_, _<_}
+use mathlib.Core.Path.{_≡_, sym, ap, subst, _∙_}
+use Prim.Native.Nat.{ℕ, suc, _+_, _≤_, _<_}
 use native.Mathlib.Decide.{ℕ-discrete}
-use native.Mathlib.Nat.{le-refl}
 use native.Mathlib.Numerals.{add-one}
 use native.Mathlib.Omega.{arith}
-use borrow.Author.Tests.{lt-ltb}
 use lib.Dec.{ltb}
 use lib.ListN.{length, getD}
-use Rattle.rules.specs.Counting.{Set, count, some, lowest}
+use Rattle.rules.specs.Counting.{count}
 use Rattle.rules.specs.Game.{Game}
-use Rattle.rules.specs.Tables.{Tables, gameOf, Accepted, tablesOf}
-use Rattle.rules.specs.Promotion.{Regions, unsolved, atStart, roundOf, afterRounds, allSolved, roundsNeeded}
-use Rattle.theory.specs.Basics.{some-intro, false-some, count-zero, count-some, count-cong, lowest-unique, lowest-none, IsLowest}
-use Rattle.theory.specs.PromotionEntries.{Rounded, starts, rounds}
+use Rattle.rules.specs.Tables.{gameOf, Accepted, tablesOf}
+use Rattle.rules.specs.Promotion.{Regions, unsolved, afterRounds, allSolved, roundsNeeded}
+use Rattle.theory.specs.Basics.{some-intro, false-some, count-zero, count-some, lowest-unique, lowest-none}
+use Rattle.theory.specs.PromotionEntries.{Rounded, rounds}
 use Rattle.attractor.specs.Area.{free, setAt}
-use Rattle.priority_promotion.specs.Layout.{regionsAt, tableAt, table-below, entryOf}
+use Rattle.priority_promotion.specs.Layout.{regionsAt, table-below, entryOf}
 use Rattle.priority_promotion.specs.Round.{Shows}
 use Rattle.priority_promotion.specs.Rounds.{RoundReady, RoundDone}
 

@@ -1,10 +1,9 @@
 -- X and R at first: the unsolved vertices of region at most p, and those of region p.
-use mathlib.Core.Bool.{Bool, true, false, _&&_, cond}
+use mathlib.Core.Bool.{Bool, true, false, cond}
 use mathlib.Core.List.{List}
 use mathlib.Core.Logic.{_⊎_, inl, inr, ⊎-elim}
 use mathlib.Core.Path.{_≡_, refl, sym, ap, ap₂, subst, _∙_}
-use Prim.Native.Nat.{ℕ, _+_, _-_, _*_, _≤_, _<_}
-use native.Mathlib.Decide.{ℕ-discrete}
+use Prim.Native.Nat.{ℕ, _+_, _-_, _≤_, _<_}
 use native.Mathlib.Omega.{arith}
 use borrow.Author.Tests.{eq-eqb, ne-eqb, le-leb, lt-leb}
 use lib.Dec.{eqb, leb}
@@ -14,7 +13,7 @@ use Rattle.rules.specs.Tables.{words}
 use Rattle.rules.specs.Words.{setOf}
 use Rattle.sets.specs.After.{Put}
 use Rattle.sets.specs.Laws.{put-set}
-use Rattle.attractor.specs.Area.{setAt, wordsAt}
+use Rattle.attractor.specs.Area.{setAt}
 use Rattle.attractor.specs.Views.{back, back-long, back-front, back-behind, back-part, part-is, part-length, part-set, set-alike}
 use Rattle.priority_promotion.specs.Regions.{regionAt}
 use Rattle.priority_promotion.specs.Walking.{Walkable, Keeps, keeps-none, Turn, Walked}

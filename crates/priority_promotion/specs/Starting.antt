@@ -1,32 +1,30 @@
 -- The first state: the predecessor table, the set of all vertices as unsolved, and what `begin` leaves show the rules' state before any round.
-use mathlib.Core.Bool.{Bool, true, false, _&&_, cond}
+use mathlib.Core.Bool.{true, false, _&&_}
 use mathlib.Core.List.{List}
 use mathlib.Core.Logic.{⊎-elim}
 use mathlib.Core.Path.{_≡_, refl, sym, ap, subst, _∙_}
 use Prim.Native.Nat.{ℕ, zero, suc, _+_, _*_, _≤_, _<_}
-use native.Mathlib.Nat.{le-refl, le-step, mul-le-mul-left, mul-le-mul-right}
+use native.Mathlib.Nat.{le-refl, le-step, mul-le-mul-left}
 use native.Mathlib.Omega.{arith}
 use borrow.Author.Tests.{lt-ltb, le-ltb}
 use lib.Dec.{ltb}
 use lib.ListN.{length, getD}
-use Rattle.rules.specs.Counting.{Set, count, greatest}
+use Rattle.rules.specs.Counting.{Set, count}
 use Rattle.rules.specs.Game.{Player, Even, Odd, Game}
-use Rattle.rules.specs.Tables.{Tables, vertices, edgesIn, words, workWords, gameOf, Accepted, tablesOf}
-use Rattle.rules.specs.Words.{noEntry}
-use Rattle.rules.specs.Promotion.{Regions, unsolved, atStart, afterRounds}
+use Rattle.rules.specs.Tables.{words, workWords, gameOf, Accepted, tablesOf}
+use Rattle.rules.specs.Promotion.{unsolved, atStart, afterRounds}
 use Rattle.theory.specs.Basics.{lt-or-ge}
 use Rattle.theory.specs.Tables.{accepted-sound}
 use Rattle.theory.specs.PromotionBasics.{noted-below, greatest-cong}
-use Rattle.theory.specs.PromotionEntries.{Rounded, starts}
+use Rattle.theory.specs.PromotionEntries.{starts}
 use Rattle.attractor.specs.Area.{entries, free, setAt}
 use Rattle.attractor.specs.Attracted.{Listed}
 use Rattle.attractor.specs.Running.{listed-kept}
-use Rattle.priority_promotion.specs.Regions.{regionAt, highestUnder}
+use Rattle.priority_promotion.specs.Regions.{regionAt}
 use Rattle.attractor.specs.SetsAt.{set-kept, set-zeros}
-use Rattle.priority_promotion.specs.Layout.{lowerAt, heldAt, evenAt, oddAt, regionsAt, tableAt, table-below, entryOf, accepted-edges}
+use Rattle.priority_promotion.specs.Layout.{evenAt, oddAt, regionsAt, tableAt, table-below, accepted-edges}
 use Rattle.priority_promotion.specs.Dominion.{wonAt}
 use Rattle.priority_promotion.specs.Beginning.{Beginnable, Begun, BegunOf}
-use Rattle.priority_promotion.specs.Round.{Shows}
 use Rattle.priority_promotion.specs.Solve.{Reached}
 
 -- all vertices are counted

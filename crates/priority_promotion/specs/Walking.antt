@@ -1,16 +1,15 @@
 -- A walk over the members of a set in the work area that changes each member it passes: members passed are changed, those still to come
 -- and the vertices outside the set are as they were. What is looked at of a vertex, and what a change is, the walk leaves open.
-use mathlib.Core.Bool.{Bool, true, false, cond}
+use mathlib.Core.Bool.{true, false}
 use mathlib.Core.List.{List, [], _∷_}
 use mathlib.Core.Logic.{_⊎_, inl, inr, ⊎-elim}
 use mathlib.Core.Path.{_≡_, refl, sym, ap, subst, _∙_}
-use Prim.Native.Nat.{ℕ, suc, _+_, _-_, _*_, _≤_, _<_}
+use Prim.Native.Nat.{ℕ, _+_, _-_, _≤_, _<_}
 use native.Mathlib.Decide.{ℕ-discrete}
 use native.Mathlib.Omega.{arith}
 use lib.ListN.{length, getD, take, drop, length-take}
 use Rattle.rules.specs.Counting.{times}
 use Rattle.rules.specs.Tables.{words}
-use Rattle.rules.specs.Words.{setOf}
 use Rattle.theory.specs.Basics.{clash}
 use Rattle.sets.specs.Laws.{member-bit, times-members}
 use Rattle.sets.specs.Walk.{members, left}

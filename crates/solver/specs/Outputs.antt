@@ -19,9 +19,9 @@ use Rattle.theory.specs.PromotionBasics.{noted-below}
 use Rattle.theory.specs.Tables.{accepted-sound, accepted-total}
 use Rattle.theory.specs.Zielonka.{determinacy}
 use Rattle.sets.specs.Laws.{other-bit}
-use Rattle.attractor.specs.Area.{entries, setAt, wordsAt, entryAt}
+use Rattle.attractor.specs.Area.{entries, setAt, entryAt}
 use Rattle.attractor.specs.Views.{part-is, part-length, words-enough}
-use Rattle.solver.specs.Entries.{ownerWins, chosen, Enterable, Written}
+use Rattle.solver.specs.Entries.{ownerWins, Enterable, Written}
 use Rattle.solver.specs.Running.{Outputs, Finished}
 
 -- ---- what `write_out` asks for and leaves

@@ -1,5 +1,4 @@
 -- From the recursion on all vertices to what the public solver writes out: the calls, the sets and the entries.
-use mathlib.Core.Bool.{Bool, true, false}
 use mathlib.Core.List.{List}
 use mathlib.Core.Path.{_≡_, refl, sym, ap, subst, fun-ext, _∙_}
 use Prim.Native.Nat.{ℕ, _+_, _-_, _*_, _≤_, _<_}

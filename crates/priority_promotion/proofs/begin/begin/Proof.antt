@@ -1,9 +1,7 @@
 use mathlib.Core.Path.{refl}
 -- `begin` meets its contract: the vertices before the one that is next have their priorities and no entries.
-use Prim.Native.Nat.{_+_, _-_}
+use Prim.Native.Nat.{_-_}
 use native.Mathlib.Omega.{arith}
-use lib.ListN.{length, set}
-use Rattle.priority_promotion.specs.Layout.{regionsAt}
 use Rattle.priority_promotion.specs.Beginning.{BegunTo, begun-none, reset-ready, begun-more, begun-all}
 use borrow.Author.Needs.{needs}
 use Rattle.priority_promotion.proofs.begin.begin.Statement.{statement}

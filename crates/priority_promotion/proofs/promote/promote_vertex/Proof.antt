@@ -1,5 +1,5 @@
 -- `promote_vertex` meets its contract: in R, below q, or neither.
-use Rattle.priority_promotion.specs.Promoting.{held-bit, promote-movable, promote-placed, promoted-in, promoted-back, promoted-not}
+use Rattle.priority_promotion.specs.Promoting.{held-bit, promoted-in, promoted-back, promoted-not}
 use mathlib.Core.Path.{sym, _∙_}
 use borrow.Author.Needs.{needs}
 use Rattle.priority_promotion.proofs.promote.promote_vertex.Statement.{statement}

@@ -3,7 +3,6 @@ use Prim.Native.Nat.{ℕ, _<_}
 use Prim.Native.Nat.{_+_, _-_, _≤_}
 use mathlib.Core.Path.{_≡_, refl, _∙_}
 use native.Mathlib.Omega.{arith}
-use borrow.Author.Needs.{needs}
 use lib.ListN.{length, getD}
 use Rattle.priority_promotion.specs.Layout.{regionsAt}
 use Rattle.priority_promotion.specs.Solve.{Reached, reached-ready, reached-more}

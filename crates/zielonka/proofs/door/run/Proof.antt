@@ -1,5 +1,5 @@
 -- `run` meets its contract: the recursion on all vertices is what the rules ask for, and what it found is written out.
-use mathlib.Core.Path.{_≡_, refl, subst, _∙_}
+use mathlib.Core.Path.{refl, subst, _∙_}
 use Prim.Native.Nat.{_+_, _*_, _≤_}
 use native.Mathlib.Omega.{arith}
 use lib.ListN.{length}

@@ -1,5 +1,4 @@
 -- `attract_highest` meets its contract: what is collected is the target of the cut.
-use native.Mathlib.Omega.{arith}
 use Rattle.zielonka.specs.PiecesHold.{highest-collects, highest-cuttable, highest-made}
 use borrow.Author.Needs.{needs}
 use Rattle.zielonka.proofs.level.attract_highest.Statement.{statement}
