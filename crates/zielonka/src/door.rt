@@ -24,16 +24,16 @@ fn run(
     strategy: &mut [u16],
     work: &mut [u64],
 ) -> Ran
-    requires { ⌜ Runnable (tablesOf (now owners) (now priorities) (now offsets) (now targets)) (now even) (now odd) (now strategy) (now work) ⌝ }
+    requires { ⌜ Runnable (tablesOf (now owners) (now priorities) (now offsets) (now targets))
+        (now even) (now odd) (now strategy) (now work) ⌝ }
     ensures { λ r.
-        ⌜ (now (work .exit) ≡ replicate (length (now (work .entry))) 0) ×
-        Runs «compute_strategy» budget
-        (tablesOf (now (owners .entry)) (now (priorities .entry)) (now (offsets .entry)) (now (targets .entry)))
-        (zielonka (gameOf (tablesOf (now (owners .entry)) (now (priorities .entry)) (now (offsets .entry)) (now (targets .entry)))) .calls)
-        (zielonka (gameOf (tablesOf (now (owners .entry)) (now (priorities .entry)) (now (offsets .entry)) (now (targets .entry)))) .won)
+        ⌜ (let t =
+        tablesOf (now (owners .entry)) (now (priorities .entry)) (now (offsets .entry)) (now (targets .entry)) in
+        (now (work .exit) ≡ replicate (length (now (work .entry))) 0) ×
+        Runs «compute_strategy» budget t (zielonka (gameOf t) .calls) (zielonka (gameOf t) .won)
         (record { even = now (even .entry); odd = now (odd .entry); strategy = now (strategy .entry) })
         (record { even = now (even .exit); odd = now (odd .exit); strategy = now (strategy .exit) })
-        r ⌝ }
+        r) ⌝ }
 {
     let n = owners.len();
     let s = parity_game::set_words(n);
@@ -73,17 +73,22 @@ pub fn solve_zielonka(
     work: &mut [u64],
 ) -> Answer
     ensures { λ r.
-        ⌜ Solves «compute_strategy» budget
-        (tablesOf (now (owners .entry)) (now (priorities .entry)) (now (offsets .entry)) (now (targets .entry)))
-        (zielonka
-        (gameOf
-        (tablesOf (now (owners .entry)) (now (priorities .entry)) (now (offsets .entry)) (now (targets .entry)))) .calls)
-        (zielonka
-        (gameOf
-        (tablesOf (now (owners .entry)) (now (priorities .entry)) (now (offsets .entry)) (now (targets .entry)))) .won)
-        (record { even = now (even .entry); odd = now (odd .entry); strategy = now (strategy .entry); work = now (work .entry) })
-        (record { even = now (even .exit); odd = now (odd .exit); strategy = now (strategy .exit); work = now (work .exit) })
-        (said r) ⌝ }
+        ⌜ (let t =
+        tablesOf (now (owners .entry)) (now (priorities .entry)) (now (offsets .entry)) (now (targets .entry)) in
+        Solves «compute_strategy» budget t (zielonka (gameOf t) .calls) (zielonka (gameOf t) .won)
+        (record {
+          even = now (even .entry);
+          odd = now (odd .entry);
+          strategy = now (strategy .entry);
+          work = now (work .entry);
+        })
+        (record {
+          even = now (even .exit);
+          odd = now (odd .exit);
+          strategy = now (strategy .exit);
+          work = now (work .exit);
+        })
+        (said r)) ⌝ }
 {
     let r = solver::check_all(
         owners,
