@@ -35,34 +35,26 @@ pub fn zielonka_rec(
     }
     let p = get_highest_prio(priorities, &work[base..base + s]).0;
     attract_highest(owners, priorities, offsets, targets, p, s, work, base);
+    let up = base + 4 * s;
     let first = zielonka_rec(
         owners,
         priorities,
         offsets,
         targets,
         work,
-        base + 4 * s,
+        up,
         calls + 1,
         budget,
     );
     let Ran::Needed(made) = first else {
         return Ran::OverBudget;
     };
-    if lost_nothing(p, s, work, base + 4 * s) {
+    if lost_nothing(p, s, work, up) {
         win_everything(owners, priorities, offsets, targets, p, s, work, base);
         return Ran::Needed(made);
     }
     attract_lost(owners, offsets, targets, p, s, work, base);
-    let second = zielonka_rec(
-        owners,
-        priorities,
-        offsets,
-        targets,
-        work,
-        base + 4 * s,
-        made,
-        budget,
-    );
+    let second = zielonka_rec(owners, priorities, offsets, targets, work, up, made, budget);
     let Ran::Needed(all) = second else {
         return Ran::OverBudget;
     };

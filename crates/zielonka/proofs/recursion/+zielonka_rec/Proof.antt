@@ -155,8 +155,8 @@ mul-clear-2 t c = search needs
 clear-requires : (t : ℕ) → lts.Need-clear-requires (cs t) (called-at t) own.Post
 clear-requires t c κs = omega (arith, level-fits (c .before .before .before .before .before .before .before .before .before .before .before .before .pre .1) (c .before .before .before .before .before .set-words .ensures))
 
-add-t29 : (t : ℕ) → lts.Need-add-t29 (cs t) (called-at t) own.Post
-add-t29 t c = search needs
+add-t30 : (t : ℕ) → lts.Need-add-t30 (cs t) (called-at t) own.Post
+add-t30 t c = search needs
 
 same-length : (t : ℕ) → lts.Need-same-length (cs t) (called-at t) own.Post
 same-length t c = search needs
@@ -214,14 +214,14 @@ attract-highest-requires t c κs =
     let (v, q) = level-some (g .pre .1) size (c .before .before .before .before .before .is-empty .ensures) (c .before .before .before .before .if2 .left) in
     member-ready (g .pre .1) size v q
 
-mul-zielonka-rec : (t : ℕ) → lts.Need-mul-zielonka-rec (cs t) (called-at t) own.Post
-mul-zielonka-rec t c = search needs
+mul-up : (t : ℕ) → lts.Need-mul-up (cs t) (called-at t) own.Post
+mul-up t c = search needs
+
+add-up : (t : ℕ) → lts.Need-add-up (cs t) (called-at t) own.Post
+add-up t c = search needs
 
 add-zielonka-rec : (t : ℕ) → lts.Need-add-zielonka-rec (cs t) (called-at t) own.Post
 add-zielonka-rec t c = search needs
-
-add-zielonka-rec-2 : (t : ℕ) → lts.Need-add-zielonka-rec-2 (cs t) (called-at t) own.Post
-add-zielonka-rec-2 t c = search needs
 
 zielonka-rec-requires : (t : ℕ) → lts.Need-zielonka-rec-requires (cs t) (called-at t) own.Post
 zielonka-rec-requires t c κs =
@@ -248,12 +248,6 @@ returns-3 t c =
     (c .enum-told .given .1)
     (c .before .before .before .before .zielonka-rec .ensures))
 
-mul-lost-nothing : (t : ℕ) → lts.Need-mul-lost-nothing (cs t) (called-at t) own.Post
-mul-lost-nothing t c = omega (arith, came t (c .before) .begun .ready .high, c .before .before .before .before .before .before .before .before .before .before .before .before .before .before .before .before .before .before .before .before .before .before .before .before .before .before .good)
-
-add-lost-nothing : (t : ℕ) → lts.Need-add-lost-nothing (cs t) (called-at t) own.Post
-add-lost-nothing t c = omega (arith, came t (c .before) .begun .ready .high, c .before .before .before .before .before .before .before .before .before .before .before .before .before .before .before .before .before .before .before .before .before .before .before .before .before .before .good)
-
 lost-nothing-requires : (t : ℕ) → lts.Need-lost-nothing-requires (cs t) (called-at t) own.Post
 lost-nothing-requires t c κs = omega (arith, came-ready (came t (c .before)) .high)
 
@@ -268,12 +262,6 @@ returns-4 t c = came-all (came t (c .before .before .before .before .before .bef
 
 attract-lost-requires : (t : ℕ) → lts.Need-attract-lost-requires (cs t) (called-at t) own.Post
 attract-lost-requires t c κs = came-losable (came t (c .before .before .before .before))
-
-mul-zielonka-rec-2 : (t : ℕ) → lts.Need-mul-zielonka-rec-2 (cs t) (called-at t) own.Post
-mul-zielonka-rec-2 t c = omega (arith, lost t (c .before .before .before) .came .begun .ready .high, c .before .before .before .before .before .before .before .before .before .before .before .before .before .before .before .before .before .before .before .before .before .before .before .before .before .before .before .before .before .before .before .before .before .good)
-
-add-zielonka-rec-3 : (t : ℕ) → lts.Need-add-zielonka-rec-3 (cs t) (called-at t) own.Post
-add-zielonka-rec-3 t c = omega (arith, lost t (c .before .before .before) .came .begun .ready .high, c .before .before .before .before .before .before .before .before .before .before .before .before .before .before .before .before .before .before .before .before .before .before .before .before .before .before .before .before .before .before .before .before .before .good)
 
 zielonka-rec-requires-2 : (t : ℕ) → lts.Need-zielonka-rec-requires-2 (cs t) (called-at t) own.Post
 zielonka-rec-requires-2 t c κs =
@@ -350,7 +338,7 @@ pub +zielonka-rec-spec : {M : Type 1} → statement M
     (add-clear t)
     (mul-clear-2 t)
     (clear-requires t)
-    (add-t29 t)
+    (add-t30 t)
     (same-length t)
     (returns-2 t)
     (add-get-highest-prio t)
@@ -360,23 +348,19 @@ pub +zielonka-rec-spec : {M : Type 1} → statement M
     (part-get-highest-prio-end t)
     (get-highest-prio-requires t)
     (attract-highest-requires t)
-    (mul-zielonka-rec t)
+    (mul-up t)
+    (add-up t)
     (add-zielonka-rec t)
-    (add-zielonka-rec-2 t)
     (zielonka-rec-requires t)
     (enum-known-first t)
     (enum-told t)
     (same-length-2 t)
     (returns-3 t)
-    (mul-lost-nothing t)
-    (add-lost-nothing t)
     (lost-nothing-requires t)
     (win-everything-requires t)
     (same-length-3 t)
     (returns-4 t)
     (attract-lost-requires t)
-    (mul-zielonka-rec-2 t)
-    (add-zielonka-rec-3 t)
     (zielonka-rec-requires-2 t)
     (enum-known-second t)
     (enum-told-2 t)
