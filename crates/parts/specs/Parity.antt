@@ -7,19 +7,20 @@ use Prim.Native.Nat.{ℕ, _+_, _-_, _*_, _≤_, _<_}
 use native.Mathlib.Nat.{le-refl}
 use native.Mathlib.Numerals.{add-one}
 use native.Mathlib.Omega.{arith}
+use lib.Dec.{eqb}
 use lib.ListN.{length, getD}
 use Rattle.rules.specs.Counting.{some, times}
 use Rattle.rules.specs.Game.{Edge, playerOf}
-use Rattle.rules.specs.Solitaire.{goodPart}
+use Rattle.rules.specs.Solitaire.{atMost, goodPart, samePart}
 use Rattle.rules.specs.Tables.{Tables, vertices, targetsOf, gameOf, Accepted}
 use Rattle.rules.specs.Words.{entry, noEntry}
-use Rattle.theory.specs.Basics.{member-place, place-member, times-pos, times-member}
+use Rattle.theory.specs.Basics.{and-left, and-right, clash, not-true-is-false, some-elim, some-false, member-place, place-member, times-pos, times-member}
 use Rattle.theory.specs.Chosen.{chosenPart}
 use Rattle.parity_game.specs.Laws.{accepted-sound}
 use Rattle.predecessors.specs.Table.{start, row, Ready, Predecessors}
 use Rattle.predecessors.specs.Whole.{starts-grow, row-length, row-at, accepted-edges}
 use Rattle.parts.specs.Area.{marks, behind, marked}
-use Rattle.parts.specs.Graph.{Graph, graph, size, edgeCount, gameIn, SoundGraph}
+use Rattle.parts.specs.Graph.{Graph, graph, size, edgeCount, gameIn, linksIn, SoundGraph}
 use Rattle.parts.specs.Seeking.{Rows}
 use Rattle.parts.specs.Whole.{Markable, Marked}
 
@@ -38,6 +39,33 @@ pub record Swept (priorities offsets targets entries : List ℕ) (parity base k 
       marked (length priorities) base after v ≡
       (marked (length priorities) base before v ||
       some k (λ j. chosenPart (gameIn (graph priorities offsets targets entries 0)) entries (2 * j + parity) v))
+
+or-nothing : (b : Bool) → (b || false) ≡ b
+or-nothing true = refl
+or-nothing false = refl
+
+-- a priority that no vertex has has no part
+pub marked-unused :
+    (G : Graph) (base : ℕ) (work : List ℕ) →
+    some (size G) (λ v. eqb (getD (G .priorities) v 0) (G .top)) ≡ false →
+    Marked G base work work
+unfolding goodPart
+marked-unused G base work none =
+    record {
+      long = refl;
+      table = λ i l. refl;
+      rest = λ i b o. refl;
+      found =
+          λ v l.
+          sym (ap (λ (b : Bool). marked (size G) base work v || b) (no-part v) ∙ or-nothing (marked (size G) base work v));
+    }
+  where
+    no-part : (v : ℕ) → chosenPart (gameIn G) (G .entries) (G .top) v ≡ false
+    no-part v =
+        not-true-is-false _
+        (λ q.
+        let (u, l, met) = some-elim (size G) _ (and-left _ _ (and-right (atMost (gameIn G) (G .top) v) _ q)) in
+        clash (and-right (samePart (size G) (linksIn G) v u) _ met) (some-false (size G) _ none u l))
 
 -- the table depends on its own words alone
 rows-alike :
@@ -82,10 +110,6 @@ module _ (priorities offsets targets entries : List ℕ) (parity : ℕ) (before 
         rest = λ i a o. refl;
         found = λ v l. sym (or-nothing (marked (length priorities) base before v));
       }
-    where
-      or-nothing : (b : Bool) → (b || false) ≡ b
-      or-nothing true = refl
-      or-nothing false = refl
 
   module _ (k : ℕ) (work : List ℕ) (s : Swept priorities offsets targets entries parity base k before work) where
     pub sweep-ready : Markable (graph priorities offsets targets entries (2 * k + parity)) work base

@@ -1,5 +1,44 @@
 // All priorities of one parity, one after another.
+ghost use mathlib.Core.Path.{_≡_};
+ghost use lib.Dec.{eqb};
+ghost use lib.ListN.{length, getD};
+ghost use Rattle.rules.specs.Counting.{some};
+ghost use Rattle.parts.specs.Graph.{graph};
+ghost use Rattle.parts.specs.Whole.{Markable, Marked};
 ghost use Rattle.parts.specs.Parity.{Sweepable, Swept};
+
+// Whether some vertex has priority p.
+fn occurs(priorities: &[u16], p: u16) -> bool
+    ensures { λ r. ⌜ r ≡ some (length (now (priorities .entry))) (λ v. eqb (getD (now (priorities .entry)) v 0) p) ⌝ }
+{
+    for v in 0..priorities.len() {
+        if priorities[v] == p {
+            return true;
+        }
+    }
+    false
+}
+
+// A priority that no vertex has has no part, and no search.
+fn mark_used(
+    priorities: &[u16],
+    offsets: &[u16],
+    targets: &[u16],
+    entries: &[u16],
+    p: u16,
+    work: &mut [u64],
+    base: usize,
+)
+    requires { ⌜ Markable (graph (now priorities) (now offsets) (now targets) (now entries) p) (now work) base ⌝ }
+    ensures { λ _.
+        ⌜ Marked (graph (now (priorities .entry)) (now (offsets .entry)) (now (targets .entry))
+        (now (entries .entry)) p)
+        base (now (work .entry)) (now (work .exit)) ⌝ }
+{
+    if occurs(priorities, p) {
+        crate::mark_parts(priorities, offsets, targets, entries, p, work, base);
+    }
+}
 
 // Marks in one row of n words the vertices of good parts for some priority below 256 of that parity.
 pub fn mark_parity(
@@ -18,7 +57,7 @@ pub fn mark_parity(
         (now (work .entry)) (now (work .exit)) ⌝ }
 {
     for k in 0..128u16 {
-        crate::mark_parts(
+        mark_used(
             priorities,
             offsets,
             targets,

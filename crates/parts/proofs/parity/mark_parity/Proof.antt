@@ -9,7 +9,7 @@ use Rattle.parts.proofs.parity.mark_parity.Statement.{statement}
 use Rattle.parts.proofs.parity.mark_parity.Tie as tie
 use Rattle.parts.proofs.parity.mark_parity.Reads as reads
 use Rattle.parts.proofs.parity.mark_parity.Lts as lts
-use Rattle.parts.proofs.mark_parts.Reads as mark-parts-reads
+use Rattle.parts.proofs.parity.mark_used.Reads as mark-used-reads
 
 abbrev Inv-loop : tie.InvT-loop
 Inv-loop priorities offsets targets entries parity work₀ base k₀ work k =
@@ -24,14 +24,14 @@ loop-holds c =
     let a = s .args in
     (search needs, refl, swept-none (a .priorities .now) (a .offsets .now) (a .targets .now) (a .entries .now) (a .parity) (a .work .now) (a .base) (s .pre))
 
-mul-mark-parts : tie.Need-mul-mark-parts Inv-loop μ-loop
-mul-mark-parts c = search needs
+mul-mark-used : tie.Need-mul-mark-used Inv-loop μ-loop
+mul-mark-used c = search needs
 
-add-mark-parts : tie.Need-add-mark-parts Inv-loop μ-loop
-add-mark-parts c = search needs
+add-mark-used : tie.Need-add-mark-used Inv-loop μ-loop
+add-mark-used c = search needs
 
-mark-parts-requires : tie.Need-mark-parts-requires Inv-loop μ-loop
-mark-parts-requires c κs =
+mark-used-requires : tie.Need-mark-used-requires Inv-loop μ-loop
+mark-used-requires c κs =
     let s = c .before .before .before .before .before .before .before .before in
     let a = s .args in
     let l = c .before .before .loop in
@@ -49,7 +49,7 @@ loop-again c =
     let s = c .before .before .before .before .before .before .before .before .before .before .before in
     let a = s .args in
     let l = c .before .before .before .before .before .loop in
-    let f = c .before .before .mark-parts in
+    let f = c .before .before .mark-used in
     let next = swept-more (a .priorities .now) (a .offsets .now) (a .targets .now) (a .entries .now) (a .parity) (a .work .now) (a .base) (s .pre)
     (l .k) (l .work) (l .inv .2) (f .last .1 .1 .1 .1 .1 .0) (f .ensures) in
     (omega arith, next .long, next)
@@ -75,9 +75,9 @@ mark-parity-spec =
     Inv-loop
     μ-loop
     loop-holds
-    mul-mark-parts
-    add-mark-parts
-    mark-parts-requires
+    mul-mark-used
+    add-mark-used
+    mark-used-requires
     add-k
     loop-less
     loop-again
