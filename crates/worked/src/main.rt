@@ -1,5 +1,4 @@
-// Document 01's table of worked games: name, winner of each vertex in order (0 Even, 1 Odd), calls. The column of
-// rounds joins it with priority promotion.
+// Document 01's table of worked games: name, winner of each vertex in order (0 Even, 1 Odd), calls, rounds.
 use libc::STDOUT_FILENO;
 
 // The winners of n vertices, from the word of Odd's set.
@@ -38,6 +37,20 @@ fn report(
     print_winners(owners.len(), odd[0]);
     io::write_all(STDOUT_FILENO, b" ");
     io::print_decimal(STDOUT_FILENO, r.count());
+    let r = priority_promotion::solve_priority_promotion(
+        owners,
+        priorities,
+        offsets,
+        targets,
+        true,
+        1000000,
+        &mut even,
+        &mut odd,
+        strategy,
+        &mut work,
+    );
+    io::write_all(STDOUT_FILENO, b" ");
+    io::print_decimal(STDOUT_FILENO, r.count());
     io::write_all(STDOUT_FILENO, b"\n");
 }
 
@@ -45,7 +58,7 @@ fn main() {
     let mut one = [0u16; 1];
     let mut two = [0u16; 2];
     let mut four = [0u16; 4];
-    io::write_all(STDOUT_FILENO, b"game winner calls\n");
+    io::write_all(STDOUT_FILENO, b"game winner calls rounds\n");
     report(b"C2 ", &[0], &[0], &[0, 1], &[0], &mut one);
     report(b"C5 ", &[1, 0], &[1, 2], &[0, 2, 3], &[1, 1, 1], &mut two);
     report(b"C6 ", &[0, 1], &[2, 1], &[0, 1, 2], &[1, 1], &mut two);
