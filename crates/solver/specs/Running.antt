@@ -31,6 +31,10 @@ pub record Outputs : Type 0 where
   pub odd : List ℕ
   pub strategy : List ℕ
 
+-- those lists of what a solver is lent
+abbrev pub outputsOf : Lent → Outputs
+outputsOf l = record { even = l .even; odd = l .odd; strategy = l .strategy }
+
 -- an answer within the budget
 pub record Finished (flag : Bool) (budget : ℕ) (t : Tables) (needed : ℕ) (won : Player → Set) (made : ℕ) (after : Outputs) : Type 0 where
   pub exact : made ≡ needed
@@ -75,10 +79,10 @@ solves-refused flag budget t needed won l o e h =
     refuses z = h (ap (λ (x : Outcome). x .number) (e ∙ ap (λ (v : Verdict). outcome v (answered 0)) z))
 
 -- an answer
-pub solves-answered :
+solves-answered :
     (flag : Bool) (budget : ℕ) (t : Tables) (needed : ℕ) (won : Player → Set) (before after : Lent) (made : ℕ) →
     solverChecks t before ≡ none →
-    Finished flag budget t needed won made (record { even = after .even; odd = after .odd; strategy = after .strategy }) →
+    Finished flag budget t needed won made (outputsOf after) →
     after .work ≡ cleared t (before .work) →
     Solves flag budget t needed won before after (answered made)
 solves-answered flag budget t needed won before after made passed f work =
@@ -92,11 +96,10 @@ solves-answered flag budget t needed won before after made passed f work =
     }
 
 -- 13
-pub solves-stopped :
+solves-stopped :
     (flag : Bool) (budget : ℕ) (t : Tables) (needed : ℕ) (won : Player → Set) (before after : Lent) →
     solverChecks t before ≡ none →
-    Halted budget needed (record { even = before .even; odd = before .odd; strategy = before .strategy })
-    (record { even = after .even; odd = after .odd; strategy = after .strategy }) →
+    Halted budget needed (outputsOf before) (outputsOf after) →
     after .work ≡ cleared t (before .work) →
     Solves flag budget t needed won before after
     (record { number = 13; place = 0; count = budget })
@@ -113,6 +116,21 @@ solves-stopped flag budget t needed won before after passed h work =
             work = work;
           });
     }
+
+-- what a solver gives after its run
+abbrev pub ranOutcome : ℕ → Ran → Outcome
+ranOutcome budget (Needed made) = answered made
+ranOutcome budget OverBudget = record { number = 13; place = 0; count = budget }
+
+-- **past the checks a solver gives and leaves what its run makes of it**
+pub solves-ran :
+    (flag : Bool) (budget : ℕ) (t : Tables) (needed : ℕ) (won : Player → Set) (before after : Lent) (r : Ran) →
+    solverChecks t before ≡ none →
+    Runs flag budget t needed won (outputsOf before) (outputsOf after) r →
+    after .work ≡ cleared t (before .work) →
+    Solves flag budget t needed won before after (ranOutcome budget r)
+solves-ran flag budget t needed won before after (Needed made) = solves-answered flag budget t needed won before after made
+solves-ran flag budget t needed won before after OverBudget = solves-stopped flag budget t needed won before after
 
 -- past the checks the first W words are what the run asks for
 pub run-ready :

@@ -1,17 +1,19 @@
 -- `solve_priority_promotion` meets its contract: a refusal is returned with nothing written; past the checks the run is done in the first W words.
+use mathlib.Core.List.{_++_}
 use mathlib.Core.Path.{_≡_, subst}
+use Prim.Native.Nat.{ℕ, _-_}
 use native.Mathlib.Omega.{arith}
-use lib.ListN.{length}
+use lib.ListN.{length, take, drop}
 use Rattle.rules.specs.Outcome.{none}
-use Rattle.rules.specs.Solver.{Lent, solverChecks}
+use Rattle.rules.specs.Solver.{Lent, solverChecks, Solves}
 use Rattle.rules.specs.Tables.{Tables, gameOf, tablesOf}
 use Rattle.rules.specs.Promotion.{roundsNeeded}
 use Rattle.theory.specs.Tables.{accepted-sound}
 use Rattle.parity_game.proofs.Matched.{went-on, refusal-not-zero}
 use Rattle.attractor.specs.Answered.{work-cleared}
-use Rattle.solver.specs.declared.ran.Ran.{Ran}
 use Rattle.solver.specs.Checks.{numbered-checks, Passed, checks-passed}
-use Rattle.solver.specs.Running.{Runs, run-ready, solves-refused, solves-answered, solves-stopped}
+use Rattle.solver.specs.declared.ran.Ran.{Ran}
+use Rattle.solver.specs.Running.{outputsOf, Runs, ranOutcome, run-ready, solves-refused, solves-ran}
 use Rattle.priority_promotion.specs.Running.{wonIn}
 use borrow.Author.Needs.{needs}
 use Rattle.priority_promotion.proofs.door.solve_priority_promotion.Statement.{statement}
@@ -43,6 +45,43 @@ passed d =
     checks-passed (tables g) (length (g .args .even .now)) (length (g .args .odd .now)) (length (g .args .strategy .now)) (length (g .args .work .now))
     (no-refusal d)
 
+-- what the run left
+abbrev began : tie.After-run → tie.Start
+began r = start (r .before .before .before .before .before .before)
+
+abbrev words : tie.After-run → ℕ
+words r = r .before .before .before .before .before .work-words .result
+
+abbrev after : tie.After-run → Lent
+after r =
+    let l = r .run .last .1 .1 .1 .1 .1 .1 in
+    let w = began r .args .work .now in
+    record {
+      even = l .0;
+      odd = l .1 .0;
+      strategy = l .1 .1 .0;
+      work = take 0 w ++ (l .1 .1 .1 .0 ++ drop (words r - 0) (drop 0 w));
+    }
+
+-- **so the solver is as its contract says**
+solved :
+    (r : tie.After-run) {x : Ran} →
+    r .run .result ≡ x →
+    let g = began r in
+    Solves (g .args .compute-strategy) (g .args .budget) (tables g) (roundsNeeded (gameOf (tables g)) (g .args .budget))
+    (wonIn (tables g) (g .args .budget)) (lent g) (after r) (ranOutcome (g .args .budget) x)
+solved r {x} e =
+    let g = began r in
+    solves-ran (g .args .compute-strategy) (g .args .budget) (tables g) (roundsNeeded (gameOf (tables g)) (g .args .budget))
+    (wonIn (tables g) (g .args .budget)) (lent g) (after r) x (no-refusal (r .before .before .before .before .before .before))
+    (subst
+    (Runs (g .args .compute-strategy) (g .args .budget) (tables g) (roundsNeeded (gameOf (tables g)) (g .args .budget))
+    (wonIn (tables g) (g .args .budget)) (outputsOf (lent g)) (outputsOf (after r)))
+    e
+    (r .run .ensures .1))
+    (work-cleared (tables g) (words r) (g .args .work .now) (r .run .last .1 .1 .1 .1 .1 .1 .1 .1 .1 .0)
+    (r .before .before .before .before .before .work-words .ensures) (passed (r .before .before .before .before .before .before) .work-size) (r .run .ensures .0))
+
 check-all-requires : tie.Need-check-all-requires
 check-all-requires c κs = search needs
 
@@ -52,7 +91,8 @@ enum-told c = search needs
 returns : tie.Need-returns
 returns c =
     let g = c .before .before .before .before .before .before .before .before .before .before in
-    solves-refused (g .args .compute-strategy) (g .args .budget) (tables g) (roundsNeeded (gameOf (tables g)) (g .args .budget)) (wonIn (tables g) (g .args .budget)) (lent g) _
+    solves-refused (g .args .compute-strategy) (g .args .budget) (tables g) (roundsNeeded (gameOf (tables g)) (g .args .budget))
+    (wonIn (tables g) (g .args .budget)) (lent g) _
     (c .before .check-all .ensures) (refusal-not-zero (c .before .check-all .result) (c .match .keys2))
 
 work-words-requires : tie.Need-work-words-requires
@@ -70,10 +110,10 @@ part-run-end c = omega (arith, passed (c .before .before .before .before) .work-
 
 run-requires : tie.Need-run-requires
 run-requires c κs =
-    let g = c .before .before .before .before .before .before .before .before .before .before .before .before .before .before .before .before in
-    let a = g .args in
-    run-ready (tables g) (c .before .before .before .before .work-words .result) (a .even .now) (a .odd .now) (a .strategy .now) (a .work .now) (c .before .before .before .before .work-words .ensures)
-    (passed (c .before .before .before .before .before))
+    let d = c .before .before .before .before .before in
+    let a = start d .args in
+    let w = c .before .before .before .before .work-words in
+    run-ready (tables (start d)) (w .result) (a .even .now) (a .odd .now) (a .strategy .now) (a .work .now) (w .ensures) (passed d)
 
 enum-known-ran : tie.Need-enum-known-ran
 enum-known-ran c = search needs
@@ -94,17 +134,7 @@ same-length-4 : tie.Need-same-length-4
 same-length-4 c = search needs
 
 returns-2 : tie.Need-returns-2
-returns-2 c =
-    let g = c .before .before .before .before .before .before .before .before .before .before .before .before .before .before .before .before .before .before .before .before .before .before .before .before .before .before .before in
-    solves-stopped (g .args .compute-strategy) (g .args .budget) (tables g) (roundsNeeded (gameOf (tables g)) (g .args .budget)) (wonIn (tables g) (g .args .budget)) (lent g)
-    (record { even = c .before .before .before .before .before .before .before .before .before .before .run .last .1 .1 .1 .1 .1 .1 .0; odd = c .before .before .before .before .before .before .before .before .before .before .run .last .1 .1 .1 .1 .1 .1 .1 .0; strategy = c .before .before .before .before .before .before .before .before .before .before .run .last .1 .1 .1 .1 .1 .1 .1 .1 .0; work = _ })
-    (no-refusal (c .before .before .before .before .before .before .before .before .before .before .before .before .before .before .before .before))
-    (subst
-    (λ (r : Ran). Runs (g .args .compute-strategy) (g .args .budget) (tables g) (roundsNeeded (gameOf (tables g)) (g .args .budget)) (wonIn (tables g) (g .args .budget)) (record { even = g .args .even .now; odd = g .args .odd .now; strategy = g .args .strategy .now }) (record { even = c .before .before .before .before .before .before .before .before .before .before .run .last .1 .1 .1 .1 .1 .1 .0; odd = c .before .before .before .before .before .before .before .before .before .before .run .last .1 .1 .1 .1 .1 .1 .1 .0; strategy = c .before .before .before .before .before .before .before .before .before .before .run .last .1 .1 .1 .1 .1 .1 .1 .1 .0 }) r)
-    (c .enum-told2 .given .1)
-    (c .before .before .before .before .before .before .before .before .before .before .run .ensures .1))
-    (work-cleared (tables g) (c .before .before .before .before .before .before .before .before .before .before .before .before .before .before .before .work-words .result) (g .args .work .now) _ (c .before .before .before .before .before .before .before .before .before .before .before .before .before .before .before .work-words .ensures) (passed (c .before .before .before .before .before .before .before .before .before .before .before .before .before .before .before .before) .work-size)
-    (c .before .before .before .before .before .before .before .before .before .before .run .ensures .0))
+returns-2 c = solved (c .before .before .before .before .before .before .before .before .before .before) (c .enum-told2 .given .1)
 
 same-length-5 : tie.Need-same-length-5
 same-length-5 c = search needs
@@ -119,18 +149,7 @@ same-length-8 : tie.Need-same-length-8
 same-length-8 c = search needs
 
 returns-3 : tie.Need-returns-3
-returns-3 c =
-    let g = c .before .before .before .before .before .before .before .before .before .before .before .before .before .before .before .before .before .before .before .before .before .before .before .before .before .before .before .before in
-    solves-answered (g .args .compute-strategy) (g .args .budget) (tables g) (roundsNeeded (gameOf (tables g)) (g .args .budget)) (wonIn (tables g) (g .args .budget)) (lent g)
-    (record { even = c .before .before .before .before .before .before .before .before .before .before .before .run .last .1 .1 .1 .1 .1 .1 .0; odd = c .before .before .before .before .before .before .before .before .before .before .before .run .last .1 .1 .1 .1 .1 .1 .1 .0; strategy = c .before .before .before .before .before .before .before .before .before .before .before .run .last .1 .1 .1 .1 .1 .1 .1 .1 .0; work = _ })
-    (c .before .ran .given .0 .0)
-    (no-refusal (c .before .before .before .before .before .before .before .before .before .before .before .before .before .before .before .before .before))
-    (subst
-    (λ (r : Ran). Runs (g .args .compute-strategy) (g .args .budget) (tables g) (roundsNeeded (gameOf (tables g)) (g .args .budget)) (wonIn (tables g) (g .args .budget)) (record { even = g .args .even .now; odd = g .args .odd .now; strategy = g .args .strategy .now }) (record { even = c .before .before .before .before .before .before .before .before .before .before .before .run .last .1 .1 .1 .1 .1 .1 .0; odd = c .before .before .before .before .before .before .before .before .before .before .before .run .last .1 .1 .1 .1 .1 .1 .1 .0; strategy = c .before .before .before .before .before .before .before .before .before .before .before .run .last .1 .1 .1 .1 .1 .1 .1 .1 .0 }) r)
-    (c .before .ran .given .1)
-    (c .before .before .before .before .before .before .before .before .before .before .before .run .ensures .1))
-    (work-cleared (tables g) (c .before .before .before .before .before .before .before .before .before .before .before .before .before .before .before .before .work-words .result) (g .args .work .now) _ (c .before .before .before .before .before .before .before .before .before .before .before .before .before .before .before .before .work-words .ensures) (passed (c .before .before .before .before .before .before .before .before .before .before .before .before .before .before .before .before .before) .work-size)
-    (c .before .before .before .before .before .before .before .before .before .before .before .run .ensures .0))
+returns-3 c = solved (c .before .before .before .before .before .before .before .before .before .before .before) (c .before .ran .given .1)
 
 pub solve-priority-promotion-spec : {M : Type 1} → statement M
 solve-priority-promotion-spec =
