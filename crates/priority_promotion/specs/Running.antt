@@ -47,13 +47,13 @@ module _ (owners priorities offsets targets : List ℕ) (ok : Accepted (tablesOf
 
       -- what `solve` asks for
       pub run-reached :
-          {w2 : List ℕ} {current many : ℕ} →
+          {w2 : List ℕ} {current many made : ℕ} →
           Begun priorities (length targets) s w1 w2 current →
           many ≡ length priorities →
-          Reached owners priorities offsets targets s current many 0 w2
-      run-reached {w2} {current} begun e =
-          subst (λ (k : ℕ). Reached owners priorities offsets targets s current k 0 w2) (sym e)
-          (begun-reached owners priorities offsets targets ok s size w1 begun (prepared .listed) (prepared .full))
+          made ≡ 0 →
+          Reached owners priorities offsets targets s current many made w2
+      run-reached begun all none =
+          rw (all, none) (begun-reached owners priorities offsets targets ok s size w1 begun (prepared .listed) (prepared .full))
 
 module _ (owners priorities offsets targets : List ℕ) {s budget at many made : ℕ} {w2 w3 : List ℕ}
     (ended : Ended owners priorities offsets targets s budget at many made w2 w3)

@@ -1,5 +1,6 @@
 -- `run` meets its contract: the rounds from the first state are those of the rules, and what they found is written out.
-use mathlib.Core.Path.{_≡_, refl, sym, subst, _∙_}
+use mathlib.Core.List.{List}
+use mathlib.Core.Path.{_≡_, refl, _∙_}
 use Prim.Native.Nat.{ℕ, _≤_}
 use native.Mathlib.Omega.{arith}
 use lib.ListN.{length}
@@ -9,41 +10,57 @@ use Rattle.attractor.specs.Views.{words-few}
 use Rattle.sets.specs.Laws.{cleared-all}
 use Rattle.solver.specs.Outputs.{Found, found-writable, found-finished}
 use Rattle.priority_promotion.specs.Layout.{evenAt}
-use Rattle.priority_promotion.specs.Solve.{Reached}
 use Rattle.priority_promotion.specs.Running.{wonIn, run-preparable, run-beginnable, run-reached, run-over, run-rounds, run-found}
 use borrow.Author.Needs.{needs}
 use Rattle.priority_promotion.proofs.door.run.Statement.{statement}
 use Rattle.priority_promotion.proofs.door.run.Tie as tie
 
--- the tables, and where the function begins
+-- the tables
 abbrev tables : tie.Start → Tables
 tables g = tablesOf (g .args .owners .now) (g .args .priorities .now) (g .args .offsets .now) (g .args .targets .now)
 
 -- there are few vertices, edges and words
-few : (g : tie.Start) → (length (g .args .owners .now) ≤ 4096) × (length (g .args .targets .now) ≤ 16384) × (words (length (g .args .owners .now)) ≤ 64)
+few :
+    (g : tie.Start) →
+    (length (g .args .owners .now) ≤ 4096) × (length (g .args .targets .now) ≤ 16384) × (words (length (g .args .owners .now)) ≤ 64)
 few g =
     let f = accepted-sound (tables g) (g .pre .accepted) in
     (f .few-vertices, f .few-edges, words-few (length (g .args .owners .now)) (f .few-vertices))
 
-abbrev start : tie.After-struct-known → tie.Start
-start d = d .before .before .before .before .before .before .before .before .before .before .before .before .before .before .before .before .before .before .before .before .before .before
+-- the rounds have ended: where each call stands
+abbrev ended : tie.After-struct-known → tie.After-solve
+ended d = d .before .before .before
 
--- the work area is as long as it was
-kept-long : (d : tie.After-struct-known) → length (d .before .before .before .solve .last .1 .1 .1 .1 .1 .1 .0) ≡ length (start d .args .work .now)
-kept-long d =
-    d .before .before .before .solve .ensures .long ∙ d .before .before .before .before .before .before .before .begin .ensures .0 .long ∙ d .before .before .before .before .before .before .before .before .before .before .before .prepare .ensures .long
+abbrev begun : tie.After-struct-known → tie.After-begin
+begun d = ended d .before .before .before .before
+
+abbrev prepared : tie.After-struct-known → tie.After-prepare
+prepared d = begun d .before .before .before .before
+
+abbrev sized : tie.After-struct-known → tie.After-set-words
+sized d = prepared d .before .before
+
+abbrev start : tie.After-struct-known → tie.Start
+start d = sized d .before .before .before .before .before .before .before .before .before
+
+-- the work area then
+abbrev left : tie.After-struct-known → List ℕ
+left d = ended d .solve .last .1 .1 .1 .1 .1 .1 .0
+
+kept-long : (d : tie.After-struct-known) → length (left d) ≡ length (start d .args .work .now)
+kept-long d = ended d .solve .ensures .long ∙ begun d .begin .ensures .0 .long ∙ prepared d .prepare .ensures .long
 
 -- where all are solved, the rounds have found what is to be written
 found :
     (d : tie.After-struct-known) →
-    d .before .before .before .solve .result .unsolved ≡ 0 →
+    ended d .solve .result .unsolved ≡ 0 →
     let g = start d in
-    Found (tables g) (wonIn (tables g) (g .args .budget)) (d .before .before .before .before .before .before .before .before .before .before .before .before .before .set-words .result)
-    (evenAt (length (g .args .owners .now)) (length (g .args .targets .now)) (d .before .before .before .before .before .before .before .before .before .before .before .before .before .set-words .result))
-    (d .before .before .before .solve .last .1 .1 .1 .1 .1 .1 .0)
+    let s = sized d .set-words .result in
+    Found (tables g) (wonIn (tables g) (g .args .budget)) s
+    (evenAt (length (g .args .owners .now)) (length (g .args .targets .now)) s) (left d)
 found d z =
     let a = start d .args in
-    run-found (a .owners .now) (a .priorities .now) (a .offsets .now) (a .targets .now) (d .before .before .before .solve .ensures) z
+    run-found (a .owners .now) (a .priorities .now) (a .offsets .now) (a .targets .now) (ended d .solve .ensures) z
 
 set-words-requires : tie.Need-set-words-requires
 set-words-requires c κs = search needs
@@ -66,24 +83,31 @@ add-unsolved c = omega (arith, few (c .before .before .before .before .before .b
 prepare-requires : tie.Need-prepare-requires
 prepare-requires c κs =
     let g = c .before .before .before .before .before .before .before .before .before .before in
-    run-preparable (g .args .owners .now) (g .args .priorities .now) (g .args .offsets .now) (g .args .targets .now) (g .pre .accepted) (c .before .set-words .result) (c .before .set-words .ensures) (g .args .work .now) (g .pre .room)
+    let a = g .args in
+    let s = c .before .set-words in
+    run-preparable (a .owners .now) (a .priorities .now) (a .offsets .now) (a .targets .now) (g .pre .accepted) (s .result) (s .ensures)
+    (a .work .now) (g .pre .room)
 
 begin-requires : tie.Need-begin-requires
 begin-requires c κs =
-    let g = c .before .before .before .before .before .before .before .before .before .before .before .before .before .before in
-    run-beginnable (g .args .owners .now) (g .args .priorities .now) (g .args .offsets .now) (g .args .targets .now) (g .pre .accepted) (c .before .before .before .before .before .set-words .result) (c .before .before .before .before .before .set-words .ensures) (g .args .work .now) (g .pre .room)
-    (c .before .before .before .prepare .ensures)
+    let d = c .before .before .before in
+    let g = d .before .before .before .before .before .before .before .before .before .before .before in
+    let a = g .args in
+    let s = d .before .before .set-words in
+    run-beginnable (a .owners .now) (a .priorities .now) (a .offsets .now) (a .targets .now) (g .pre .accepted) (s .result) (s .ensures)
+    (a .work .now) (g .pre .room) (d .prepare .ensures)
 
 solve-requires : tie.Need-solve-requires
 solve-requires c κs =
-    let g = c .before .before .before .before .before .before .before .before .before .before .before .before .before .before .before .before .before .before in
-    let begun = c .before .before .before .begin .ensures in (
-      subst
-          (λ (k : ℕ). Reached (g .args .owners .now) (g .args .priorities .now) (g .args .offsets .now) (g .args .targets .now) (c .before .before .before .before .before .before .before .before .before .set-words .result) (c .before .before .before .begin .result .current .0) (c .before .before .before .begin .result .unsolved) k (c .before .before .before .begin .last .1 .1 .1 .0))
-          (sym (begun .2))
-          (run-reached (g .args .owners .now) (g .args .priorities .now) (g .args .offsets .now) (g .args .targets .now) (g .pre .accepted) (c .before .before .before .before .before .before .before .before .before .set-words .result) (c .before .before .before .before .before .before .before .before .before .set-words .ensures) (g .args .work .now) (g .pre .room)
-          (c .before .before .before .before .before .before .before .prepare .ensures) (begun .0) (begun .1)),
-      omega (arith, begun .2),
+    let b = c .before .before .before in
+    let d = b .before .before .before .before in
+    let g = d .before .before .before .before .before .before .before .before .before .before .before in
+    let a = g .args in
+    let s = d .before .before .set-words in
+    let (first, all, none) = b .begin .ensures in (
+      run-reached (a .owners .now) (a .priorities .now) (a .offsets .now) (a .targets .now) (g .pre .accepted) (s .result) (s .ensures)
+          (a .work .now) (g .pre .room) (d .prepare .ensures) first all none,
+      omega (arith, none),
     )
 
 clear-requires : tie.Need-clear-requires
@@ -95,23 +119,25 @@ same-length c = search needs
 returns : tie.Need-returns
 returns c =
     let d = c .before .before .before .before .before in
-    let g = start d in (
-      cleared-all (g .args .work .now) (d .before .before .before .solve .last .1 .1 .1 .1 .1 .1 .0) (kept-long d) (c .before .before .clear .ensures),
+    let g = start d in
+    let a = g .args in (
+      cleared-all (a .work .now) (left d) (kept-long d) (c .before .before .clear .ensures),
       record {
         over =
-            run-over (g .args .owners .now) (g .args .priorities .now) (g .args .offsets .now) (g .args .targets .now) (d .before .before .before .solve .ensures) (c .before .before .before .before .if1 .taken);
+            run-over (a .owners .now) (a .priorities .now) (a .offsets .now) (a .targets .now) (ended d .solve .ensures)
+            (c .before .before .before .before .if1 .taken);
         same = refl;
       },
     )
 
 add-held : tie.Need-add-held
-add-held c = let d = c .before in omega (arith, few (start d), d .before .before .before .before .before .before .before .before .before .before .before .before .before .set-words .ensures)
+add-held c = let d = c .before in omega (arith, few (start d), sized d .set-words .ensures)
 
 add-held-2 : tie.Need-add-held-2
-add-held-2 c = let d = c .before in omega (arith, few (start d), d .before .before .before .before .before .before .before .before .before .before .before .before .before .set-words .ensures)
+add-held-2 c = let d = c .before in omega (arith, few (start d), sized d .set-words .ensures)
 
 add-write-out : tie.Need-add-write-out
-add-write-out c = let d = c .before in omega (arith, few (start d), d .before .before .before .before .before .before .before .before .before .before .before .before .before .set-words .ensures)
+add-write-out c = let d = c .before in omega (arith, few (start d), sized d .set-words .ensures)
 
 write-out-requires : tie.Need-write-out-requires
 write-out-requires c κs =
@@ -138,11 +164,12 @@ returns-2 : tie.Need-returns-2
 returns-2 c =
     let d = c .before .before .before .before .before .before .before .before .before .before .before .before .before .before .before .before in
     let g = start d in
-    let none : d .before .before .before .solve .result .unsolved ≡ 0 = omega (arith, c .before .before .before .before .before .before .before .before .before .before .before .before .before .before .before .if1 .left) in (
-      cleared-all (g .args .work .now) (d .before .before .before .solve .last .1 .1 .1 .1 .1 .1 .0) (kept-long d) (c .before .before .clear2 .ensures),
+    let a = g .args in
+    let none : ended d .solve .result .unsolved ≡ 0 = omega (arith, c .before .before .before .before .before .before .before .before .before .before .before .before .before .before .before .if1 .left) in (
+      cleared-all (a .work .now) (left d) (kept-long d) (c .before .before .clear2 .ensures),
       found-finished (found d none) (g .pre .strategy-size) (c .before .before .before .before .before .before .before .before .before .before .write-out .ensures)
-          (run-rounds (g .args .owners .now) (g .args .priorities .now) (g .args .offsets .now) (g .args .targets .now) (d .before .before .before .solve .ensures) none)
-          (d .before .before .before .solve .ensures .within),
+          (run-rounds (a .owners .now) (a .priorities .now) (a .offsets .now) (a .targets .now) (ended d .solve .ensures) none)
+          (ended d .solve .ensures .within),
     )
 
 pub run-spec : {M : Type 1} → statement M

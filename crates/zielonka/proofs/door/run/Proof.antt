@@ -1,6 +1,7 @@
 -- `run` meets its contract: the recursion on all vertices is what the rules ask for, and what it found is written out.
-use mathlib.Core.Path.{refl, subst, _∙_}
-use Prim.Native.Nat.{_+_, _*_, _≤_}
+use mathlib.Core.List.{List}
+use mathlib.Core.Path.{_≡_, refl, subst, _∙_}
+use Prim.Native.Nat.{ℕ, _+_, _*_, _≤_}
 use native.Mathlib.Omega.{arith}
 use lib.ListN.{length}
 use Rattle.rules.specs.Tables.{Tables, words, gameOf, tablesOf}
@@ -8,49 +9,70 @@ use Rattle.rules.specs.Zielonka.{zielonka}
 use Rattle.theory.specs.Tables.{accepted-sound}
 use Rattle.attractor.specs.Area.{free}
 use Rattle.attractor.specs.Views.{words-few}
-use Rattle.zielonka.specs.Level.{Done, Ends}
+use Rattle.zielonka.specs.Level.{Ends}
 use Rattle.zielonka.specs.Solving.{run-preparable, run-called, run-over-budget, run-calls, run-found}
+use Rattle.solver.specs.declared.ran.Ran.{Ran}
 use Rattle.solver.specs.Outputs.{Found, found-writable, found-finished}
 use Rattle.sets.specs.Laws.{cleared-all}
 use borrow.Author.Needs.{needs}
 use Rattle.zielonka.proofs.door.run.Statement.{statement}
 use Rattle.zielonka.proofs.door.run.Tie as tie
 
--- the tables, and where the function begins
+-- the tables, and where the first level stands
 abbrev tables : tie.Start → Tables
 tables g = tablesOf (g .args .owners .now) (g .args .priorities .now) (g .args .offsets .now) (g .args .targets .now)
 
-abbrev start : tie.After-known-told → tie.Start
-start d = d .before .before .before .before .before .before .before .before .before .before .before .before .before .before .before .before .before .before .before .before
+abbrev base : tie.Start → ℕ
+base g = free (length (g .args .owners .now)) (length (g .args .targets .now))
 
 -- there are few vertices, edges and words
-few : (g : tie.Start) → (length (g .args .owners .now) ≤ 4096) × (length (g .args .targets .now) ≤ 16384) × (words (length (g .args .owners .now)) ≤ 64)
+few :
+    (g : tie.Start) →
+    (length (g .args .owners .now) ≤ 4096) × (length (g .args .targets .now) ≤ 16384) × (words (length (g .args .owners .now)) ≤ 64)
 few g =
     let f = accepted-sound (tables g) (g .pre .accepted) in
     (f .few-vertices, f .few-edges, words-few (length (g .args .owners .now)) (f .few-vertices))
 
--- the recursion has ended within the budget
-ended :
-    (d : tie.After-known-told) →
-    let g = start d in
-    Done (tables g) (free (length (g .args .owners .now)) (length (g .args .targets .now))) 0 (g .args .budget) (d .before .ran .given .0 .0) (d .before .before .before .before .before .before .before .before .before .prepare .last .1 .1 .1 .1 .0) (d .before .before .before .before .before .zielonka-rec .last .1 .1 .1 .1 .0)
-ended d =
-    let g = start d in
-    subst
-    (Ends (tables g) (free (length (g .args .owners .now)) (length (g .args .targets .now))) 0 (g .args .budget) (d .before .before .before .before .before .before .before .before .before .prepare .last .1 .1 .1 .1 .0) (d .before .before .before .before .before .zielonka-rec .last .1 .1 .1 .1 .0))
-    (d .before .ran .given .1)
-    (d .before .before .before .before .before .zielonka-rec .ensures)
+-- the recursion has ended: where each call before it stands, and the work area then
+abbrev prepared : tie.After-zielonka-rec → tie.After-prepare
+prepared r = r .before .before .before .before
 
--- the recursion has found what is to be written
+abbrev sized : tie.After-zielonka-rec → tie.After-set-words
+sized r = prepared r .before .before
+
+abbrev start : tie.After-zielonka-rec → tie.Start
+start r = sized r .before .before .before .before .before .before .before .before .before
+
+abbrev left : tie.After-zielonka-rec → List ℕ
+left r = r .zielonka-rec .last .1 .1 .1 .1 .0
+
+kept-long : (r : tie.After-zielonka-rec) → length (left r) ≡ length (start r .args .work .now)
+kept-long r = r .zielonka-rec .kept .1 .1 .1 .1 .0 ∙ prepared r .prepare .ensures .long
+
+-- by what it gave
+ends :
+    (r : tie.After-zielonka-rec) {x : Ran} →
+    r .zielonka-rec .result ≡ x →
+    let g = start r in
+    Ends (tables g) (base g) 0 (g .args .budget) (prepared r .prepare .last .1 .1 .1 .1 .0) (left r) x
+ends r e =
+    let g = start r in
+    subst (Ends (tables g) (base g) 0 (g .args .budget) (prepared r .prepare .last .1 .1 .1 .1 .0) (left r)) e (r .zielonka-rec .ensures)
+
+-- within the budget it has found what is to be written
+abbrev ended : tie.After-known-told → tie.After-zielonka-rec
+ended d = d .before .before .before .before .before
+
 found :
     (d : tie.After-known-told) →
-    let g = start d in
-    Found (tables g) (zielonka (gameOf (tables g)) .won) (d .before .before .before .before .before .before .before .before .before .before .before .set-words .result)
-    (free (length (g .args .owners .now)) (length (g .args .targets .now)) + 2 * d .before .before .before .before .before .before .before .before .before .before .before .set-words .result)
-    (d .before .before .before .before .before .zielonka-rec .last .1 .1 .1 .1 .0)
+    let g = start (ended d) in
+    let s = sized (ended d) .set-words .result in
+    Found (tables g) (zielonka (gameOf (tables g)) .won) s (base g + 2 * s) (left (ended d))
 found d =
-    let g = start d in
-    run-found (tables g) (g .pre .accepted) (g .args .work .now) (g .pre .room) (d .before .before .before .before .before .before .before .before .before .prepare .ensures) (ended d) (d .before .before .before .before .before .before .before .before .before .before .before .set-words .ensures)
+    let r = ended d in
+    let g = start r in
+    run-found (tables g) (g .pre .accepted) (g .args .work .now) (g .pre .room) (prepared r .prepare .ensures)
+    (ends r (d .before .ran .given .1)) (sized r .set-words .ensures)
 
 set-words-requires : tie.Need-set-words-requires
 set-words-requires c κs = search needs
@@ -71,10 +93,15 @@ add-base : tie.Need-add-base
 add-base c = omega (arith, few (c .before .before .before .before .before .before .before .before .before))
 
 prepare-requires : tie.Need-prepare-requires
-prepare-requires c κs = let g = c .before .before .before .before .before .before .before .before .before .before in run-preparable (tables g) (g .pre .accepted) (g .args .work .now) (g .pre .room) (c .before .set-words .ensures)
+prepare-requires c κs =
+    let g = c .before .before .before .before .before .before .before .before .before .before in
+    run-preparable (tables g) (g .pre .accepted) (g .args .work .now) (g .pre .room) (c .before .set-words .ensures)
 
 zielonka-rec-requires : tie.Need-zielonka-rec-requires
-zielonka-rec-requires c κs = let g = c .before .before .before .before .before .before .before .before .before .before .before .before .before .before in run-called (tables g) (g .pre .accepted) (g .args .work .now) (g .pre .room) (c .before .before .before .prepare .ensures)
+zielonka-rec-requires c κs =
+    let d = c .before .before .before in
+    let g = d .before .before .before .before .before .before .before .before .before .before .before in
+    run-called (tables g) (g .pre .accepted) (g .args .work .now) (g .pre .room) (d .prepare .ensures)
 
 enum-known-ran : tie.Need-enum-known-ran
 enum-known-ran c = search needs
@@ -90,15 +117,13 @@ same-length c = search needs
 
 returns : tie.Need-returns
 returns c =
-    let g = c .before .before .before .before .before .before .before .before .before .before .before .before .before .before .before .before .before .before .before .before .before .before .before in (
-      cleared-all (g .args .work .now) (c .before .before .before .before .before .before .before .before .zielonka-rec .last .1 .1 .1 .1 .0) (c .before .before .before .before .before .before .before .before .zielonka-rec .kept .1 .1 .1 .1 .0 ∙ c .before .before .before .before .before .before .before .before .before .before .before .before .prepare .kept .1 .1 .1 .1 .0) (c .before .before .clear .ensures),
+    let r = c .before .before .before .before .before .before .before .before in
+    let g = start r in (
+      cleared-all (g .args .work .now) (left r) (kept-long r) (c .before .before .clear .ensures),
       record {
         over =
-            run-over-budget (tables g) (g .pre .accepted) (g .args .work .now) (g .pre .room) (c .before .before .before .before .before .before .before .before .before .before .before .before .prepare .ensures)
-            (subst
-            (Ends (tables g) (free (length (g .args .owners .now)) (length (g .args .targets .now))) 0 (g .args .budget) (c .before .before .before .before .before .before .before .before .before .before .before .before .prepare .last .1 .1 .1 .1 .0) (c .before .before .before .before .before .before .before .before .zielonka-rec .last .1 .1 .1 .1 .0))
-            (c .before .before .before .before .enum-told .given .1)
-            (c .before .before .before .before .before .before .before .before .zielonka-rec .ensures));
+            run-over-budget (tables g) (g .pre .accepted) (g .args .work .now) (g .pre .room) (prepared r .prepare .ensures)
+            (ends r (c .before .before .before .before .enum-told .given .1));
         same = refl;
       },
     )
@@ -107,12 +132,12 @@ mul-write-out : tie.Need-mul-write-out
 mul-write-out c = search needs
 
 add-write-out : tie.Need-add-write-out
-add-write-out c = omega (arith, few (start c), c .before .before .before .before .before .before .before .before .before .before .before .set-words .ensures)
+add-write-out c = let r = ended c in omega (arith, few (start r), sized r .set-words .ensures)
 
 write-out-requires : tie.Need-write-out-requires
 write-out-requires c κs =
     let d = c .before .before .before .before in
-    let g = start d in
+    let g = start (ended d) in
     found-writable (found d) (g .pre .even-size) (g .pre .odd-size) (g .pre .strategy-size)
 
 clear-requires-2 : tie.Need-clear-requires-2
@@ -133,11 +158,13 @@ same-length-5 c = search needs
 returns-2 : tie.Need-returns-2
 returns-2 c =
     let d = c .before .before .before .before .before .before .before .before .before .before .before .before .before .before .before in
-    let g = start d in (
-      cleared-all (g .args .work .now) (d .before .before .before .before .before .zielonka-rec .last .1 .1 .1 .1 .0) (d .before .before .before .before .before .zielonka-rec .kept .1 .1 .1 .1 .0 ∙ d .before .before .before .before .before .before .before .before .before .prepare .kept .1 .1 .1 .1 .0) (c .before .before .clear2 .ensures),
+    let r = ended d in
+    let g = start r in
+    let done = ends r (d .before .ran .given .1) in (
+      cleared-all (g .args .work .now) (left r) (kept-long r) (c .before .before .clear2 .ensures),
       found-finished (found d) (g .pre .strategy-size) (c .before .before .before .before .before .before .before .before .before .before .write-out .ensures)
-          (run-calls (tables g) (g .pre .accepted) (g .args .work .now) (g .pre .room) (d .before .before .before .before .before .before .before .before .before .prepare .ensures) (ended d))
-          (ended d .within),
+          (run-calls (tables g) (g .pre .accepted) (g .args .work .now) (g .pre .room) (prepared r .prepare .ensures) done)
+          (done .within),
     )
 
 pub run-spec : {M : Type 1} → statement M
