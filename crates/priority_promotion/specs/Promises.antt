@@ -8,6 +8,7 @@ use mathlib.Core.Path.{_≡_, sym, _∙_}
 use Prim.Native.Nat.{ℕ, suc, _+_, _*_, _^_, _≤_, _<_}
 use native.Mathlib.Omega.{arith}
 use Rattle.rules.specs.Budget.{differentPriorities}
+use Rattle.rules.specs.Checker.{certificateChecks}
 use Rattle.rules.specs.Counting.{some, lowest}
 use Rattle.rules.specs.Game.{Player, Even, Odd, everywhere}
 use Rattle.rules.specs.Outcome.{Outcome, none, answered}
@@ -24,7 +25,7 @@ use Rattle.theory.specs.Tables.{accepted-total}
 use Rattle.theory.specs.Zielonka.{zielonka-wins}
 use Rattle.solver.specs.Promises.{setFor, gotBy, answer, answered-accepted, answered-within, answered-count, answered-holds, answered-winning}
 use Rattle.sets.specs.Same.{Narrow, holds-same}
-use Rattle.solver.specs.Promises.{answered-one, answers-within, holds-alike, Agree, results-agree}
+use Rattle.solver.specs.Promises.{answered-one, answered-certified, answers-within, holds-alike, Agree, results-agree}
 use Rattle.priority_promotion.specs.Round.{Shows}
 use Rattle.priority_promotion.specs.Rounds.{RoundDone}
 
@@ -89,6 +90,14 @@ pub answered-strategy :
     o .number ≡ 0 →
     WinningEntries (gameOf t) (afterRounds (gameOf t) (roundsNeeded (gameOf t) budget) .won) (after .strategy)
 answered-strategy p e = answer p e .entries
+
+-- **Sets and strategy then get the checker's yes.**
+pub answered-gets-yes :
+    {budget : ℕ} {t : Tables} {before after : Lent} {o : Outcome} →
+    Promise true budget t before after o →
+    o .number ≡ 0 →
+    certificateChecks (gameOf t) (after .even) (after .odd) (after .strategy) ≡ none
+answered-gets-yes p e = answered-certified p e (rules-sets p e)
 
 -- **Any two results that meet the contract are the same but for strategy entries,**
 pub promotion-results-agree :

@@ -8,6 +8,7 @@ use Prim.Native.Nat.{ℕ, _≤_, _<_}
 use native.Mathlib.Omega.{arith}
 use borrow.Author.Tests.{le-ltb, ltb-false, eqb-false}
 use lib.Dec.{ltb}
+use Rattle.rules.specs.Checker.{certificateChecks}
 use Rattle.rules.specs.Counting.{Set}
 use Rattle.rules.specs.Game.{Player, Even, Odd}
 use Rattle.rules.specs.Outcome.{Outcome, Verdict, none, refused, outcome, answered, budgeted}
@@ -18,6 +19,8 @@ use Rattle.rules.specs.Words.{setOf, Holds}
 use Rattle.parity_game.specs.Laws.{then-none, zero-none}
 use Rattle.sets.specs.Same.{Narrow, holds-same}
 use Rattle.theory.specs.Basics.{clash}
+use Rattle.theory.specs.Checker.{winning-gets-yes}
+use Rattle.theory.specs.Tables.{accepted-total}
 use Rattle.theory.specs.Zielonka.{determinacy}
 use Rattle.solver.specs.Checks.{numbered-checks}
 
@@ -100,6 +103,20 @@ module _ {flag : Bool} {budget : ℕ} {t : Tables} {needed : ℕ} {won : Player 
         p .gives ∙
         ap (λ (v : Verdict). outcome v (budgeted budget needed)) passed ∙
         ap (λ (b : Bool). cond b (record { number = 13; place = 0; count = budget }) (answered needed)) (le-ltb budget needed (omega arith))
+
+-- **With the flag, where the rules' sets are the winning sets, what is given gets the checker's yes.**
+pub answered-certified :
+    {budget : ℕ} {t : Tables} {needed : ℕ} {won : Player → Set} {before after : Lent} {o : Outcome} →
+    Solves true budget t needed won before after o →
+    o .number ≡ 0 →
+    WinningSets (gameOf t) won →
+    certificateChecks (gameOf t) (after .even) (after .odd) (after .strategy) ≡ none
+unfolding gameOf
+answered-certified {t = t} {won = won} {after = after} p e wins =
+    winning-gets-yes (gameOf t) (accepted-total t (answered-accepted p e)) won wins
+    (λ v l.
+    ⊎-elim (λ w. inl (wins Even v l .1 w)) (λ w. inr (wins Odd v l .1 w)) (determinacy t (answered-accepted p e) v l .0))
+    (after .even) (after .odd) (after .strategy) (answer p e .even) (answer p e .odd) (answer p e .entries)
 
 -- ---- two results that meet the contract
 
