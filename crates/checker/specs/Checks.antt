@@ -82,20 +82,6 @@ rows-fit (suc n) m = go ((suc n + 63) / 64) (omega arith)
     go zero l = absurd (omega arith)
     go (suc s) l = rw (mul-suc (8 * (suc n + 2)) s) (omega arith)
 
--- a priority below 256 of one parity is 2 j + q
-parity-some : (q : ℕ) (f : Set) → q ≤ 1 → some 128 (λ j. f (2 * j + q)) ≡ some 256 (λ p. eqb (p % 2) q && f p)
-parity-some q f l =
-    bool-ext (some 128 (λ j. f (2 * j + q))) (some 256 (λ p. eqb (p % 2) q && f p))
-    (λ e.
-    let (j, k, h) = some-elim 128 (λ j. f (2 * j + q)) e in
-    let is : (2 * j + q) % 2 ≡ q = omega arith in
-    some-intro 256 (λ p. eqb (p % 2) q && f p) (2 * j + q) (omega arith) (and-intro (eq-eqb ((2 * j + q) % 2) q is) h))
-    (λ e.
-    let (p, k, h) = some-elim 256 (λ p. eqb (p % 2) q && f p) e in
-    let is = eqb-true (p % 2) q (and-left (eqb (p % 2) q) (f p) h) in
-    let at : 2 * (p / 2) + q ≡ p = omega arith in
-    some-intro 128 (λ j. f (2 * j + q)) (p / 2) (omega arith) (ap f at ∙ and-right (eqb (p % 2) q) (f p) h))
-
 other-of-even : (p : ℕ) → eqb (p % 2) 1 ≡ not (same (parity p) Even)
 other-of-even p = go (p % 2) (omega arith)
   where
@@ -167,11 +153,9 @@ module _ (t : Tables) (even strategy before : List ℕ) (given : CyclesReady t e
             some 256 (λ p. not (same (parity p) (cond b Even Odd)) && chosenPart (gameOf t) strategy p v)
         go true e =
             word-marked (length (t .priorities)) (rows + length (t .priorities)) v after l ∙ done .odds v l ∙
-            parity-some 1 (λ p. chosenPart (gameOf t) strategy p v) (omega arith) ∙
             ap (some 256) (fun-ext (λ p. ap (λ (b : Bool). b && chosenPart (gameOf t) strategy p v) (other-of-even p)))
         go false e =
             word-marked (length (t .priorities)) rows v after l ∙ done .evens v l ∙
-            parity-some 0 (λ p. chosenPart (gameOf t) strategy p v) (omega arith) ∙
             ap (some 256) (fun-ext (λ p. ap (λ (b : Bool). b && chosenPart (gameOf t) strategy p v) (other-of-odd p)))
 
     -- **The search over the two rows is the rule's 24.**

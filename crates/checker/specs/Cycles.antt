@@ -20,7 +20,7 @@ use Rattle.predecessors.specs.Whole.{accepted-edges}
 use Rattle.parts.specs.Area.{marks, behind, Within, Cleared, marked, false-marked, marked-alike}
 use Rattle.parts.specs.Graph.{graph, gameIn}
 use Rattle.parts.specs.Seeking.{rows-kept}
-use Rattle.parts.specs.Parity.{Sweepable, Swept, predecessor-rows, game-of, graph-sound}
+use Rattle.parts.specs.Parity.{Sweepable, Swept, predecessor-rows, graph-sound, swept-all}
 
 -- v is marked in the row of the other parity
 unfoldable pub losingAt : List ℕ → List ℕ → ℕ → ℕ → Set
@@ -55,11 +55,11 @@ pub record CyclesMarked (owners priorities offsets targets strategy before after
   pub evens :
       (v : ℕ) → v < length priorities →
       marked (length priorities) (behind (length priorities) (length targets)) after v ≡
-      some 128 (λ j. chosenPart (gameOf (tablesOf owners priorities offsets targets)) strategy (2 * j + 0) v)
+      some 256 (λ p. eqb (p % 2) 0 && chosenPart (gameOf (tablesOf owners priorities offsets targets)) strategy p v)
   pub odds :
       (v : ℕ) → v < length priorities →
       marked (length priorities) (behind (length priorities) (length targets) + length priorities) after v ≡
-      some 128 (λ j. chosenPart (gameOf (tablesOf owners priorities offsets targets)) strategy (2 * j + 1) v)
+      some 256 (λ p. eqb (p % 2) 1 && chosenPart (gameOf (tablesOf owners priorities offsets targets)) strategy p v)
 
 module _ (owners priorities offsets targets strategy w0 : List ℕ) (given : MarksReady owners priorities offsets targets strategy w0) where
   abbrev t : Tables
@@ -139,23 +139,6 @@ module _ (owners priorities offsets targets strategy w0 : List ℕ) (given : Mar
             }
 
         module _ (w4 : List ℕ) (odds : Swept priorities offsets targets strategy 1 (bh + n) 128 w3 w4) where
-          -- what a row finds, in the game of the tables
-          found :
-              (q base : ℕ) (before after : List ℕ) →
-              Swept priorities offsets targets strategy q base 128 before after →
-              ((v : ℕ) → v < n → getD before (base + v) 0 ≡ 0) →
-              (v : ℕ) →
-              v < n →
-              marked n base after v ≡ some 128 (λ j. chosenPart (gameOf t) strategy (2 * j + q) v)
-          found q base before after s blank v l =
-              s .found v l ∙
-              ap (λ (b : Bool). b || some 128 (λ j. chosenPart (gameIn (graph priorities offsets targets strategy 0)) strategy (2 * j + q) v))
-              (false-marked n base before v (blank v l)) ∙
-              some-same 128 (λ j. game-of t (given .accepted) strategy 0 (2 * j + q) v)
-            where
-              some-same : (k : ℕ) {f g : ℕ → Bool} → ((j : ℕ) → f j ≡ g j) → some k f ≡ some k g
-              some-same k {f} {g} h = ap (some k) (fun-ext h)
-
           pub cycles-marked : CyclesMarked owners priorities offsets targets strategy w0 w4
           cycles-marked =
               record {
@@ -168,8 +151,8 @@ module _ (owners priorities offsets targets strategy w0 : List ℕ) (given : Mar
                     λ v l.
                     ap (λ (S : Set). S v)
                     (marked-alike n bh w3 w4 (λ u k. odds .rest (bh + u) (omega arith) (inl (omega arith)))) ∙
-                    found 0 bh w2 w3 evens (λ u k. blank2 (bh + u) (omega arith) (omega arith)) v l;
+                    swept-all t (given .accepted) strategy 0 bh w2 w3 (omega arith) evens (λ u k. blank2 (bh + u) (omega arith) (omega arith)) v l;
                 odds =
-                    found 1 (bh + n) w3 w4 odds
+                    swept-all t (given .accepted) strategy 1 (bh + n) w3 w4 (omega arith) odds
                     (λ u k. evens .rest (bh + n + u) (omega arith) (inr (omega arith)) ∙ blank2 (bh + n + u) (omega arith) (omega arith));
               }

@@ -1,25 +1,27 @@
 -- The good parts of all priorities of one parity, and the predecessor table and the game that callers bring.
-use mathlib.Core.Bool.{Bool, true, false, _||_}
+use mathlib.Core.Bool.{Bool, true, false, _&&_, _||_}
 use mathlib.Core.List.{List, List·Memᴰ}
 use mathlib.Core.Logic.{_⊎_}
-use mathlib.Core.Path.{_≡_, refl, sym, ap, subst, _∙_}
-use Prim.Native.Nat.{ℕ, _+_, _-_, _*_, _≤_, _<_}
+use mathlib.Core.Path.{_≡_, refl, sym, ap, subst, fun-ext, _∙_}
+use Prim.Native.Nat.{ℕ, _+_, _-_, _*_, _/_, _%_, _≤_, _<_}
 use native.Mathlib.Nat.{le-refl}
 use native.Mathlib.Numerals.{add-one}
 use native.Mathlib.Omega.{arith}
+use borrow.Author.Tests.{eqb-true, eq-eqb}
 use lib.Dec.{eqb}
 use lib.ListN.{length, getD}
-use Rattle.rules.specs.Counting.{some, times}
+use Rattle.rules.specs.Counting.{Set, some, times}
 use Rattle.rules.specs.Game.{Edge, playerOf}
 use Rattle.rules.specs.Solitaire.{atMost, goodPart, samePart}
 use Rattle.rules.specs.Tables.{Tables, vertices, targetsOf, gameOf, Accepted}
 use Rattle.rules.specs.Words.{entry, noEntry}
-use Rattle.theory.specs.Basics.{and-left, and-right, clash, not-true-is-false, some-elim, some-false, member-place, place-member, times-pos, times-member}
+use Rattle.theory.specs.Basics.{member-place, place-member, times-pos, times-member}
+use Rattle.theory.specs.Basics.{bool-ext, and-intro, and-left, and-right, some-intro, some-elim, some-false, clash, not-true-is-false}
 use Rattle.theory.specs.Chosen.{chosenPart}
 use Rattle.parity_game.specs.Laws.{accepted-sound}
 use Rattle.predecessors.specs.Table.{start, row, Ready, Predecessors}
 use Rattle.predecessors.specs.Whole.{starts-grow, row-length, row-at, accepted-edges}
-use Rattle.parts.specs.Area.{marks, behind, marked}
+use Rattle.parts.specs.Area.{marks, behind, marked, false-marked}
 use Rattle.parts.specs.Graph.{Graph, graph, size, edgeCount, gameIn, linksIn, SoundGraph}
 use Rattle.parts.specs.Seeking.{Rows}
 use Rattle.parts.specs.Whole.{Markable, Marked}
@@ -240,3 +242,33 @@ graph-sound t accepted entries top edges =
       edges = rw each (accepted-edges t accepted);
       entry-edge = λ v l d. edges v (rw (sym each) l) d;
     }
+
+-- a priority below 256 of one parity is 2 j + q
+parity-some : (q : ℕ) (f : Set) → q ≤ 1 → some 128 (λ j. f (2 * j + q)) ≡ some 256 (λ p. eqb (p % 2) q && f p)
+parity-some q f l =
+    bool-ext (some 128 (λ j. f (2 * j + q))) (some 256 (λ p. eqb (p % 2) q && f p))
+    (λ e.
+    let (j, k, h) = some-elim 128 (λ j. f (2 * j + q)) e in
+    let is : (2 * j + q) % 2 ≡ q = omega arith in
+    some-intro 256 (λ p. eqb (p % 2) q && f p) (2 * j + q) (omega arith) (and-intro (eq-eqb ((2 * j + q) % 2) q is) h))
+    (λ e.
+    let (p, k, h) = some-elim 256 (λ p. eqb (p % 2) q && f p) e in
+    let is = eqb-true (p % 2) q (and-left (eqb (p % 2) q) (f p) h) in
+    let at : 2 * (p / 2) + q ≡ p = omega arith in
+    some-intro 128 (λ j. f (2 * j + q)) (p / 2) (omega arith) (ap f at ∙ and-right (eqb (p % 2) q) (f p) h))
+
+-- what a row that was blank has in the end: the vertices of good parts for a priority below 256 of that parity
+pub swept-all :
+    (t : Tables) → Accepted t → (entries : List ℕ) (q base : ℕ) (before after : List ℕ) → q ≤ 1 →
+    Swept (t .priorities) (t .offsets) (t .targets) entries q base 128 before after →
+    ((v : ℕ) → v < length (t .priorities) → getD before (base + v) 0 ≡ 0) →
+    (v : ℕ) → v < length (t .priorities) →
+    marked (length (t .priorities)) base after v ≡ some 256 (λ p. eqb (p % 2) q && chosenPart (gameOf t) entries p v)
+swept-all t accepted entries q base before after small s blank v l =
+    s .found v l ∙
+    ap
+    (λ (b : Bool).
+    b || some 128 (λ j. chosenPart (gameIn (graph (t .priorities) (t .offsets) (t .targets) entries 0)) entries (2 * j + q) v))
+    (false-marked (length (t .priorities)) base before v (blank v l)) ∙
+    ap (some 128) (fun-ext (λ j. game-of t accepted entries 0 (2 * j + q) v)) ∙
+    parity-some q (λ p. chosenPart (gameOf t) entries p v) small

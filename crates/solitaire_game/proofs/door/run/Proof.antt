@@ -1,0 +1,214 @@
+-- `run` meets its contract: each call asks for what the calls before it left.
+use mathlib.Core.Path.{_≡_, sym, ap, _∙_}
+use Prim.Native.Nat.{ℕ, _+_, _≤_}
+use native.Mathlib.Omega.{arith}
+use borrow.Author.Needs.{needs}
+use lib.ListN.{length}
+use Rattle.rules.specs.Tables.{Tables, tablesOf}
+use Rattle.rules.specs.Game.{playerOf}
+use Rattle.theory.specs.Tables.{accepted-sound}
+use Rattle.attractor.specs.Attracted.{Attracted}
+use Rattle.attractor.specs.Views.{words-few}
+use Rattle.zielonka.specs.Solving.{all-zero}
+use Rattle.solitaire_game.specs.Running.{baseOf, mark-ready, place-ready, attract-ready, long₃, copy-fits, copy-long, answer-holds}
+use Rattle.solitaire_game.proofs.door.run.Statement.{statement}
+use Rattle.solitaire_game.proofs.door.run.Tie as tie
+
+-- the tables as lent
+abbrev tables : tie.Start → Tables
+tables g = tablesOf (g .args .owners .now) (g .args .priorities .now) (g .args .offsets .now) (g .args .targets .now)
+
+-- the calls in order, and where the function begins
+abbrev start : tie.After-sole-owner → tie.Start
+start c = c .before .before .before .before .before .before .before
+
+abbrev owned : tie.After-mark-good → tie.After-sole-owner
+owned c = c .before .before
+
+abbrev marked : tie.After-place → tie.After-mark-good
+marked c = c .before .before .before .before
+
+abbrev placed : tie.After-attract → tie.After-place
+placed c = c .before .before .before .before
+
+abbrev begun : tie.After-attract → tie.Start
+begun c = start (owned (marked (placed c)))
+
+abbrev drawn : tie.After-slice-known7 → tie.After-attract
+drawn c = c .before .before .before .before .before .before .before .before .before .before .before .before
+
+-- the numbers are small
+few :
+    (g : tie.Start) →
+    (length (g .args .owners .now) ≤ 4096) × (length (g .args .targets .now) ≤ 16384) × (length (g .args .set .now) ≤ 64)
+few g =
+    let f = accepted-sound (tables g) (g .pre .accepted) in
+    let s = words-few (length (g .args .owners .now)) (f .few-vertices) in
+    (f .few-vertices, f .few-edges, omega (arith, g .pre .set-size))
+
+-- what the attractor gives, the work area's length after it, and the room for the set in it
+attracted :
+    (d : tie.After-attract) →
+    let g = begun d in
+    let base = baseOf (tables g) in
+    Attracted (tables g) (playerOf (owned (marked (placed d)) .sole-owner .result)) base (base + length (g .args .set .now)) (placed d .place .last .0)
+    (d .attract .last .1 .1 .1 .1 .0) (d .attract .result)
+attracted d = let g = begun d in d .attract .ensures (g .args .priorities .now) (g .pre .accepted)
+
+long : (d : tie.After-attract) → length (d .attract .last .1 .1 .1 .1 .0) ≡ length (begun d .args .work .now)
+long d =
+    let p = placed d in
+    let m = marked p in
+    let g = begun d in
+    long₃ (tables g) (g .args .set .now) (g .args .work .now) (g .pre) (owned m .sole-owner .result) (owned m .sole-owner .ensures)
+    (m .mark-good .last .1 .1 .1 .1 .1 .0) (m .mark-good .ensures) (p .place .last .0) (p .place .ensures) (d .attract .result)
+    (d .attract .last .1 .1 .1 .1 .0) (attracted d)
+
+room :
+    (d : tie.After-attract) →
+    let g = begun d in
+    baseOf (tables g) + length (g .args .set .now) + length (g .args .set .now) ≤ length (d .attract .last .1 .1 .1 .1 .0)
+room d =
+    let p = placed d in
+    let m = marked p in
+    let g = begun d in
+    copy-fits (tables g) (g .args .set .now) (g .args .work .now) (g .pre) (owned m .sole-owner .result) (owned m .sole-owner .ensures)
+    (m .mark-good .last .1 .1 .1 .1 .1 .0) (m .mark-good .ensures) (p .place .last .0) (p .place .ensures) (d .attract .result)
+    (d .attract .last .1 .1 .1 .1 .0) (attracted d)
+
+sole-owner-requires : tie.Need-sole-owner-requires
+sole-owner-requires c κs = search needs
+
+add-row : tie.Need-add-row
+add-row c = search needs
+
+add-row-2 : tie.Need-add-row-2
+add-row-2 c = search needs
+
+add-row-3 : tie.Need-add-row-3
+add-row-3 c = omega (arith, few (start c))
+
+add-row-4 : tie.Need-add-row-4
+add-row-4 c = omega (arith, few (start c))
+
+add-row-5 : tie.Need-add-row-5
+add-row-5 c = omega (arith, few (start c))
+
+add-row-6 : tie.Need-add-row-6
+add-row-6 c = omega (arith, few (start c))
+
+add-row-7 : tie.Need-add-row-7
+add-row-7 c = omega (arith, few (start c))
+
+add-row-8 : tie.Need-add-row-8
+add-row-8 c = omega (arith, few (start c))
+
+add-base : tie.Need-add-base
+add-base c = omega (arith, few (start c))
+
+mark-good-requires : tie.Need-mark-good-requires
+mark-good-requires c κs =
+    let g = start (c .before) in
+    mark-ready (tables g) (g .args .set .now) (g .args .work .now) (g .pre) (c .before .sole-owner .result) (c .before .sole-owner .ensures)
+
+place-requires : tie.Need-place-requires
+place-requires c κs =
+    let m = c .before .before .before in
+    let g = start (owned m) in
+    place-ready (tables g) (g .args .set .now) (g .args .work .now) (g .pre) (owned m .sole-owner .result) (owned m .sole-owner .ensures)
+    (m .mark-good .last .1 .1 .1 .1 .1 .0) (m .mark-good .ensures)
+
+add-attract : tie.Need-add-attract
+add-attract c = omega (arith, few (start (owned (marked (c .before .before .before)))))
+
+attract-requires : tie.Need-attract-requires
+attract-requires c κs =
+    let p = c .before .before .before in
+    let m = marked p in
+    let g = start (owned m) in
+    attract-ready (tables g) (g .args .set .now) (g .args .work .now) (g .pre) (owned m .sole-owner .result) (owned m .sole-owner .ensures)
+    (m .mark-good .last .1 .1 .1 .1 .1 .0) (m .mark-good .ensures) (p .place .last .0) (p .place .ensures)
+
+add-copy-from : tie.Need-add-copy-from
+add-copy-from c = omega (arith, few (begun (c .before .before .before)))
+
+add-copy-from-2 : tie.Need-add-copy-from-2
+add-copy-from-2 c = omega (arith, few (begun (c .before .before .before)))
+
+add-copy-from-3 : tie.Need-add-copy-from-3
+add-copy-from-3 c = omega (arith, few (begun (c .before .before .before)))
+
+mul-copy-from : tie.Need-mul-copy-from
+mul-copy-from c = omega (arith, few (begun (c .before .before .before)))
+
+sub-copy-from : tie.Need-sub-copy-from
+sub-copy-from c = search needs
+
+part-copy-from-start : tie.Need-part-copy-from-start
+part-copy-from-start c = search needs
+
+part-copy-from-end : tie.Need-part-copy-from-end
+part-copy-from-end c = let d = c .before .before .before .before in omega (arith, room d, few (begun d))
+
+copy-from-requires : tie.Need-copy-from-requires
+copy-from-requires c κs =
+    let d = c .before .before .before .before .before in
+    let p = placed d in
+    let m = marked p in
+    let g = begun d in
+    copy-long (tables g) (g .args .set .now) (g .args .work .now) (g .pre) (owned m .sole-owner .result) (owned m .sole-owner .ensures)
+    (m .mark-good .last .1 .1 .1 .1 .1 .0) (m .mark-good .ensures) (p .place .last .0) (p .place .ensures) (d .attract .result)
+    (d .attract .last .1 .1 .1 .1 .0) (attracted d)
+
+clear-requires : tie.Need-clear-requires
+clear-requires c κs = search needs
+
+same-length : tie.Need-same-length
+same-length c = search needs
+
+same-length-2 : tie.Need-same-length-2
+same-length-2 c = c .before .before .clear .ensures .long ∙ long (drawn c)
+
+returns : tie.Need-returns
+returns c =
+    let d = drawn c in
+    let p = placed d in
+    let m = marked p in
+    let g = begun d in (
+      all-zero (g .args .work .now) (d .attract .last .1 .1 .1 .1 .0) (long d) (c .before .before .clear .ensures),
+      answer-holds (tables g) (g .args .set .now) (g .args .work .now) (g .pre) (owned m .sole-owner .result) (owned m .sole-owner .ensures)
+          (m .mark-good .last .1 .1 .1 .1 .1 .0) (m .mark-good .ensures) (p .place .last .0) (p .place .ensures) (d .attract .result)
+          (d .attract .last .1 .1 .1 .1 .0) (attracted d)
+          (c .before .before .before .before .before .before .copy-from .last .0) (c .before .before .before .before .before .before .copy-from .ensures),
+    )
+
+pub run-spec : {M : Type 1} → statement M
+run-spec =
+    tie.close
+    (tie.spec
+    sole-owner-requires
+    add-row
+    add-row-2
+    add-row-3
+    add-row-4
+    add-row-5
+    add-row-6
+    add-row-7
+    add-row-8
+    add-base
+    mark-good-requires
+    place-requires
+    add-attract
+    attract-requires
+    add-copy-from
+    add-copy-from-2
+    add-copy-from-3
+    mul-copy-from
+    sub-copy-from
+    part-copy-from-start
+    part-copy-from-end
+    copy-from-requires
+    clear-requires
+    same-length
+    same-length-2
+    returns)

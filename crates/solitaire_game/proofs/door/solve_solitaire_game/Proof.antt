@@ -1,0 +1,99 @@
+-- `solve_solitaire_game` meets its contract: a refusal is returned with nothing written; past the checks the run is done in the first
+-- W words.
+use mathlib.Core.Path.{_≡_}
+use native.Mathlib.Omega.{arith}
+use borrow.Author.Needs.{needs}
+use lib.ListN.{length}
+use Rattle.rules.specs.Outcome.{none}
+use Rattle.rules.specs.Solitaire.{LentSet, solitaireChecks}
+use Rattle.rules.specs.Tables.{Tables, tablesOf}
+use Rattle.theory.specs.Tables.{accepted-sound}
+use Rattle.parity_game.proofs.Matched.{went-on, refusal-not-zero}
+use Rattle.attractor.specs.Answered.{work-cleared}
+use Rattle.solitaire_game.specs.Checks.{numbered-checks, Passed, checks-passed}
+use Rattle.solitaire_game.specs.Running.{run-ready, solves-refused, solves-answered}
+use Rattle.solitaire_game.proofs.door.solve_solitaire_game.Statement.{statement}
+use Rattle.solitaire_game.proofs.door.solve_solitaire_game.Tie as tie
+
+-- the tables and what is lent
+abbrev tables : tie.Start → Tables
+tables g = tablesOf (g .args .owners .now) (g .args .priorities .now) (g .args .offsets .now) (g .args .targets .now)
+
+abbrev lent : tie.Start → LentSet
+lent g = record { set = g .args .set .now; work = g .args .work .now }
+
+abbrev start : tie.After-enum-told → tie.Start
+start d = d .before .before .before .before .before .before .before .before .before
+
+-- past the checks
+no-refusal : (d : tie.After-enum-told) → solitaireChecks (tables (start d)) (lent (start d)) ≡ none
+no-refusal d =
+    let g = start d in
+    went-on (d .before .before .check-all .result) (solitaireChecks (tables g) (lent g)) (d .before .match .keys1) (numbered-checks (tables g) (lent g))
+    (d .before .before .check-all .ensures)
+
+passed : (d : tie.After-enum-told) → let g = start d in Passed (tables g) (length (g .args .set .now)) (length (g .args .work .now))
+passed d =
+    let g = start d in
+    checks-passed (tables g) (length (g .args .set .now)) (length (g .args .work .now)) (no-refusal d)
+
+check-all-requires : tie.Need-check-all-requires
+check-all-requires c κs = search needs
+
+enum-told : tie.Need-enum-told
+enum-told c = search needs
+
+returns : tie.Need-returns
+returns c =
+    let g = c .before .before .before .before .before .before .before .before in
+    solves-refused (tables g) (lent g) _ (c .before .check-all .ensures) (refusal-not-zero (c .before .check-all .result) (c .match .keys2))
+
+work-words-requires : tie.Need-work-words-requires
+work-words-requires c κs =
+    let f = accepted-sound (tables (start c)) (passed c .accepted) in (f .few-vertices, f .few-edges)
+
+sub-run : tie.Need-sub-run
+sub-run c = search needs
+
+part-run-start : tie.Need-part-run-start
+part-run-start c = search needs
+
+part-run-end : tie.Need-part-run-end
+part-run-end c = omega (arith, passed (c .before .before) .work-size, c .before .work-words .ensures)
+
+run-requires : tie.Need-run-requires
+run-requires c κs =
+    let g = c .before .before .before .before .before .before .before .before .before .before .before .before in
+    let w = c .before .before .work-words in
+    run-ready (tables g) (w .result) (g .args .set .now) (g .args .work .now) (w .ensures) (passed (c .before .before .before))
+
+same-length : tie.Need-same-length
+same-length c = search needs
+
+same-length-2 : tie.Need-same-length-2
+same-length-2 c = search needs
+
+returns-2 : tie.Need-returns-2
+returns-2 c =
+    let g = c .before .before .before .before .before .before .before .before .before .before .before .before .before .before .before .before .before in
+    let d = c .before .before .before .before .before .before .before .before in
+    let w = c .before .before .before .before .before .before .before .work-words in
+    let ran = c .before .before .before .before .run in
+    solves-answered (tables g) (lent g) (record { set = ran .last .1 .1 .1 .1 .0; work = _ }) (no-refusal d) (ran .ensures .1)
+    (work-cleared (tables g) (w .result) (g .args .work .now) _ (w .ensures) (passed d .work-size) (ran .ensures .0))
+
+pub solve-solitaire-game-spec : {M : Type 1} → statement M
+solve-solitaire-game-spec =
+    tie.close
+    (tie.spec
+    check-all-requires
+    enum-told
+    returns
+    work-words-requires
+    sub-run
+    part-run-start
+    part-run-end
+    run-requires
+    same-length
+    same-length-2
+    returns-2)

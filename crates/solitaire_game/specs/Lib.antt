@@ -1,0 +1,4 @@
+pub mod Checks
+pub mod Marking
+pub mod Gathering
+pub mod Running

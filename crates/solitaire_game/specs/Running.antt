@@ -1,0 +1,190 @@
+-- From the marked row to what the public solver leaves: the attractor of the good parts is the answer, and the work area is cleared.
+use mathlib.Core.Bool.{true}
+use mathlib.Core.List.{List}
+use mathlib.Core.Logic.{inl, ⊎-elim}
+use mathlib.Core.Path.{_≡_, refl, sym, ap, ap₂, fun-ext, _∙_}
+use Prim.Native.Nat.{ℕ, zero, suc, _+_, _-_, _*_, _/_, _≤_, _<_}
+use native.Mathlib.Nat.{mul-le-mul-right, mul-suc}
+use native.Mathlib.Omega.{arith}
+use borrow.Author.Tests.{lt-ltb, ltb-true}
+use lib.ListN.{length, getD, take, drop, length-take, List·getD-eq-default}
+use Rattle.rules.specs.Attractor.{attractor}
+use Rattle.rules.specs.Counting.{Set}
+use Rattle.rules.specs.Game.{Player, everywhere, playerOf}
+use Rattle.rules.specs.Outcome.{Outcome, Verdict, none, refused, outcome, answered}
+use Rattle.rules.specs.Solitaire.{LentSet, solitaire, soleOwner, solitaireChecks, check11, SolitaireLeaves, SolvesSolitaire}
+use Rattle.rules.specs.Solver.{cleared}
+use Rattle.rules.specs.Tables.{Tables, gameOf, vertices, edgesIn, words, workWords, Accepted}
+use Rattle.rules.specs.Words.{Holds}
+use Rattle.theory.specs.Basics.{lt-or-ge}
+use Rattle.theory.specs.Solitaire.{partsFor, accepted-one-owner}
+use Rattle.theory.specs.SolitaireAttractor.{solitaire-attractor}
+use Rattle.theory.specs.Tables.{accepted-total}
+use Rattle.parity_game.specs.Laws.{accepted-sound}
+use Rattle.attractor.specs.Area.{setAt, wordsAt}
+use Rattle.attractor.specs.Attracted.{Attractable, Attracted}
+use Rattle.attractor.specs.Running.{listed-kept}
+use Rattle.attractor.specs.Runs.{edges-sound}
+use Rattle.attractor.specs.Views.{part-is}
+use Rattle.parts.specs.Area.{behind, marked, marked-true}
+use Rattle.solitaire_game.specs.Checks.{Passed}
+use Rattle.solitaire_game.specs.Marking.{Markable, Marked}
+use Rattle.solitaire_game.specs.Gathering.{Placeable, Placed}
+
+-- what `run` asks for: accepted tables of one owner, a set of the right size, and W words
+pub record Runnable (t : Tables) (set work : List ℕ) : Type 0 where
+  pub accepted : Accepted t
+  pub one-owner : check11 (vertices t) (t .owners) ≡ none
+  pub set-size : length set ≡ words (vertices t)
+  pub room : length work ≡ workWords (vertices t) (edgesIn t)
+
+-- the marked row stands behind the words of the search for parts, and the two sets behind the row
+abbrev pub rowOf : Tables → ℕ
+rowOf t = behind (vertices t) (edgesIn t)
+
+abbrev pub baseOf : Tables → ℕ
+baseOf t = rowOf t + vertices t
+
+-- W words have room for them
+rows-fit : (n m : ℕ) → behind n m + n + words n + words n ≤ workWords n m
+unfolding workWords words
+rows-fit zero m = omega arith
+rows-fit (suc n) m = go ((suc n + 63) / 64) (omega arith)
+  where
+    go : (s : ℕ) → 0 < s → behind (suc n) m + suc n + s + s ≤ 8 * (suc n + 2) * s + 4 * suc n + 2 * m + 272
+    go zero l = absurd (omega arith)
+    go (suc s) l =
+        let wide : 2 * s ≤ 8 * (suc n + 2) * s = mul-le-mul-right s (omega arith) in
+        rw (mul-suc (8 * (suc n + 2)) s) (omega arith)
+
+module _ (t : Tables) (set w₀ : List ℕ) (given : Runnable t set w₀) (owner : ℕ) (is : owner ≡ getD (t .owners) 0 0) where
+  abbrev n : ℕ
+  n = vertices t
+
+  abbrev s : ℕ
+  s = length set
+
+  -- the owner, as the rules have it
+  player : playerOf owner ≡ soleOwner t
+  player = ap playerOf is
+
+  owner-small : owner ≤ 1
+  owner-small =
+      ⊎-elim
+      (λ (l : 0 < n). omega (arith, accepted-sound t (given .accepted) .owner-small 0 l))
+      (λ (h : n ≤ 0). omega (arith, List·getD-eq-default (t .owners) 0 {n = 0} h))
+      (lt-or-ge 0 n)
+
+  fits : baseOf t + s + s ≤ length w₀
+  fits = omega (arith, rows-fit n (edgesIn t), given .room, given .set-size)
+
+  pub mark-ready : Markable t owner w₀ (rowOf t)
+  mark-ready = record { accepted = given .accepted; side = owner-small; low = omega arith; high = omega (arith, fits) }
+
+  module _ (w₁ : List ℕ) (marks : Marked t (playerOf owner) (rowOf t) w₀ w₁) where
+    pub place-ready : Placeable n s (rowOf t) (baseOf t) w₁
+    place-ready = record { size = given .set-size; low = omega arith; high = omega (arith, fits, marks .long) }
+
+    module _ (w₂ : List ℕ) (placed : Placed n s (rowOf t) (baseOf t) w₁ w₂) where
+      pub attract-ready : Attractable (t .owners) (t .offsets) (t .targets) owner (baseOf t) (baseOf t + s) w₂
+      attract-ready =
+          record {
+            placed =
+                record {
+                  within-low = omega arith;
+                  within-high = omega (arith, fits, marks .long, placed .long, given .set-size);
+                  set-low = omega arith;
+                  set-high = omega (arith, fits, marks .long, placed .long, given .set-size);
+                  apart = inl (omega (arith, given .set-size));
+                };
+            nested =
+                record {
+                  below = λ v e. ltb-true v n (sym (placed .full v) ∙ e);
+                  part = λ v e. placed .full v ∙ lt-ltb v n (marked-true n (rowOf t) w₁ v (sym (placed .found v) ∙ e) .0);
+                };
+            edges = edges-sound t (given .accepted);
+            listed =
+                listed-kept n (t .offsets) (t .targets) w₁ w₂ (placed .long) (λ i l. placed .front i (omega arith)) (marks .listed);
+            side = owner-small;
+          }
+
+      module _ (looks : ℕ) (w₃ : List ℕ) (drawn : Attracted t (playerOf owner) (baseOf t) (baseOf t + s) w₂ w₃ looks) where
+        pub long₃ : length w₃ ≡ length w₀
+        long₃ = drawn .long ∙ placed .long ∙ marks .long
+
+        pub copy-fits : baseOf t + s + s ≤ length w₃
+        copy-fits = omega (arith, fits, long₃)
+
+        -- the words that are copied out
+        copied : take ((baseOf t + s + s) - (baseOf t + s)) (drop (baseOf t + s) w₃) ≡ wordsAt n (baseOf t + s) w₃
+        copied =
+            part-is (baseOf t + s) s w₃ ∙ ap (λ (k : ℕ). take k (drop (baseOf t + s) w₃)) (given .set-size)
+
+        pub copy-long : length set ≡ length (take ((baseOf t + s + s) - (baseOf t + s)) (drop (baseOf t + s) w₃))
+        copy-long = given .set-size ∙ sym (drawn .holds .long) ∙ sym (ap length copied)
+
+        -- the attractor of the good parts among all vertices
+        answer : (v : ℕ) → v < n →
+            attractor (gameOf t) (playerOf owner) (setAt n (baseOf t) w₂) (setAt n (baseOf t + s) w₂) v ≡ solitaire (gameOf t) (soleOwner t) v
+        unfolding gameOf
+        answer v l =
+            ap₂ (λ (X T : Set). attractor (gameOf t) (playerOf owner) X T v)
+            (fun-ext (placed .full))
+            (fun-ext (λ u. placed .found u ∙ marks .found u)) ∙
+            sym
+            (solitaire-attractor (gameOf t) (accepted-total t (given .accepted)) (playerOf owner)
+            (λ u k. accepted-one-owner t (given .one-owner) u k ∙ sym player) v) ∙
+            ap (λ (a : Player). solitaire (gameOf t) a v) player
+
+        pub answer-holds :
+            (set′ : List ℕ) →
+            set′ ≡ take ((baseOf t + s + s) - (baseOf t + s)) (drop (baseOf t + s) w₃) →
+            Holds n (solitaire (gameOf t) (soleOwner t)) set′
+        answer-holds set′ e =
+            rw (e, copied)
+            (record {
+              long = drawn .holds .long;
+              bits = λ v l. drawn .holds .bits v l ∙ answer v l;
+              clear = drawn .holds .clear;
+            })
+
+-- ---- the public solver
+
+-- a refusal is given as it is, and nothing is written
+leaves-refused : (v : Verdict) (t : Tables) (l : LentSet) → (v ≡ none → ⊥) → SolitaireLeaves v t l l
+leaves-refused none t l h = absurd (h refl)
+leaves-refused (refused k p) t l h = refl
+
+pub solves-refused :
+    (t : Tables) (l : LentSet) (o : Outcome) → o ≡ outcome (solitaireChecks t l) (answered 0) → (o .number ≡ 0 → ⊥) → SolvesSolitaire t l l o
+solves-refused t l o e h =
+    record {
+      gives = e;
+      leaves =
+          leaves-refused (solitaireChecks t l) t l
+          (λ z. h (ap (λ (x : Outcome). x .number) (e ∙ ap (λ (v : Verdict). outcome v (answered 0)) z)));
+    }
+
+-- an answer
+pub solves-answered :
+    (t : Tables) (before after : LentSet) →
+    solitaireChecks t before ≡ none →
+    Holds (vertices t) (solitaire (gameOf t) (soleOwner t)) (after .set) →
+    after .work ≡ cleared t (before .work) →
+    SolvesSolitaire t before after (answered 0)
+solves-answered t before after passed set work =
+    record { gives = rw passed refl; leaves = rw passed (record { set = set; work = work }) }
+
+-- past the checks the first W words are what the run asks for
+pub run-ready :
+    (t : Tables) (w : ℕ) (set work : List ℕ) →
+    w ≡ workWords (vertices t) (edgesIn t) →
+    Passed t (length set) (length work) →
+    Runnable t set (take (w - 0) (drop 0 work))
+run-ready t w set work is p =
+    record {
+      accepted = p .accepted;
+      one-owner = p .one-owner;
+      set-size = p .set-size;
+      room = omega (arith, length-take (w - 0) work, p .work-size);
+    }

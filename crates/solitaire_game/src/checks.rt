@@ -1,0 +1,63 @@
+// The refusals 1 to 11, each its own function. None writes anything.
+use parity_game::Answer;
+ghost use mathlib.Core.Path.{_≡_};
+ghost use lib.ListN.{length, getD};
+ghost use Rattle.rules.specs.Outcome.{outcome, answered};
+ghost use Rattle.rules.specs.Solitaire.{check11};
+ghost use Rattle.rules.specs.Tables.{tablesOf};
+ghost use Rattle.parity_game.specs.Said.{said};
+ghost use Rattle.solitaire_game.specs.Checks.{checksBy};
+
+// The owner of the first vertex, and so of all; Even where there is none.
+pub fn sole_owner(owners: &[u8]) -> u8
+    ensures { λ r. ⌜ r ≡ getD (now (owners .entry)) 0 0 ⌝ }
+{
+    if owners.len() == 0 {
+        return 0;
+    }
+    owners[0]
+}
+
+// 11: all owners are the first.
+fn check_owners_equal(owners: &[u8]) -> Answer
+    ensures { λ r. ⌜ said r ≡ outcome (check11 (length (now (owners .entry))) (now (owners .entry))) (answered 0) ⌝ }
+{
+    let first = sole_owner(owners);
+    for v in 0..owners.len() {
+        if owners[v] != first {
+            return Answer::OwnersDiffer;
+        }
+    }
+    Answer::Answered(0)
+}
+
+// 1 to 11, by the lengths of what is lent.
+pub fn check_all(
+    owners: &[u8],
+    priorities: &[u16],
+    offsets: &[u16],
+    targets: &[u16],
+    set: usize,
+    work: usize,
+) -> Answer
+    ensures { λ r.
+        ⌜ said r
+        ≡ outcome
+        (checksBy (tablesOf (now (owners .entry)) (now (priorities .entry)) (now (offsets .entry)) (now (targets .entry))) set work)
+        (answered 0) ⌝ }
+{
+    let n = owners.len();
+    let r = parity_game::check_tables(owners, priorities, offsets, targets);
+    let Answer::Answered(_) = r else {
+        return r;
+    };
+    let r = parity_game::check_set(n, set);
+    let Answer::Answered(_) = r else {
+        return r;
+    };
+    let r = parity_game::check_work(n, targets.len(), work);
+    let Answer::Answered(_) = r else {
+        return r;
+    };
+    check_owners_equal(owners)
+}

@@ -1,0 +1,66 @@
+// The public solver, for every input: it checks all that it takes, works in the first W words of the work area, and leaves them 0.
+use crate::checks::check_all;
+use crate::checks::sole_owner;
+use crate::marking::mark_good;
+use crate::marking::place;
+use parity_game::Answer;
+ghost use mathlib.Core.Path.{_≡_};
+ghost use lib.ListN.{length, replicate};
+ghost use Rattle.rules.specs.Solitaire.{SolvesSolitaire, solitaire, soleOwner};
+ghost use Rattle.rules.specs.Tables.{gameOf, vertices, tablesOf};
+ghost use Rattle.rules.specs.Words.{Holds};
+ghost use Rattle.parity_game.specs.Said.{said};
+ghost use Rattle.solitaire_game.specs.Running.{Runnable};
+
+// The work itself, in W words, which are left 0: the attractor of the good parts, for the owner, among all vertices.
+fn run(
+    owners: &[u8],
+    priorities: &[u16],
+    offsets: &[u16],
+    targets: &[u16],
+    set: &mut [u64],
+    work: &mut [u64],
+)
+    requires { ⌜ Runnable (tablesOf (now owners) (now priorities) (now offsets) (now targets)) (now set) (now work) ⌝ }
+    ensures { λ _.
+        ⌜ (now (work .exit) ≡ replicate (length (now (work .entry))) 0) ×
+        Holds (length (now (owners .entry)))
+        (solitaire (gameOf (tablesOf (now (owners .entry)) (now (priorities .entry)) (now (offsets .entry)) (now (targets .entry))))
+        (soleOwner (tablesOf (now (owners .entry)) (now (priorities .entry)) (now (offsets .entry)) (now (targets .entry)))))
+        (now (set .exit)) ⌝ }
+{
+    let n = owners.len();
+    let s = set.len();
+    let owner = sole_owner(owners);
+    let row = n + 1 + targets.len() + n + n + n + n + n + n;
+    let base = row + n;
+    mark_good(owners, priorities, offsets, targets, owner, work, row);
+    place(work, n, s, row, base);
+    attractor::attract(owners, offsets, targets, owner, work, base, base + s);
+    sets::copy_from(set, &work[base + s..base + s + s]);
+    sets::clear(work, 0, work.len());
+}
+
+pub fn solve_solitaire_game(
+    owners: &[u8],
+    priorities: &[u16],
+    offsets: &[u16],
+    targets: &[u16],
+    set: &mut [u64],
+    work: &mut [u64],
+) -> Answer
+    ensures { λ r.
+        ⌜ SolvesSolitaire
+        (tablesOf (now (owners .entry)) (now (priorities .entry)) (now (offsets .entry)) (now (targets .entry)))
+        (record { set = now (set .entry); work = now (work .entry) })
+        (record { set = now (set .exit); work = now (work .exit) })
+        (said r) ⌝ }
+{
+    let r = check_all(owners, priorities, offsets, targets, set.len(), work.len());
+    let Answer::Answered(_) = r else {
+        return r;
+    };
+    let w = parity_game::work_words(owners.len(), targets.len());
+    run(owners, priorities, offsets, targets, set, &mut work[0..w]);
+    Answer::Answered(0)
+}
