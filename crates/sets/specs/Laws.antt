@@ -9,12 +9,12 @@ use native.Mathlib.Decide.{ℕ-discrete, decLt}
 use native.Mathlib.Nat.{add-assoc, add-zero, zero-add, le-of-suc-le-suc, le-trans, not-suc-le-zero}
 use native.Mathlib.Omega.{arith}
 use borrow.Author.Tests.{eqb-true, eq-eqb, ne-eqb}
-use lib.Dec.{eqb}
+use lib.Dec.{eqb, ltb}
 use lib.ListN.{length, getD, take, drop, replicate, length-replicate, getD-replicate, length-append, length-take, length-drop, List·getD-eq-default}
 use lib.Seq.{getD-take, getD-drop, ext-getD}
 use Rattle.rules.specs.Counting.{some, every, count, times, everyOf}
 use Rattle.rules.specs.Words.{digit, bit, setOf}
-use Rattle.sets.specs.After.{Put, Combined, Cleared}
+use Rattle.sets.specs.After.{Put, Combined, Cleared, Filled}
 use Rattle.theory.specs.Basics.{every-elim, some-false, count-cong, count-on, count-first}
 use Rattle.sets.specs.Digits.{digit-lt, digit-zero}
 use Rattle.sets.specs.declared.members.Members.{Members}
@@ -94,6 +94,16 @@ unfolding setOf
 put-set v d before after p u = ap (λ (x : ℕ). eqb x 1) (p .bits u) ∙ go (eqb u v)
   where
     go : (t : Bool) → eqb (cond t d (bit before u)) 1 ≡ cond t (eqb d 1) (eqb (bit before u) 1)
+    go true = refl
+    go false = refl
+
+-- `fill` of a set without a member
+pub filled-set : (n : ℕ) (before after : List ℕ) → Filled n before after → ((v : ℕ) → setOf before v ≡ false) → (v : ℕ) → setOf after v ≡ ltb v n
+unfolding setOf
+filled-set n before after f blank v =
+    ap (λ (x : ℕ). eqb x 1) (f .bits v ∙ ap (λ (x : ℕ). cond (ltb v n) 1 x) (other-bit before v (blank v))) ∙ go (ltb v n)
+  where
+    go : (t : Bool) → eqb (cond t 1 0) 1 ≡ t
     go true = refl
     go false = refl
 

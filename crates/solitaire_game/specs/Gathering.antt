@@ -13,21 +13,11 @@ use Rattle.rules.specs.Tables.{words}
 use Rattle.rules.specs.Words.{setOf}
 use Rattle.theory.specs.Basics.{bool-cases, bool-ext, clash, and-intro, and-left, and-right}
 use Rattle.sets.specs.After.{Cleared, Filled, Put}
-use Rattle.sets.specs.Laws.{put-set, other-bit}
+use Rattle.sets.specs.Laws.{put-set, filled-set}
 use Rattle.attractor.specs.Area.{setAt, wordsAt}
 use Rattle.attractor.specs.Views.{part-is, part-length, part-set, words-cover, bit-fits, back, back-long, back-front, back-behind, back-part}
 use Rattle.parts.specs.Area.{marked, marked-alike, true-marked, false-marked, marked-true}
-use Rattle.zielonka.specs.SetsAt.{set-kept, set-cleared}
-
--- TEMP `fill` of a set without a member
-filled-set : (n : ℕ) (before after : List ℕ) → Filled n before after → ((v : ℕ) → setOf before v ≡ false) → (v : ℕ) → setOf after v ≡ ltb v n
-unfolding setOf
-filled-set n before after f blank v =
-    ap (λ (x : ℕ). eqb x 1) (f .bits v ∙ ap (λ (x : ℕ). cond (ltb v n) 1 x) (other-bit before v (blank v))) ∙ go (ltb v n)
-  where
-    go : (t : Bool) → eqb (cond t 1 0) 1 ≡ t
-    go true = refl
-    go false = refl
+use Rattle.attractor.specs.SetsAt.{set-kept, set-cleared}
 
 -- a row of n words, and behind it a set without a member
 pub record Gatherable (n s row set : ℕ) (work : List ℕ) : Type 0 where

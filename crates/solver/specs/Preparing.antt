@@ -1,16 +1,16 @@
 -- The work area at first: the predecessor table is listed, and the set of all vertices stands at the base.
-use mathlib.Core.Bool.{Bool, true, false, cond}
+use mathlib.Core.Bool.{false}
 use mathlib.Core.List.{List}
 use mathlib.Core.Logic.{inl}
-use mathlib.Core.Path.{_≡_, refl, sym, ap, _∙_}
+use mathlib.Core.Path.{_≡_, sym, ap, _∙_}
 use Prim.Native.Nat.{ℕ, _+_, _-_, _*_, _≤_}
 use native.Mathlib.Omega.{arith}
-use lib.Dec.{eqb, ltb}
+use lib.Dec.{ltb}
 use lib.ListN.{length, take, drop}
 use Rattle.rules.specs.Tables.{words}
-use Rattle.rules.specs.Words.{bit, setOf}
+use Rattle.rules.specs.Words.{setOf}
 use Rattle.sets.specs.After.{Cleared, Filled}
-use Rattle.sets.specs.Laws.{other-bit}
+use Rattle.sets.specs.Laws.{filled-set}
 use Rattle.predecessors.specs.Table.{Predecessors}
 use Rattle.attractor.specs.Area.{free, setAt, wordsAt}
 use Rattle.attractor.specs.Running.{listed-kept}
@@ -34,11 +34,6 @@ pub record Prepared (n : ℕ) (offsets targets : List ℕ) (base : ℕ) (before 
   pub listed : Listed n offsets targets after
   pub full : (v : ℕ) → setAt n base after v ≡ ltb v n
 
--- a digit that is 1 where a test holds, and else 0, is the test
-test-digit : (t : Bool) → eqb (cond t 1 0) 1 ≡ t
-test-digit true = refl
-test-digit false = refl
-
 module _ {n : ℕ} {offsets targets : List ℕ} {s base : ℕ} {w₀ w₁ w₂ : List ℕ}
     (ready : Preparable n offsets targets s base w₀)
     (built : Predecessors n offsets targets w₀ w₁)
@@ -57,7 +52,6 @@ module _ {n : ℕ} {offsets targets : List ℕ} {s base : ℕ} {w₀ w₁ w₂ :
         length ys ≡ length (take ((base + s) - base) (drop base w₂)) →
         Filled n (take ((base + s) - base) (drop base w₂)) ys →
         Prepared n offsets targets base w₀ (back base s w₂ ys)
-    unfolding setOf
     prepared-full ys long filled =
         record {
           long = back-long base s w₂ ys fits as-long ∙ cleared .long ∙ built .long;
@@ -67,9 +61,7 @@ module _ {n : ℕ} {offsets targets : List ℕ} {s base : ℕ} {w₀ w₁ w₂ :
               (built-listed n offsets targets w₀ w₁ built);
           full =
               λ v.
-              ap (λ (xs : List ℕ). eqb (bit xs v) 1) part ∙
-              ap (λ (x : ℕ). eqb x 1) (filled .bits v ∙ ap (λ (x : ℕ). cond (ltb v n) 1 x) (nothing v)) ∙
-              test-digit (ltb v n);
+              ap (λ (xs : List ℕ). setOf xs v) part ∙ filled-set n (take ((base + s) - base) (drop base w₂)) ys filled nothing v;
         }
       where
         as-long : length ys ≡ s
@@ -79,7 +71,7 @@ module _ {n : ℕ} {offsets targets : List ℕ} {s base : ℕ} {w₀ w₁ w₂ :
         part =
             ap (λ (k : ℕ). take k (drop base (back base s w₂ ys))) (sym (ready .size)) ∙ back-part base s w₂ ys fits as-long
 
-        nothing : (v : ℕ) → bit (take ((base + s) - base) (drop base w₂)) v ≡ 0
+        nothing : (v : ℕ) → setOf (take ((base + s) - base) (drop base w₂)) v ≡ false
         nothing v =
-            ap (λ (xs : List ℕ). bit xs v) (lent-part n s base w₂ (ready .size)) ∙
-            other-bit (wordsAt n base w₂) v (set-cleared n base s base cleared (omega arith) (omega (arith, ready .size)) v)
+            ap (λ (xs : List ℕ). setOf xs v) (lent-part n s base w₂ (ready .size)) ∙
+            set-cleared n base s base cleared (omega arith) (omega (arith, ready .size)) v

@@ -9,7 +9,7 @@ use Rattle.rules.specs.Game.{playerOf}
 use Rattle.theory.specs.Tables.{accepted-sound}
 use Rattle.attractor.specs.Attracted.{Attracted}
 use Rattle.attractor.specs.Views.{words-few}
-use Rattle.zielonka.specs.Solving.{all-zero}
+use Rattle.sets.specs.Laws.{cleared-all}
 use Rattle.solitaire_game.specs.Running.{baseOf, mark-ready, place-ready, attract-ready, long₃, copy-fits, copy-long, answer-holds}
 use Rattle.solitaire_game.proofs.door.run.Statement.{statement}
 use Rattle.solitaire_game.proofs.door.run.Tie as tie
@@ -175,7 +175,7 @@ returns c =
     let p = placed d in
     let m = marked p in
     let g = begun d in (
-      all-zero (g .args .work .now) (d .attract .last .1 .1 .1 .1 .0) (long d) (c .before .before .clear .ensures),
+      cleared-all (g .args .work .now) (d .attract .last .1 .1 .1 .1 .0) (long d) (c .before .before .clear .ensures),
       answer-holds (tables g) (g .args .set .now) (g .args .work .now) (g .pre) (owned m .sole-owner .result) (owned m .sole-owner .ensures)
           (m .mark-good .last .1 .1 .1 .1 .1 .0) (m .mark-good .ensures) (p .place .last .0) (p .place .ensures) (d .attract .result)
           (d .attract .last .1 .1 .1 .1 .0) (attracted d)
