@@ -55,8 +55,8 @@ module _ (t : Tables) (owner : ℕ) (w0 : List ℕ) (row : ℕ) (given : Markabl
     module _ (w2 : List ℕ) (built : Predecessors n (t .offsets) (t .targets) w1 w2)
         (entries : List ℕ) (absent : (v : ℕ) → entry entries v ≡ noEntry)
       where
-        pub sweep-ready : Sweepable (t .priorities) (t .offsets) (t .targets) entries owner w2 row
-        sweep-ready =
+        pub sweep-ready : (q : ℕ) → q ≤ 1 → Sweepable (t .priorities) (t .offsets) (t .targets) entries q w2 row
+        sweep-ready q small =
             record {
               markable =
                   λ p.
@@ -66,7 +66,7 @@ module _ (t : Tables) (owner : ℕ) (w0 : List ℕ) (row : ℕ) (given : Markabl
                     low-end = rw each (given .low);
                     fits = omega (arith, given .high, each, built .long, cleared .within .long);
                   };
-              parity-small = given .side;
+              parity-small = small;
             }
 
         -- the row's words are 0 at first

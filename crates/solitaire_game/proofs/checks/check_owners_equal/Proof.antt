@@ -1,5 +1,5 @@
 -- `check_owners_equal` meets its contract. The loop's invariant: every owner passed is the first.
-use mathlib.Core.Path.{_≡_, sym, _∙_}
+use mathlib.Core.Path.{_≡_, _∙_}
 use Prim.Native.Nat.{ℕ, _≤_, _<_, _-_}
 use native.Mathlib.Omega.{arith}
 use borrow.Author.Count.{below-none, below-more}
@@ -29,7 +29,7 @@ returns : tie.Need-returns Inv-loop μ-loop
 returns c =
     let at = c .before .before .before in
     owners-differ (at .before .before .before .args .owners .now) (at .loop .v) (search needs)
-    (λ e. c .if1 .taken (e ∙ sym (at .before .sole-owner .ensures)))
+    (λ e. omega (arith, e, c .if1 .taken, at .before .sole-owner .ensures))
 
 add-v : tie.Need-add-v Inv-loop μ-loop
 add-v c = search needs

@@ -161,7 +161,7 @@ copy-from-requires c κs =
     (d .attract .last .1 .1 .1 .1 .0) (attracted d)
 
 clear-requires : tie.Need-clear-requires
-clear-requires c κs = search needs
+clear-requires c κs = omega (arith, room (c .before .before .before .before .before .before .before .before .before))
 
 same-length : tie.Need-same-length
 same-length c = search needs

@@ -3,6 +3,7 @@ use mathlib.Core.List.{[]}
 use mathlib.Core.Path.{refl}
 use Rattle.rules.specs.Tables.{Tables, tablesOf}
 use Rattle.solitaire_game.specs.Marking.{build-ready, sweep-ready, good-marked}
+use native.Mathlib.Omega.{arith}
 use borrow.Author.Needs.{needs}
 use Rattle.solitaire_game.proofs.marking.mark_good.Statement.{statement}
 use Rattle.solitaire_game.proofs.marking.mark_good.Tie as tie
@@ -43,7 +44,7 @@ mark-parity-requires c κs =
     let f1 = c .before .before .before .before .before .before .before .before .clear in
     let f2 = c .before .before .before .before .build in
     sweep-ready (tables g) (g .args .owner) (g .args .work .now) (g .args .row) (g .pre) (f1 .last .0) (f1 .ensures) (f2 .last .1 .1 .1 .0) (f2 .ensures) []
-    (λ v. refl)
+    (λ v. refl) _ (omega (arith, g .pre .side))
 
 same-length : tie.Need-same-length
 same-length c = search needs
