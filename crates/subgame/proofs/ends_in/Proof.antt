@@ -1,0 +1,19 @@
+use native.Mathlib.Omega.{arith}
+use borrow.Author.Needs.{needs}
+use Rattle.subgame.proofs.ends_in.Statement.{statement}
+use Rattle.subgame.proofs.ends_in.Tie as tie
+
+mul-result : tie.Need-mul-result
+mul-result c = search needs
+
+shared-slice-read-result : tie.Need-shared-slice-read-result
+shared-slice-read-result c = search needs
+
+cast-result : tie.Need-cast-result
+cast-result c = omega (arith, c .shared-slice-known .given (c .before .args .e))
+
+returns : tie.Need-returns
+returns c = search needs
+
+pub ends-in-spec : {M : Type 1} → statement M
+ends-in-spec = tie.close (tie.spec mul-result shared-slice-read-result cast-result returns)
