@@ -66,7 +66,7 @@ fn has_loop(
         return false;
     }
     for e in offsets[v] as usize..offsets[v + 1] as usize {
-        if targets[e] as usize == v {
+        if subgame::leads_to(targets, e, v) {
             return true;
         }
     }

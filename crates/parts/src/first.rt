@@ -32,7 +32,7 @@ fn next_edge(
     let marks = priorities.len() + 1 + targets.len();
     let end = offsets[t + 1] as usize;
     for e in from..end {
-        let w = targets[e] as usize;
+        let w = subgame::target(targets, e).0;
         if links::opens(priorities, entries, p, work, marks, w, t, w) {
             return e;
         }
