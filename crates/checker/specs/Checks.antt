@@ -2,12 +2,12 @@
 -- untouched after a refusal and else cleared.
 use mathlib.Core.Bool.{Bool, true, false, _&&_, not, cond}
 use mathlib.Core.List.{List}
-use mathlib.Core.Logic.{_⊎_, inr, ⊎-elim}
+use mathlib.Core.Logic.{inr, ⊎-elim}
 use mathlib.Core.Path.{_≡_, refl, sym, ap, subst, fun-ext, _∙_}
 use Prim.Native.Nat.{ℕ, zero, suc, _+_, _-_, _*_, _/_, _%_, _≤_, _<_}
 use native.Mathlib.Nat.{mul-suc}
 use native.Mathlib.Omega.{arith}
-use borrow.Author.Tests.{eqb-true, eq-eqb, ne-eqb, lt-ltb}
+use borrow.Author.Tests.{ne-eqb, lt-ltb}
 use lib.Dec.{eqb}
 use lib.ListN.{length, getD, drop, replicate, length-append, length-drop, length-replicate, getD-replicate, List·getD-append}
 use lib.Seq.{ext-getD, getD-drop, getD-append-add}
@@ -19,7 +19,7 @@ use Rattle.rules.specs.Words.{setOf, entry}
 use Rattle.rules.specs.Zielonka.{highestIn}
 use Rattle.rules.specs.Solver.{cleared}
 use Rattle.rules.specs.Checker.{winnerOf, check21, check22, check23, check24, certificateChecks}
-use Rattle.theory.specs.Basics.{bool-ext, and-intro, and-left, and-right, some-intro, some-elim, lt-or-ge, same-true}
+use Rattle.theory.specs.Basics.{lt-or-ge, same-true}
 use Rattle.theory.specs.Checker.{after22}
 use Rattle.theory.specs.Chosen.{chosenPart, check24-chosen, givenAt-cong}
 use Rattle.theory.specs.Dominion.{owner-cases}

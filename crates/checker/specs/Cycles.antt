@@ -1,9 +1,9 @@
 -- The kind 24: the two rows of marks, and that a search over them gives the rule's verdict.
-use mathlib.Core.Bool.{Bool, true, false, _||_, not, cond}
+use mathlib.Core.Bool.{true, false, _&&_, not, cond}
 use mathlib.Core.List.{List}
-use mathlib.Core.Logic.{_⊎_, inl, inr, ⊎-elim}
-use mathlib.Core.Path.{_≡_, sym, ap, subst, fun-ext, _∙_}
-use Prim.Native.Nat.{ℕ, _+_, _-_, _*_, _≤_, _<_}
+use mathlib.Core.Logic.{inl, inr, ⊎-elim}
+use mathlib.Core.Path.{_≡_, sym, ap, subst, _∙_}
+use Prim.Native.Nat.{ℕ, _+_, _-_, _*_, _%_, _≤_, _<_}
 use native.Mathlib.Nat.{le-refl}
 use native.Mathlib.Omega.{arith}
 use lib.Dec.{eqb}
@@ -17,8 +17,7 @@ use Rattle.theory.specs.Chosen.{chosenPart}
 use Rattle.parity_game.specs.Laws.{accepted-sound}
 use Rattle.predecessors.specs.Table.{Ready, Predecessors}
 use Rattle.predecessors.specs.Whole.{accepted-edges}
-use Rattle.parts.specs.Area.{marks, behind, Within, Cleared, marked, false-marked, marked-alike}
-use Rattle.parts.specs.Graph.{graph, gameIn}
+use Rattle.parts.specs.Area.{marks, behind, Within, Cleared, marked, marked-alike}
 use Rattle.parts.specs.Seeking.{rows-kept}
 use Rattle.parts.specs.Parity.{Sweepable, Swept, predecessor-rows, graph-sound, swept-all}
 

@@ -1,14 +1,14 @@
 -- The refusals 1 to 11, by the lengths that they go by, and what is known of what passes them.
 use mathlib.Core.Bool.{not}
 use mathlib.Core.List.{List, [], _∷_}
-use mathlib.Core.Path.{_≡_, refl, sym, ap, _∙_}
+use mathlib.Core.Path.{_≡_, refl, ap}
 use Prim.Native.Nat.{ℕ, _≤_, _<_}
 use native.Mathlib.Omega.{arith}
 use borrow.Author.Tests.{ne-eqb, eq-eqb}
 use lib.Dec.{eqb}
 use lib.ListN.{length, getD}
 use Rattle.rules.specs.Counting.{Set, some}
-use Rattle.rules.specs.Outcome.{Outcome, Verdict, none, given, outcome, answered, _then_}
+use Rattle.rules.specs.Outcome.{Verdict, none, outcome, answered, _then_}
 use Rattle.rules.specs.Solitaire.{LentSet, solitaireChecks, check11}
 use Rattle.rules.specs.Tables.{Tables, vertices, edgesIn, words, workWords, tableChecks, Accepted, check9, check10}
 use Rattle.theory.specs.Basics.{some-intro, false-some}

@@ -1,18 +1,18 @@
 -- The row of marked words: what marking asks for, what it leaves, and that the marks are the good parts of the owner's parity.
-use mathlib.Core.Bool.{Bool, true, false, _&&_}
-use mathlib.Core.List.{List, []}
-use mathlib.Core.Logic.{⊎-elim, inl, inr}
-use mathlib.Core.Path.{_≡_, refl, sym, ap, subst, fun-ext, _∙_}
+use mathlib.Core.Bool.{Bool, _&&_}
+use mathlib.Core.List.{List}
+use mathlib.Core.Logic.{⊎-elim}
+use mathlib.Core.Path.{_≡_, sym, ap, fun-ext, _∙_}
 use Prim.Native.Nat.{ℕ, _+_, _-_, _%_, _≤_, _<_}
 use native.Mathlib.Omega.{arith}
-use lib.ListN.{length, getD, take, drop}
+use lib.ListN.{length, getD}
 use lib.Seq.{getD-drop}
-use Rattle.rules.specs.Counting.{Set, some}
-use Rattle.rules.specs.Game.{Player, Game, everywhere, parity, same, playerOf}
+use Rattle.rules.specs.Counting.{some}
+use Rattle.rules.specs.Game.{Player, everywhere, parity, playerOf}
 use Rattle.rules.specs.Tables.{Tables, gameOf, vertices, edgesIn, Accepted}
 use Rattle.rules.specs.Words.{entry, noEntry}
 use Rattle.rules.specs.Zielonka.{highestIn}
-use Rattle.theory.specs.Basics.{not-true-is-false, lt-or-ge, within-above}
+use Rattle.theory.specs.Basics.{not-true-is-false, lt-or-ge}
 use Rattle.theory.specs.Chosen.{chosenPart}
 use Rattle.theory.specs.Greatest.{greatest-le}
 use Rattle.theory.specs.Solitaire.{partsFor}
@@ -106,6 +106,8 @@ module _ (t : Tables) (owner : ℕ) (w0 : List ℕ) (row : ℕ) (given : Markabl
                     (inside v)
                     (λ h.
                     not-true-is-false (marked n row w3 v) (λ e. let l = marked-true n row w3 v e .0 in omega arith) ∙
-                    sym (not-true-is-false (partsFor (gameOf t) (playerOf owner) v) (λ e. let l = parts-elim (gameOf t) (playerOf owner) v e .0 in omega arith)))
+                    sym
+                    (not-true-is-false (partsFor (gameOf t) (playerOf owner) v)
+                    (λ e. let l = parts-elim (gameOf t) (playerOf owner) v e .0 in omega arith)))
                     (lt-or-ge v n);
               }

@@ -3,13 +3,13 @@
 -- results that meet the contract are equal.
 use mathlib.Core.Bool.{true, false}
 use mathlib.Core.List.{List}
-use mathlib.Core.Path.{_≡_, refl, sym, ap, ap₂, _∙_}
+use mathlib.Core.Path.{_≡_, sym, ap, ap₂, _∙_}
 use Prim.Native.Nat.{ℕ, _<_}
 use lib.ListN.{length}
-use Rattle.rules.specs.Game.{Player, opponent}
+use Rattle.rules.specs.Game.{opponent}
 use Rattle.rules.specs.Outcome.{Outcome, Verdict, none, refused, outcome, answered, _then_}
-use Rattle.rules.specs.Solitaire.{LentSet, solitaire, soleOwner, solitaireChecks, check11, SolitaireAnswered, SolitaireLeaves, SolvesSolitaire}
-use Rattle.rules.specs.Tables.{Tables, gameOf, vertices, edgesIn, tableChecks, Accepted}
+use Rattle.rules.specs.Solitaire.{LentSet, soleOwner, solitaireChecks, SolitaireAnswered, SolitaireLeaves, SolvesSolitaire}
+use Rattle.rules.specs.Tables.{Tables, gameOf, vertices, Accepted}
 use Rattle.rules.specs.Winning.{Wins}
 use Rattle.rules.specs.Words.{setOf}
 use Rattle.rules.specs.Zielonka.{zielonka}
@@ -90,14 +90,14 @@ same-by none t before after after′ n n′ l l′ =
     (l .work ∙ sym (l′ .work))
 
 -- **Any two results that meet the contract are the same.**
-pub results-same :
+pub solitaire-one-result :
     {t : Tables} {before after after′ : LentSet} {o o′ : Outcome} →
     Narrow (after .set) →
     Narrow (after′ .set) →
     SolvesSolitaire t before after o →
     SolvesSolitaire t before after′ o′ →
     (after ≡ after′) × (o ≡ o′)
-results-same {t} {before} {after} {after′} n n′ p p′ = (
+solitaire-one-result {t} {before} {after} {after′} n n′ p p′ = (
   same-by (solitaireChecks t before) t before after after′ n n′ (p .leaves) (p′ .leaves),
   p .gives ∙ sym (p′ .gives),
 )

@@ -1,5 +1,4 @@
 -- From the marked row to what the public solver leaves: the attractor of the good parts is the answer, and the work area is cleared.
-use mathlib.Core.Bool.{true}
 use mathlib.Core.List.{List}
 use mathlib.Core.Logic.{inl, ⊎-elim}
 use mathlib.Core.Path.{_≡_, refl, sym, ap, ap₂, fun-ext, _∙_}
@@ -10,14 +9,14 @@ use borrow.Author.Tests.{lt-ltb, ltb-true}
 use lib.ListN.{length, getD, take, drop, length-take, List·getD-eq-default}
 use Rattle.rules.specs.Attractor.{attractor}
 use Rattle.rules.specs.Counting.{Set}
-use Rattle.rules.specs.Game.{Player, everywhere, playerOf}
+use Rattle.rules.specs.Game.{Player, playerOf}
 use Rattle.rules.specs.Outcome.{Outcome, Verdict, none, refused, outcome, answered}
 use Rattle.rules.specs.Solitaire.{LentSet, solitaire, soleOwner, solitaireChecks, check11, SolitaireLeaves, SolvesSolitaire}
 use Rattle.rules.specs.Solver.{cleared}
 use Rattle.rules.specs.Tables.{Tables, gameOf, vertices, edgesIn, words, workWords, Accepted}
 use Rattle.rules.specs.Words.{Holds}
 use Rattle.theory.specs.Basics.{lt-or-ge}
-use Rattle.theory.specs.Solitaire.{partsFor, accepted-one-owner}
+use Rattle.theory.specs.Solitaire.{accepted-one-owner}
 use Rattle.theory.specs.SolitaireAttractor.{solitaire-attractor}
 use Rattle.theory.specs.Tables.{accepted-total}
 use Rattle.parity_game.specs.Laws.{accepted-sound}

@@ -43,7 +43,8 @@ pub fn check_all(
     ensures { λ r.
         ⌜ said r
         ≡ outcome
-        (checksBy (tablesOf (now (owners .entry)) (now (priorities .entry)) (now (offsets .entry)) (now (targets .entry))) set work)
+        (checksBy (tablesOf (now (owners .entry)) (now (priorities .entry)) (now (offsets .entry))
+        (now (targets .entry))) set work)
         (answered 0) ⌝ }
 {
     let n = owners.len();

@@ -1,4 +1,5 @@
-// The public solver, for every input: it checks all that it takes, works in the first W words of the work area, and leaves them 0.
+// The public solver, for every input: it checks all that it takes, works in the first W words of the work area, and
+// leaves them 0.
 use crate::checks::check_all;
 use crate::checks::sole_owner;
 use crate::marking::mark_good;
@@ -23,11 +24,10 @@ fn run(
 )
     requires { ⌜ Runnable (tablesOf (now owners) (now priorities) (now offsets) (now targets)) (now set) (now work) ⌝ }
     ensures { λ _.
-        ⌜ (now (work .exit) ≡ replicate (length (now (work .entry))) 0) ×
-        Holds (length (now (owners .entry)))
-        (solitaire (gameOf (tablesOf (now (owners .entry)) (now (priorities .entry)) (now (offsets .entry)) (now (targets .entry))))
-        (soleOwner (tablesOf (now (owners .entry)) (now (priorities .entry)) (now (offsets .entry)) (now (targets .entry)))))
-        (now (set .exit)) ⌝ }
+        ⌜ (let t =
+        tablesOf (now (owners .entry)) (now (priorities .entry)) (now (offsets .entry)) (now (targets .entry)) in
+        (now (work .exit) ≡ replicate (length (now (work .entry))) 0) ×
+        Holds (vertices t) (solitaire (gameOf t) (soleOwner t)) (now (set .exit))) ⌝ }
 {
     let n = owners.len();
     let s = set.len();

@@ -1,11 +1,11 @@
-// The good parts of the owner's parity: first a row of marked words, then the set of them beside the set of all vertices.
+// The good parts of the owner's parity: first a row of marked words, then their set beside the set of all vertices.
 ghost use Rattle.rules.specs.Game.{playerOf};
 ghost use Rattle.rules.specs.Tables.{tablesOf};
 ghost use Rattle.solitaire_game.specs.Marking.{Markable, Marked};
 ghost use Rattle.solitaire_game.specs.Gathering.{Gatherable, Gathered, Placeable, Placed};
 
-// Marks the vertices in good parts in a row of n words, and leaves the predecessor table at the front. Without entries every vertex
-// keeps all its edges.
+// Marks the vertices in good parts in a row of n words, and leaves the predecessor table at the front. Without entries
+// every vertex keeps all its edges.
 pub fn mark_good(
     owners: &[u8],
     priorities: &[u16],
@@ -15,9 +15,11 @@ pub fn mark_good(
     work: &mut [u64],
     row: usize,
 )
-    requires { ⌜ Markable (tablesOf (now owners) (now priorities) (now offsets) (now targets)) owner (now work) row ⌝ }
+    requires { ⌜ Markable (tablesOf (now owners) (now priorities) (now offsets) (now targets)) owner (now work)
+        row ⌝ }
     ensures { λ _.
-        ⌜ Marked (tablesOf (now (owners .entry)) (now (priorities .entry)) (now (offsets .entry)) (now (targets .entry)))
+        ⌜ Marked
+        (tablesOf (now (owners .entry)) (now (priorities .entry)) (now (offsets .entry)) (now (targets .entry)))
         (playerOf owner) row (now (work .entry)) (now (work .exit)) ⌝ }
 {
     let n = owners.len();

@@ -1,5 +1,5 @@
-// The subgame view, after the Rust's Subgame: it holds the target table of the game that it restricts. It is thin: each of its
-// functions leaves the work to one on plain tables.
+// The subgame view, after the Rust's Subgame: it holds the target table of the game that it restricts. It is thin: each
+// of its functions leaves the work to one on plain tables.
 use parity_game::VertexIndex;
 ghost use mathlib.Core.Path.{_≡_};
 ghost use Prim.Native.Nat.{_<_};

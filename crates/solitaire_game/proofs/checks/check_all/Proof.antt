@@ -3,7 +3,7 @@
 use mathlib.Core.List.{[], _∷_}
 use mathlib.Core.Path.{_≡_, refl, _∙_, ap}
 use borrow.Author.Needs.{needs}
-use Rattle.rules.specs.Outcome.{Verdict, none, _then_, outcome, answered}
+use Rattle.rules.specs.Outcome.{Verdict, none, outcome, answered}
 use Rattle.rules.specs.Solitaire.{check11}
 use Rattle.rules.specs.Tables.{Tables, vertices, edgesIn, tableChecks, Accepted, check9, check10, tablesOf}
 use Rattle.parity_game.specs.Laws.{Sound, accepted-sound, passed, numbered-tables, numbered-check9, numbered-check10}
