@@ -74,7 +74,8 @@ fn advance(
     let e = next_edge(priorities, offsets, targets, entries, p, work, t, from);
     work[marks + t] = e as u64 + 1;
     if e < offsets[t + 1] as usize {
-        push(n, marks, offsets, work, targets[e] as usize, at.top);
+        let y = subgame::target(targets, e).0;
+        push(n, marks, offsets, work, y, at.top);
         return Progress {
             top: at.top + 1,
             done: at.done,

@@ -60,24 +60,19 @@ shared-slice-read-if1 c = search needs
 cast-if1 : tie.Need-cast-if1
 cast-if1 c = search needs
 
-mul-push : tie.Need-mul-push
-mul-push c = search needs
-
-shared-slice-read-push : tie.Need-shared-slice-read-push
-shared-slice-read-push c = search needs
-
-cast-push : tie.Need-cast-push
-cast-push c = omega (arith, c .shared-slice-known6 .given (c .before .before .before .before .next-edge .result))
+target-requires : tie.Need-target-requires
+target-requires c κs = search needs
 
 push-requires : tie.Need-push-requires
 push-requires c κs =
     let s = c .before .before .before .before .before .before .before .before .before .before .before .before in
     let a = s .args in
     let f = c .before .before .before .before .next-edge in
-    advance-pushable (graph-of s) (a .work .now) (a .t) (a .at .top) (a .at .done) (s .pre) (f .result) (f .ensures) (c .before .before .if1 .taken)
+    rw (c .before .target .ensures)
+    (advance-pushable (graph-of s) (a .work .now) (a .t) (a .at .top) (a .at .done) (s .pre) (f .result) (f .ensures) (c .before .before .if1 .taken))
 
-add-t28 : tie.Need-add-t28
-add-t28 c = search needs
+add-t30 : tie.Need-add-t30
+add-t30 c = search needs
 
 same-length : tie.Need-same-length
 same-length c =
@@ -91,7 +86,7 @@ returns c =
     let f = c .before .before .before .before .before .before .before .before .next-edge in
     advance-pushes (graph-of s) (a .work .now) (a .t) (a .at .top) (a .at .done) (s .pre) (f .result) (f .ensures)
     (c .before .before .before .before .before .before .if1 .taken) (c .before .before .before .push .last .1 .1 .1 .0)
-    (c .before .before .before .push .ensures)
+    (rw (c .before .before .before .before .before .target .ensures) at (c .before .before .before .push .ensures))
 
 add-work-3 : tie.Need-add-work-3
 add-work-3 c = search needs
@@ -105,11 +100,11 @@ mul-work-2 c = search needs
 slice-write-work-2 : tie.Need-slice-write-work-2
 slice-write-work-2 c = simp length-set (omega arith)
 
-sub-t14 : tie.Need-sub-t14
-sub-t14 c = search needs
+sub-t15 : tie.Need-sub-t15
+sub-t15 c = search needs
 
-add-t13 : tie.Need-add-t13
-add-t13 c = search needs
+add-t14 : tie.Need-add-t14
+add-t14 c = search needs
 
 same-length-2 : tie.Need-same-length-2
 same-length-2 c = search needs
@@ -140,18 +135,16 @@ advance-spec =
     mul-if1
     shared-slice-read-if1
     cast-if1
-    mul-push
-    shared-slice-read-push
-    cast-push
+    target-requires
     push-requires
-    add-t28
+    add-t30
     same-length
     returns
     add-work-3
     add-work-4
     mul-work-2
     slice-write-work-2
-    sub-t14
-    add-t13
+    sub-t15
+    add-t14
     same-length-2
     returns-2)
