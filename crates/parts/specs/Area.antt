@@ -5,16 +5,15 @@ use mathlib.Core.List.{List, [], _∷_, _++_}
 use mathlib.Core.Logic.{_⊎_, inl, inr, ⊎-elim}
 use mathlib.Core.Path.{_≡_, refl, sym, ap, fun-ext, _∙_}
 use Prim.Native.Nat.{ℕ, suc, _+_, _-_, _≤_, _<_}
-use native.Mathlib.Nat.{le-refl}
-use native.Mathlib.Numerals.{add-one}
 use native.Mathlib.Omega.{arith}
 use borrow.Author.Tests.{eqb-true, eqb-false, ne-eqb, lt-ltb, ltb-true, not-true}
 use lib.Dec.{eqb, ltb}
 use lib.ListN.{length, getD, take, drop, set, length-set, length-take, length-drop}
-use lib.Seq.{ext-getD, getD-take, getD-drop, getD-set-same, getD-set-other, take-suc}
+use lib.Seq.{ext-getD, getD-take, getD-drop, getD-set-other, take-suc}
 use Rattle.rules.specs.Counting.{Set}
-use Rattle.theory.specs.Basics.{bool-ext, and-intro, and-left, and-right, not-true-is-false, below-suc, clash}
+use Rattle.theory.specs.Basics.{bool-ext, and-intro, and-left, and-right, not-true-is-false, clash}
 use Rattle.theory.specs.DepthFirst.{Marks}
+use Rattle.sets.specs.After as After
 
 -- cursors of the first pass, plus 1; the finished vertices; the stack, or queue; the labels, plus 1; the labels whose part has
 -- priority p, and those whose part has two vertices
@@ -150,20 +149,11 @@ marked-marks n base v before after l d h =
           (λ e. let (k, f) = marked-true n base before u e in true-marked n base after u k (λ z. f (sym (h u k o) ∙ z)));
     }
 
--- one more word is cleared
-pub cleared-none : (from : ℕ) (work : List ℕ) → Cleared from from work work
-cleared-none from work = record { within = within-same from from work; zeros = λ i a b. absurd (omega arith) }
-
-pub cleared-more :
-    (from i : ℕ) (before after : List ℕ) → from ≤ i → i < length after → Cleared from i before after → Cleared from (i + 1) before (set after i 0)
-cleared-more from i before after l h c =
+-- cleared words, by where they end
+pub cleared-to :
+    (from to : ℕ) (before after : List ℕ) → from ≤ to → After.Cleared from (to - from) before after → Cleared from to before after
+cleared-to from to before after l c =
     record {
-      within =
-          within-then (within-wider (le-refl from) (omega arith) (c .within)) (within-store from (i + 1) i 0 after l (omega arith));
-      zeros =
-          λ k a b.
-          ⊎-elim
-          (λ (e : k ≡ i). ap (λ (j : ℕ). getD (set after i 0) j 0) e ∙ getD-set-same after i 0 0 h)
-          (λ j. getD-set-other after i k 0 0 (λ e. omega arith) ∙ c .zeros k a j)
-          (below-suc (rw add-one at b));
+      within = record { long = c .long; rest = λ i o. c .rest i (⊎-elim inl (λ h. inr (omega arith)) o) };
+      zeros = λ i a b. c .zeros i a (omega arith);
     }

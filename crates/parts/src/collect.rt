@@ -13,9 +13,7 @@ pub fn clear(work: &mut [u64], from: usize, to: usize)
     requires { ⌜ (from ≤ to) × (to ≤ length (now work)) ⌝ }
     ensures { λ _. ⌜ Cleared from to (now (work .entry)) (now (work .exit)) ⌝ }
 {
-    for i in from..to {
-        work[i] = 0;
-    }
+    sets::clear(work, from, to - from);
 }
 
 // Whether u, whose label's word is l, tells something of its part: that p is among its priorities, or that it has two

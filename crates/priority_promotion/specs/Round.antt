@@ -3,32 +3,32 @@ use mathlib.Core.Bool.{Bool, true, false, _&&_, _||_, not, cond}
 use mathlib.Core.List.{List}
 use mathlib.Core.Logic.{_⊎_, inl, inr, ⊎-elim}
 use mathlib.Core.Path.{_≡_, refl, sym, ap, ap₂, subst, _∙_}
-use Prim.Native.Nat.{ℕ, zero, suc, _+_, _-_, _*_, _%_, _≤_, _<_}
+use Prim.Native.Nat.{ℕ, zero, suc, _+_, _-_, _%_, _≤_, _<_}
 use native.Mathlib.Nat.{le-refl, le-step}
 use native.Mathlib.Omega.{arith}
 use borrow.Author.Tests.{eqb-true, eq-eqb, ne-eqb, lt-ltb, le-ltb, ltb-true, not-true}
 use lib.Dec.{eqb, ltb}
 use lib.ListN.{length, getD}
-use Rattle.rules.specs.Counting.{Set, count, some, someOf, lowest, greatest}
+use Rattle.rules.specs.Counting.{Set, count, some, lowest, greatest}
 use Rattle.rules.specs.Game.{Player, Even, Odd, Game, Total, Edge, parity, same}
-use Rattle.rules.specs.Tables.{Tables, words, gameOf, Accepted, tablesOf}
+use Rattle.rules.specs.Tables.{Tables, gameOf, Accepted, tablesOf}
 use Rattle.rules.specs.Words.{noEntry}
-use Rattle.rules.specs.Promotion.{Regions, unsolved, highestRegion, regionSet, isOpen, wayOut, roundOf, afterRounds}
-use Rattle.theory.specs.Basics.{bool-cases, clash, not-true-is-false, and-intro, and-left, and-right, lt-or-ge, some-intro, some-elim, false-some, some-cong, someOf-cong, someOf-intro, someOf-elim, same-false, false-same, lowest-none, lowest-unique, within-below, within-above, count-cong}
+use Rattle.rules.specs.Promotion.{Regions, unsolved, regionSet, isOpen, roundOf, afterRounds}
+use Rattle.theory.specs.Basics.{bool-cases, not-true-is-false, and-intro, and-left, and-right, lt-or-ge, some-intro, some-elim, false-some, some-cong, someOf-cong, someOf-intro, someOf-elim, same-false, false-same, lowest-none, lowest-unique, count-cong}
 use Rattle.theory.specs.Tables.{accepted-total, accepted-priority, accepted-sound}
-use Rattle.theory.specs.PromotionBasics.{noted-below, greatest-cong, atRegion, upTo, at-in, at-is, at-intro}
-use Rattle.theory.specs.PromotionEntries.{RoundEntries, opened, promotes, solves, AttractedEntries, PromotedEntries, SolvedEntries}
+use Rattle.theory.specs.PromotionBasics.{noted-below, greatest-cong, atRegion, at-in}
+use Rattle.theory.specs.PromotionEntries.{RoundEntries, opened, promotes, solves, AttractedEntries}
 use Rattle.theory.specs.PromotionRounds.{attractedRegion}
 use Rattle.theory.specs.PromotionStanding.{Standing}
 use Rattle.theory.specs.PromotionBound.{after-standing}
-use Rattle.theory.specs.PromotionTable.{openAt, leadsUp, nextAbove, nextBelow, above-solved, region-table, attracts-table, region-read, remaining-read, open-read, some-way-read}
+use Rattle.theory.specs.PromotionTable.{openAt, leadsUp, nextAbove, above-solved, region-table, attracts-table, region-read, remaining-read, open-read, some-way-read}
 use Rattle.theory.specs.PromotionTable.{table-opens, table-promotes, table-solves, promoted-entries-read, solved-entries-read}
 use Rattle.attractor.specs.Area.{entries, free, setAt}
-use Rattle.priority_promotion.specs.Regions.{regionAt, Tallied, Elsewhere, highestUnder}
+use Rattle.priority_promotion.specs.Regions.{regionAt, Elsewhere, highestUnder}
 use Rattle.attractor.specs.SetsAt.{set-kept}
-use Rattle.priority_promotion.specs.Opening.{opensAt, isOpenAt}
+use Rattle.priority_promotion.specs.Opening.{isOpenAt}
 use Rattle.priority_promotion.specs.Escapes.{Escapes, LowestAbove, Reaches}
-use Rattle.priority_promotion.specs.Layout.{lowerAt, heldAt, evenAt, regionsAt, tableAt, table-below, table-above, entryOf, Ready, unsolved-small}
+use Rattle.priority_promotion.specs.Layout.{heldAt, evenAt, regionsAt, tableAt, table-below, table-above, entryOf, Ready}
 use Rattle.priority_promotion.specs.Pulled.{owner-test, owner-number, number-owner}
 use Rattle.priority_promotion.specs.Query.{QueryReady, Queried}
 use Rattle.priority_promotion.specs.Promoting.{PromoteAll, PromotedAll}

@@ -1,6 +1,6 @@
 -- The contract of a round: where the work area and the small state showed the state after k rounds, they show the state after one more.
 use mathlib.Core.List.{List}
-use mathlib.Core.Path.{_≡_, _∙_}
+use mathlib.Core.Path.{_≡_}
 use Prim.Native.Nat.{ℕ, _+_, _≤_, _<_}
 use lib.ListN.{length, getD}
 use Rattle.rules.specs.Tables.{gameOf, Accepted, tablesOf}

@@ -8,7 +8,7 @@ use native.Mathlib.Omega.{arith}
 use lib.ListN.{length, getD}
 use lib.Seq.{getD-drop}
 use Rattle.rules.specs.Counting.{some}
-use Rattle.rules.specs.Game.{Player, everywhere, parity, playerOf}
+use Rattle.rules.specs.Game.{Player, everywhere, playerOf}
 use Rattle.rules.specs.Tables.{Tables, gameOf, vertices, edgesIn, Accepted}
 use Rattle.rules.specs.Words.{entry, noEntry}
 use Rattle.rules.specs.Zielonka.{highestIn}

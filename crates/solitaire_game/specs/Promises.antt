@@ -7,7 +7,7 @@ use mathlib.Core.Path.{_≡_, sym, ap, ap₂, _∙_}
 use Prim.Native.Nat.{ℕ, _<_}
 use lib.ListN.{length}
 use Rattle.rules.specs.Game.{opponent}
-use Rattle.rules.specs.Outcome.{Outcome, Verdict, none, refused, outcome, answered, _then_}
+use Rattle.rules.specs.Outcome.{Outcome, Verdict, none, refused, outcome, answered}
 use Rattle.rules.specs.Solitaire.{LentSet, soleOwner, solitaireChecks, SolitaireAnswered, SolitaireLeaves, SolvesSolitaire}
 use Rattle.rules.specs.Tables.{Tables, gameOf, vertices, Accepted}
 use Rattle.rules.specs.Winning.{Wins}

@@ -25,7 +25,7 @@ use Rattle.attractor.specs.Attracted.{Attractable, Attracted}
 use Rattle.attractor.specs.Running.{listed-kept}
 use Rattle.attractor.specs.Runs.{edges-sound}
 use Rattle.attractor.specs.Views.{part-is}
-use Rattle.parts.specs.Area.{behind, marked, marked-true}
+use Rattle.parts.specs.Area.{behind, marked-true}
 use Rattle.solitaire_game.specs.Checks.{Passed}
 use Rattle.solitaire_game.specs.Marking.{Markable, Marked}
 use Rattle.solitaire_game.specs.Gathering.{Placeable, Placed}
