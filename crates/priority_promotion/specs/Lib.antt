@@ -16,6 +16,7 @@ pub mod Dominion
 pub mod Round
 pub mod Rounds
 pub mod Solve
+pub mod Counts
 pub mod Beginning
 pub mod Starting
 pub mod Running

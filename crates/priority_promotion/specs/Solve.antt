@@ -44,7 +44,7 @@ pub record Ended (owners priorities offsets targets : List ℕ) (s budget at man
 module _ (owners priorities offsets targets : List ℕ) (s : ℕ) where
   -- whether all are solved, by the number of unsolved vertices
   module _ {r : Regions} {at many : ℕ} {work : List ℕ} (shows : Shows owners priorities offsets targets s r at many work) where
-    left-is : (v : ℕ) → v < length owners → setAt (length owners) (free (length owners) (length targets)) work v ≡ unsolved (gameBy owners priorities offsets targets) (r .region) v
+    pub left-is : (v : ℕ) → v < length owners → setAt (length owners) (free (length owners) (length targets)) work v ≡ unsolved (gameBy owners priorities offsets targets) (r .region) v
     unfolding gameOf
     left-is v l =
         shows .ready .unsolved v ∙
