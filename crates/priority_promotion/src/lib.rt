@@ -10,5 +10,6 @@ mod query;
 mod regions;
 mod round;
 mod solve;
+mod step;
 
 pub use door::solve_priority_promotion;
