@@ -1,6 +1,5 @@
 // Rounds one after another.
 use crate::round::State;
-use crate::round::round;
 ghost use Prim.Native.Nat.{_≤_};
 ghost use Rattle.priority_promotion.specs.Solve.{Reached, Ended};
 
@@ -15,18 +14,19 @@ pub fn solve(
     work: &mut [u64],
     start: State,
 ) -> State
-    requires { ⌜ (Reached (now owners) (now priorities) (now offsets) (now targets) s (start .current .0) (start .unsolved) (start .rounds) (now work)) ×
+    requires { ⌜ (Reached (now owners) (now priorities) (now offsets) (now targets) s
+        (start .current .0) (start .unsolved) (start .rounds) (now work)) ×
         (start .rounds ≤ budget) ⌝ }
     ensures { λ r.
-        ⌜ Ended (now (owners .entry)) (now (priorities .entry)) (now (offsets .entry)) (now (targets .entry)) s budget (r .current .0) (r .unsolved)
-        (r .rounds) (now (work .entry)) (now (work .exit)) ⌝ }
+        ⌜ Ended (now (owners .entry)) (now (priorities .entry)) (now (offsets .entry)) (now (targets .entry)) s budget
+        (r .current .0) (r .unsolved) (r .rounds) (now (work .entry)) (now (work .exit)) ⌝ }
 {
     let mut state = start;
     while 0 < state.unsolved {
         if state.rounds == budget {
             return state;
         }
-        state = round(owners, priorities, offsets, targets, s, work, state);
+        state.step(owners, priorities, offsets, targets, s, work);
     }
     state
 }
