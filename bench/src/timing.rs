@@ -33,49 +33,110 @@ impl Row {
     }
 }
 
-/// None where the oracle was stopped at the cap.
+/// None where the oracle was stopped at the cap. Rust, port and zeroing take turns, so that a change of the machine's pace
+/// meets all three.
 pub fn measure(game: &Game, solver: Solver) -> Option<Row> {
     let cap = Cap { messages: 10_000_000, time: Duration::from_secs(20) };
     let Outcome::Answer(solved) = solver.oracle(game, cap) else { return None };
     let prepared = Prepared::new(game);
-    let rust_ms = best(|| match solver {
-        Solver::Zielonka => drop(black_box(prepared.zielonka())),
-        Solver::Promotion => drop(black_box(prepared.priority_promotion())),
-    });
-    Some(Row { count: solved.count, rust_ms, port: port(game, solver) })
+    let mut rust = Shortest::default();
+    let mut port = PortTimes::new(game, solver);
+    let start = Instant::now();
+    while rust.runs < 3 || start.elapsed() < Duration::from_millis(600) {
+        rust.time(|| match solver {
+            Solver::Zielonka => drop(black_box(prepared.zielonka())),
+            Solver::Promotion => drop(black_box(prepared.priority_promotion())),
+        });
+        port.turn();
+    }
+    Some(Row { count: solved.count, rust_ms: rust.ms, port: port.done() })
 }
 
 #[cfg(feature = "port")]
-fn port(game: &Game, solver: Solver) -> Option<Port> {
-    use compare::port::{self, Lent};
-    let mut lent = Lent::junk(game);
-    let ms = best(|| {
-        let answer = match solver {
-            Solver::Zielonka => port::zielonka(game, false, u64::MAX, &mut lent),
-            Solver::Promotion => port::priority_promotion(game, false, u64::MAX, &mut lent),
-        };
+struct PortTimes<'a> {
+    game: &'a Game,
+    solver: Solver,
+    lent: compare::port::Lent,
+    whole: Shortest,
+    zeroing: Shortest,
+}
+
+#[cfg(feature = "port")]
+impl<'a> PortTimes<'a> {
+    fn new(game: &'a Game, solver: Solver) -> Self {
+        let lent = compare::port::Lent::junk(game);
+        PortTimes { game, solver, lent, whole: Shortest::default(), zeroing: Shortest::default() }
+    }
+
+    fn turn(&mut self) {
+        use compare::port;
+        let (game, lent, solver) = (self.game, &mut self.lent, self.solver);
+        let answer = self.whole.time(|| match solver {
+            Solver::Zielonka => port::zielonka(game, false, u64::MAX, lent),
+            Solver::Promotion => port::priority_promotion(game, false, u64::MAX, lent),
+        });
         assert_eq!(answer.number, 0, "the port refuses a game of the benchmark");
-    });
-    let words = compare::reference::tables::work_words(game.n(), game.m());
-    let zeroing_ms = best(|| black_box(&mut lent.work)[..words].fill(0));
-    Some(Port { ms, zeroing_ms })
+        let words = compare::reference::tables::work_words(game.n(), game.m());
+        self.zeroing.time(|| black_box(&mut lent.work)[..words].fill(0));
+    }
+
+    fn done(self) -> Option<Port> {
+        Some(Port { ms: self.whole.ms, zeroing_ms: self.zeroing.ms })
+    }
 }
 
 #[cfg(not(feature = "port"))]
-fn port(_game: &Game, _solver: Solver) -> Option<Port> {
-    None
+struct PortTimes;
+
+#[cfg(not(feature = "port"))]
+impl PortTimes {
+    fn new(_game: &Game, _solver: Solver) -> Self {
+        PortTimes
+    }
+
+    fn turn(&mut self) {}
+
+    fn done(self) -> Option<Port> {
+        None
+    }
 }
 
-/// The shortest of at least three runs, and of as many as fit into a fifth of a second.
-fn best(mut work: impl FnMut()) -> f64 {
-    let start = Instant::now();
-    let mut shortest = f64::MAX;
-    let mut runs = 0;
-    while runs < 3 || start.elapsed() < Duration::from_millis(200) {
-        let begin = Instant::now();
-        work();
-        shortest = shortest.min(begin.elapsed().as_secs_f64() * 1e3);
-        runs += 1;
+/// The shortest run so far, in milliseconds of the thread's own processor time.
+struct Shortest {
+    ms: f64,
+    runs: u64,
+}
+
+impl Default for Shortest {
+    fn default() -> Self {
+        Shortest { ms: f64::MAX, runs: 0 }
     }
-    shortest
+}
+
+impl Shortest {
+    fn time<T>(&mut self, work: impl FnOnce() -> T) -> T {
+        let begin = thread_ms();
+        let result = work();
+        self.ms = self.ms.min(thread_ms() - begin);
+        self.runs += 1;
+        result
+    }
+}
+
+/// The processor time of this thread: what else runs on the machine is left out.
+fn thread_ms() -> f64 {
+    #[repr(C)]
+    struct Time {
+        seconds: i64,
+        nanoseconds: i64,
+    }
+    extern "C" {
+        fn clock_gettime(clock: i32, time: *mut Time) -> i32;
+    }
+    const CLOCK_THREAD_CPUTIME_ID: i32 = 3;
+    let mut time = Time { seconds: 0, nanoseconds: 0 };
+    // Linux on 64 bits: two words, written through a pointer that is valid for the call.
+    let failed = unsafe { clock_gettime(CLOCK_THREAD_CPUTIME_ID, &mut time) };
+    assert_eq!(failed, 0, "the clock can be read");
+    time.seconds as f64 * 1e3 + time.nanoseconds as f64 / 1e6
 }

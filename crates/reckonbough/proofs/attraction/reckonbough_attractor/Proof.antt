@@ -1,10 +1,9 @@
--- `reckonbough::reckonbough_attractor` meets its contract: what is told and written is what `attractor` answers and writes for
+-- `reckonbough_attractor` meets its contract: what is told and written is what `attractor` answers and writes for
 -- the player that the byte stands for.
-use mathlib.Core.Path.{subst}
 use borrow.Author.Needs.{needs}
-use Rattle.attractor.specs.Attracts.{Attracts}
-use Rattle.reckonbough.proofs.reckonbough_attractor.Statement.{statement}
-use Rattle.reckonbough.proofs.reckonbough_attractor.Tie as tie
+use Rattle.reckonbough.specs.Doors.{attracts-as}
+use Rattle.reckonbough.proofs.attraction.reckonbough_attractor.Statement.{statement}
+use Rattle.reckonbough.proofs.attraction.reckonbough_attractor.Tie as tie
 
 from-index-requires : tie.Need-from-index-requires
 from-index-requires c κs = search needs
@@ -28,7 +27,7 @@ returns : tie.Need-returns
 returns c =
     let called = c .before .before .before .before .before .before .before .before .before in
     let asked = called .before .before .before .before in
-    rw (← asked .from-index .ensures) (subst (Attracts _ _ _ _ _ _) (c .tell .ensures) (called .attractor .ensures))
+    attracts-as (asked .from-index .ensures) (c .tell .ensures) (called .attractor .ensures)
 
 pub reckonbough-attractor-spec : {M : Type 1} → statement M
 reckonbough-attractor-spec =

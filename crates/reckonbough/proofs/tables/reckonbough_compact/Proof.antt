@@ -1,9 +1,9 @@
--- `reckonbough::reckonbough_compact` meets its contract: what is told and written is what `compact` answers and writes.
+-- `reckonbough_compact` meets its contract: what is told and written is what `compact` answers and writes.
 use mathlib.Core.Path.{subst}
 use borrow.Author.Needs.{needs}
 use Rattle.compaction.specs.Compacts.{Compacts}
-use Rattle.reckonbough.proofs.reckonbough_compact.Statement.{statement}
-use Rattle.reckonbough.proofs.reckonbough_compact.Tie as tie
+use Rattle.reckonbough.proofs.tables.reckonbough_compact.Statement.{statement}
+use Rattle.reckonbough.proofs.tables.reckonbough_compact.Tie as tie
 
 compact-requires : tie.Need-compact-requires
 compact-requires c κs = search needs

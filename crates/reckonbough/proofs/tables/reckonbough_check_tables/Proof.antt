@@ -1,8 +1,8 @@
--- `reckonbough::reckonbough_check_tables` meets its contract: what is told is what `check_tables` answers.
+-- `reckonbough_check_tables` meets its contract: what is told is what `check_tables` answers.
 use mathlib.Core.Path.{sym, _∙_}
 use borrow.Author.Needs.{needs}
-use Rattle.reckonbough.proofs.reckonbough_check_tables.Statement.{statement}
-use Rattle.reckonbough.proofs.reckonbough_check_tables.Tie as tie
+use Rattle.reckonbough.proofs.tables.reckonbough_check_tables.Statement.{statement}
+use Rattle.reckonbough.proofs.tables.reckonbough_check_tables.Tie as tie
 
 check-tables-requires : tie.Need-check-tables-requires
 check-tables-requires c κs = search needs

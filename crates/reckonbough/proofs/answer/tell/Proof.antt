@@ -1,8 +1,8 @@
--- `reckonbough::tell` meets its contract: each part of the outcome is what the answer's own function ensures.
+-- `tell` meets its contract: each part of the outcome is what the answer's own function ensures.
 use mathlib.Core.Path.{sym}
 use borrow.Author.Needs.{needs}
-use Rattle.reckonbough.proofs.tell.Statement.{statement}
-use Rattle.reckonbough.proofs.tell.Tie as tie
+use Rattle.reckonbough.proofs.answer.tell.Statement.{statement}
+use Rattle.reckonbough.proofs.answer.tell.Tie as tie
 
 place-requires : tie.Need-place-requires
 place-requires c κs = search needs

@@ -1,0 +1,206 @@
+//! The library's functions, on slices. include/reckonbough.h says of each what it reads, writes and gives. Every content and
+//! every length is answered, so each is safe. This is the one module with unsafe code: it calls the C functions.
+
+/// The four tables of a game, not yet checked.
+#[derive(Clone, Copy, Debug, PartialEq, Eq)]
+pub struct Tables<'a> {
+    /// 0 Even, 1 Odd.
+    pub owners: &'a [u8],
+    /// At most 255 each.
+    pub priorities: &'a [u16],
+    /// The edges of vertex v stand from `offsets[v]` up to `offsets[v + 1]`.
+    pub offsets: &'a [u16],
+    /// Where each edge ends.
+    pub targets: &'a [u16],
+}
+
+/// What every function gives.
+#[derive(Clone, Copy, Debug, PartialEq, Eq)]
+pub struct Answer {
+    /// 0 for an answer; otherwise the number of the refusal, or of the checker's finding.
+    pub number: u64,
+    /// Where the refusal or the finding lies; 0 with an answer.
+    pub place: u64,
+    /// Calls, rounds or looks of an answer, the budget with number 13, else 0.
+    pub count: u64,
+}
+
+/// s: the words of a set of n vertices.
+pub fn set_words(n: usize) -> usize {
+    n / 64 + usize::from(n % 64 != 0)
+}
+
+/// W: the fewest words of the work area for n vertices and m edges within the limits.
+pub fn work_words(n: usize, m: usize) -> usize {
+    8 * (n + 2) * set_words(n) + 4 * n + 2 * m + 272
+}
+
+// As include/reckonbough.h declares them.
+#[rustfmt::skip]
+extern "C" {
+    fn reckonbough_check_tables(
+        owners: *const u8, owners_length: usize,
+        priorities: *const u16, priorities_length: usize,
+        offsets: *const u16, offsets_length: usize,
+        targets: *const u16, targets_length: usize,
+        place: *mut u64, count: *mut u64,
+    ) -> u64;
+    fn reckonbough_attractor(
+        owners: *const u8, owners_length: usize,
+        priorities: *const u16, priorities_length: usize,
+        offsets: *const u16, offsets_length: usize,
+        targets: *const u16, targets_length: usize,
+        player: u8,
+        within: *const u64, within_length: usize,
+        target: *const u64, target_length: usize,
+        result: *mut u64, result_length: usize,
+        strategy: *mut u16, strategy_length: usize,
+        work: *mut u64, work_length: usize,
+        place: *mut u64, count: *mut u64,
+    ) -> u64;
+    fn reckonbough_zielonka(
+        owners: *const u8, owners_length: usize,
+        priorities: *const u16, priorities_length: usize,
+        offsets: *const u16, offsets_length: usize,
+        targets: *const u16, targets_length: usize,
+        compute_strategy: u8, budget: u64,
+        even: *mut u64, even_length: usize,
+        odd: *mut u64, odd_length: usize,
+        strategy: *mut u16, strategy_length: usize,
+        work: *mut u64, work_length: usize,
+        place: *mut u64, count: *mut u64,
+    ) -> u64;
+    fn reckonbough_priority_promotion(
+        owners: *const u8, owners_length: usize,
+        priorities: *const u16, priorities_length: usize,
+        offsets: *const u16, offsets_length: usize,
+        targets: *const u16, targets_length: usize,
+        compute_strategy: u8, budget: u64,
+        even: *mut u64, even_length: usize,
+        odd: *mut u64, odd_length: usize,
+        strategy: *mut u16, strategy_length: usize,
+        work: *mut u64, work_length: usize,
+        place: *mut u64, count: *mut u64,
+    ) -> u64;
+    fn reckonbough_solitaire(
+        owners: *const u8, owners_length: usize,
+        priorities: *const u16, priorities_length: usize,
+        offsets: *const u16, offsets_length: usize,
+        targets: *const u16, targets_length: usize,
+        set: *mut u64, set_length: usize,
+        work: *mut u64, work_length: usize,
+        place: *mut u64, count: *mut u64,
+    ) -> u64;
+    fn reckonbough_check(
+        owners: *const u8, owners_length: usize,
+        priorities: *const u16, priorities_length: usize,
+        offsets: *const u16, offsets_length: usize,
+        targets: *const u16, targets_length: usize,
+        even: *const u64, even_length: usize,
+        odd: *const u64, odd_length: usize,
+        strategy: *const u16, strategy_length: usize,
+        work: *mut u64, work_length: usize,
+        place: *mut u64, count: *mut u64,
+    ) -> u64;
+    fn reckonbough_compact(
+        owners: *const u8, owners_length: usize,
+        priorities: *const u16, priorities_length: usize,
+        offsets: *const u16, offsets_length: usize,
+        targets: *const u16, targets_length: usize,
+        new_priorities: *mut u16, new_priorities_length: usize,
+        place: *mut u64, count: *mut u64,
+    ) -> u64;
+}
+
+/// Calls a C function with the tables, its own arguments, place and count.
+macro_rules! call {
+    ($function:ident, $tables:expr $(, $argument:expr)*) => {{
+        let Tables { owners, priorities, offsets, targets } = $tables;
+        let (mut place, mut count) = (0, 0);
+        // SAFETY: every pointer comes with the length of the slice it was taken from. What is written to was lent by &mut,
+        // so it overlaps nothing else. The function keeps no pointer and asks nothing of what the slices hold.
+        let number = unsafe {
+            $function(
+                owners.as_ptr(), owners.len(), priorities.as_ptr(), priorities.len(),
+                offsets.as_ptr(), offsets.len(), targets.as_ptr(), targets.len(),
+                $($argument,)* &mut place, &mut count,
+            )
+        };
+        Answer { number, place, count }
+    }};
+}
+
+/// Checks the tables: 0, or 1 to 8.
+pub fn check_tables(tables: Tables<'_>) -> Answer {
+    call!(reckonbough_check_tables, tables)
+}
+
+/// The attractor of `target` in `within` for a player (0 Even, anything else Odd): 0, 1 to 10 or 12; the count is looks.
+pub fn attractor(
+    tables: Tables<'_>,
+    player: u8,
+    within: &[u64],
+    target: &[u64],
+    result: &mut [u64],
+    strategy: &mut [u16],
+    work: &mut [u64],
+) -> Answer {
+    call! {
+        reckonbough_attractor, tables, player,
+        within.as_ptr(), within.len(), target.as_ptr(), target.len(), result.as_mut_ptr(), result.len(),
+        strategy.as_mut_ptr(), strategy.len(), work.as_mut_ptr(), work.len()
+    }
+}
+
+/// Solves by Zielonka's recursion: 0, 1 to 10 or 13; the count is calls.
+pub fn zielonka(
+    tables: Tables<'_>,
+    compute_strategy: bool,
+    budget: u64,
+    even: &mut [u64],
+    odd: &mut [u64],
+    strategy: &mut [u16],
+    work: &mut [u64],
+) -> Answer {
+    call! {
+        reckonbough_zielonka, tables, u8::from(compute_strategy), budget,
+        even.as_mut_ptr(), even.len(), odd.as_mut_ptr(), odd.len(),
+        strategy.as_mut_ptr(), strategy.len(), work.as_mut_ptr(), work.len()
+    }
+}
+
+/// Solves by priority promotion: 0, 1 to 10 or 13; the count is rounds.
+pub fn priority_promotion(
+    tables: Tables<'_>,
+    compute_strategy: bool,
+    budget: u64,
+    even: &mut [u64],
+    odd: &mut [u64],
+    strategy: &mut [u16],
+    work: &mut [u64],
+) -> Answer {
+    call! {
+        reckonbough_priority_promotion, tables, u8::from(compute_strategy), budget,
+        even.as_mut_ptr(), even.len(), odd.as_mut_ptr(), odd.len(),
+        strategy.as_mut_ptr(), strategy.len(), work.as_mut_ptr(), work.len()
+    }
+}
+
+/// Solves a game with one owner, whose winning set is written: 0 or 1 to 11; the count is 0.
+pub fn solitaire(tables: Tables<'_>, set: &mut [u64], work: &mut [u64]) -> Answer {
+    call!(reckonbough_solitaire, tables, set.as_mut_ptr(), set.len(), work.as_mut_ptr(), work.len())
+}
+
+/// Checks a claim of winning sets and strategy: 0 for yes, 1 to 10 or 21 to 24; the count is 0.
+pub fn check(tables: Tables<'_>, even: &[u64], odd: &[u64], strategy: &[u16], work: &mut [u64]) -> Answer {
+    call! {
+        reckonbough_check, tables,
+        even.as_ptr(), even.len(), odd.as_ptr(), odd.len(),
+        strategy.as_ptr(), strategy.len(), work.as_mut_ptr(), work.len()
+    }
+}
+
+/// Writes the compacted priorities: 0 or 1 to 9; the count is 0.
+pub fn compact(tables: Tables<'_>, new_priorities: &mut [u16]) -> Answer {
+    call!(reckonbough_compact, tables, new_priorities.as_mut_ptr(), new_priorities.len())
+}

@@ -1,0 +1,213 @@
+//! A game that was checked, with the solvers as its methods.
+#![forbid(unsafe_code)]
+
+use crate::doors::{self, set_words, work_words, Answer, Tables};
+use crate::{Refusal, NONE};
+
+/// Even or Odd.
+#[derive(Clone, Copy, Debug, PartialEq, Eq)]
+pub enum Player {
+    /// Wins where the highest priority on a cycle is even; 0 in the tables.
+    Even,
+    /// Wins where it is odd; 1 in the tables.
+    Odd,
+}
+
+/// The tables of a game; they were checked when it was made, so no method gives the numbers 1 to 8.
+#[derive(Clone, Debug, PartialEq, Eq)]
+pub struct Game {
+    owners: Vec<u8>,
+    priorities: Vec<u16>,
+    offsets: Vec<u16>,
+    targets: Vec<u16>,
+}
+
+/// Who wins where, by which choices.
+#[derive(Clone, Debug, PartialEq, Eq)]
+pub struct Solved {
+    /// Whether Even wins, for each vertex.
+    pub even: Vec<bool>,
+    /// Whether Odd wins, for each vertex.
+    pub odd: Vec<bool>,
+    /// The chosen target where the vertex's owner wins it and a strategy was asked for.
+    pub strategy: Vec<Option<usize>>,
+    /// Calls of Zielonka's recursion or rounds of priority promotion.
+    pub count: u64,
+}
+
+impl Solved {
+    /// Who wins the vertex.
+    pub fn winner(&self, vertex: usize) -> Player {
+        if self.odd[vertex] {
+            Player::Odd
+        } else {
+            Player::Even
+        }
+    }
+}
+
+/// An attractor.
+#[derive(Clone, Debug, PartialEq, Eq)]
+pub struct Attracted {
+    /// Whether the vertex is in it, for each vertex.
+    pub set: Vec<bool>,
+    /// The chosen target for each vertex of the player that was drawn in.
+    pub strategy: Vec<Option<usize>>,
+    /// How many predecessor entries were met.
+    pub looks: u64,
+}
+
+impl Game {
+    /// From the vertices in order: owner, priority and where its edges go.
+    pub fn new(vertices: &[(Player, u16, &[u16])]) -> Result<Game, Refusal> {
+        let mut offsets = vec![0];
+        let mut targets = Vec::new();
+        for (_, _, successors) in vertices {
+            targets.extend_from_slice(successors);
+            // one that does not fit is never looked at: there are too many edges then, which is refused first
+            offsets.push(targets.len() as u16);
+        }
+        let owners = vertices.iter().map(|(owner, _, _)| *owner as u8).collect();
+        let priorities = vertices.iter().map(|(_, priority, _)| *priority).collect();
+        Game::from_tables(owners, priorities, offsets, targets)
+    }
+
+    /// From the four tables.
+    pub fn from_tables(
+        owners: Vec<u8>,
+        priorities: Vec<u16>,
+        offsets: Vec<u16>,
+        targets: Vec<u16>,
+    ) -> Result<Game, Refusal> {
+        let game = Game { owners, priorities, offsets, targets };
+        doors::check_tables(game.tables()).result()?;
+        Ok(game)
+    }
+
+    /// The four tables, to be lent to [`doors`].
+    pub fn tables(&self) -> Tables<'_> {
+        Tables { owners: &self.owners, priorities: &self.priorities, offsets: &self.offsets, targets: &self.targets }
+    }
+
+    /// How many vertices there are.
+    pub fn vertices(&self) -> usize {
+        self.owners.len()
+    }
+
+    /// How many edges there are, parallel ones each for itself.
+    pub fn edges(&self) -> usize {
+        self.targets.len()
+    }
+
+    /// Who owns the vertex.
+    pub fn owner(&self, vertex: usize) -> Player {
+        if self.owners[vertex] == 0 {
+            Player::Even
+        } else {
+            Player::Odd
+        }
+    }
+
+    /// The vertex's priority.
+    pub fn priority(&self, vertex: usize) -> u16 {
+        self.priorities[vertex]
+    }
+
+    /// Where the vertex's edges go.
+    pub fn successors(&self, vertex: usize) -> &[u16] {
+        &self.targets[usize::from(self.offsets[vertex])..usize::from(self.offsets[vertex + 1])]
+    }
+
+    /// Solves by Zielonka's recursion, in at most `budget` calls. Without `compute_strategy` no entry is chosen.
+    pub fn solve_zielonka(&self, compute_strategy: bool, budget: u64) -> Result<Solved, Refusal> {
+        self.solve(doors::zielonka, compute_strategy, budget)
+    }
+
+    /// Solves by priority promotion, in at most `budget` rounds. Without `compute_strategy` no entry is chosen.
+    pub fn solve_priority_promotion(&self, compute_strategy: bool, budget: u64) -> Result<Solved, Refusal> {
+        self.solve(doors::priority_promotion, compute_strategy, budget)
+    }
+
+    fn solve(&self, solver: Solver, compute_strategy: bool, budget: u64) -> Result<Solved, Refusal> {
+        let (mut even, mut odd) = (self.set(), self.set());
+        let (mut strategy, mut work) = (self.strategy(), self.work());
+        let answer = solver(self.tables(), compute_strategy, budget, &mut even, &mut odd, &mut strategy, &mut work);
+        let count = answer.result()?;
+        Ok(Solved { even: self.members(&even), odd: self.members(&odd), strategy: choices(&strategy), count })
+    }
+
+    /// The vertices that the owner of all vertices wins, for each vertex whether it is one.
+    pub fn solve_solitaire_game(&self) -> Result<Vec<bool>, Refusal> {
+        let mut set = self.set();
+        doors::solitaire(self.tables(), &mut set, &mut self.work()).result()?;
+        Ok(self.members(&set))
+    }
+
+    /// The attractor of `target` in `within` for the player.
+    pub fn attractor(&self, player: Player, within: &[bool], target: &[bool]) -> Result<Attracted, Refusal> {
+        let (mut set, mut strategy) = (self.set(), self.strategy());
+        let (within, target) = (self.words(within)?, self.words(target)?);
+        let answer =
+            doors::attractor(self.tables(), player as u8, &within, &target, &mut set, &mut strategy, &mut self.work());
+        let looks = answer.result()?;
+        Ok(Attracted { set: self.members(&set), strategy: choices(&strategy), looks })
+    }
+
+    /// Whether Even wins from `even` and Odd from `odd` by the strategy: yes, or the first thing that is wrong.
+    pub fn check(&self, even: &[bool], odd: &[bool], strategy: &[Option<usize>]) -> Result<(), Refusal> {
+        let entries: Vec<u16> = strategy.iter().map(|choice| entry(*choice)).collect();
+        let (even, odd) = (self.words(even)?, self.words(odd)?);
+        doors::check(self.tables(), &even, &odd, &entries, &mut self.work()).result()?;
+        Ok(())
+    }
+
+    /// The new priorities: small, in the same order, of the same parity, with the same winners.
+    pub fn compact(&self) -> Result<Vec<u16>, Refusal> {
+        let mut new_priorities = vec![0; self.vertices()];
+        doors::compact(self.tables(), &mut new_priorities).result()?;
+        Ok(new_priorities)
+    }
+
+    fn set(&self) -> Vec<u64> {
+        vec![0; set_words(self.vertices())]
+    }
+
+    fn strategy(&self) -> Vec<u16> {
+        vec![NONE; self.vertices()]
+    }
+
+    fn work(&self) -> Vec<u64> {
+        vec![0; work_words(self.vertices(), self.edges())]
+    }
+
+    /// Vertex v stands at bit v % 64 of word v / 64. Members that are not n are no set of this game.
+    fn words(&self, members: &[bool]) -> Result<Vec<u64>, Refusal> {
+        if members.len() != self.vertices() {
+            return Err(Refusal::Size);
+        }
+        let mut words = self.set();
+        for (v, member) in members.iter().enumerate() {
+            words[v / 64] |= u64::from(*member) << (v % 64);
+        }
+        Ok(words)
+    }
+
+    fn members(&self, words: &[u64]) -> Vec<bool> {
+        (0..self.vertices()).map(|v| words[v / 64] >> (v % 64) & 1 == 1).collect()
+    }
+}
+
+type Solver = fn(Tables<'_>, bool, u64, &mut [u64], &mut [u64], &mut [u16], &mut [u64]) -> Answer;
+
+fn choices(strategy: &[u16]) -> Vec<Option<usize>> {
+    strategy.iter().map(|entry| if *entry == NONE { None } else { Some(usize::from(*entry)) }).collect()
+}
+
+/// A choice as an entry. A number too large for an entry is no vertex, and becomes another number that is none: so it is
+/// refused where it stands and never read as no choice.
+fn entry(choice: Option<usize>) -> u16 {
+    match choice {
+        None => NONE,
+        Some(vertex) => vertex.min(usize::from(NONE) - 1) as u16,
+    }
+}

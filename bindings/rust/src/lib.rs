@@ -1,0 +1,38 @@
+//! Reckonbough: parity games, solved by code that is proved correct.
+//!
+//! [`Game`] holds checked tables and sizes every buffer itself. [`doors`] has the library's functions as they are, on slices
+//! that the caller lends; each gives an [`Answer`]: a number, a place and a count. The proofs end at the library: this crate
+//! is plain Rust that passes slices on and turns words into sets.
+//!
+//! ```
+//! use reckonbough::{Game, Player::*};
+//!
+//! let game = Game::new(&[(Even, 2, &[1]), (Odd, 0, &[0, 1])])?;
+//! let solved = game.solve_zielonka(true, u64::MAX)?;
+//! assert_eq!(solved.even, [true, true]);
+//! assert_eq!(solved.strategy, [Some(1), None]);
+//! game.check(&solved.even, &solved.odd, &solved.strategy)?;
+//! # Ok::<(), reckonbough::Refusal>(())
+//! ```
+#![deny(unsafe_code)]
+#![warn(missing_docs)]
+
+#[allow(unsafe_code)]
+pub mod doors;
+mod game;
+mod refusal;
+
+pub use doors::{
+    attractor, check, check_tables, compact, priority_promotion, set_words, solitaire, work_words, zielonka, Answer, Tables,
+};
+pub use game::{Attracted, Game, Player, Solved};
+pub use refusal::Refusal;
+
+/// A strategy entry that chooses nothing.
+pub const NONE: u16 = 65_535;
+/// The most vertices of a game.
+pub const MAX_VERTICES: usize = 4_096;
+/// The most edges of a game.
+pub const MAX_EDGES: usize = 16_384;
+/// The highest priority of a game.
+pub const MAX_PRIORITY: u16 = 255;

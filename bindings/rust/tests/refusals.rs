@@ -1,0 +1,161 @@
+//! Every refusal once, its place, and what it leaves of the lent slices.
+#![forbid(unsafe_code)]
+
+use reckonbough::Player::{Even, Odd};
+use reckonbough::{set_words, work_words, Answer, Game, Refusal, Tables, MAX_EDGES, MAX_VERTICES, NONE};
+
+fn refused(owners: &[u8], priorities: &[u16], offsets: &[u16], targets: &[u16]) -> Refusal {
+    Game::from_tables(owners.to_vec(), priorities.to_vec(), offsets.to_vec(), targets.to_vec()).unwrap_err()
+}
+
+/// n vertices with a self loop each.
+fn loops(n: usize) -> (Vec<u8>, Vec<u16>, Vec<u16>, Vec<u16>) {
+    (vec![0; n], vec![0; n], (0..=n as u16).collect(), (0..n as u16).collect())
+}
+
+#[test]
+fn tables_are_refused_with_their_place() {
+    assert_eq!(refused(&[0, 0], &[0], &[0, 1, 2], &[0, 0]), Refusal::TableLengths);
+    assert_eq!(refused(&[0, 0], &[0, 0], &[0, 1], &[0, 0]), Refusal::TableLengths);
+    assert_eq!(refused(&[], &[], &[], &[]), Refusal::TableLengths);
+    assert_eq!(refused(&[0, 2], &[0, 0], &[0, 1, 2], &[0, 0]), Refusal::Owner(1));
+    assert_eq!(refused(&[0, 0], &[0, 256], &[0, 1, 2], &[0, 0]), Refusal::Priority(1));
+    assert_eq!(refused(&[0, 0], &[0, 0], &[1, 1, 2], &[0, 0]), Refusal::Offset(0));
+    assert_eq!(refused(&[0, 0], &[0, 0], &[0, 2, 1], &[0, 0]), Refusal::Offset(1));
+    assert_eq!(refused(&[0, 0], &[0, 0], &[0, 1, 1], &[0, 0]), Refusal::Offset(2));
+    assert_eq!(refused(&[0, 0], &[0, 0], &[0, 1, 2], &[0, 2]), Refusal::Target(1));
+    assert_eq!(refused(&[0, 0], &[0, 0], &[0, 2, 2], &[0, 0]), Refusal::NoEdge(1));
+    // the first that applies
+    assert_eq!(refused(&[2, 0], &[0, 256], &[1, 1, 2], &[0, 2]), Refusal::Owner(0));
+}
+
+#[test]
+fn the_limits_answer_and_one_more_is_refused() {
+    let (owners, priorities, offsets, targets) = loops(MAX_VERTICES);
+    assert!(Game::from_tables(owners, priorities, offsets, targets).is_ok());
+    let (owners, priorities, offsets, targets) = loops(MAX_VERTICES + 1);
+    assert_eq!(refused(&owners, &priorities, &offsets, &targets), Refusal::TooManyVertices);
+
+    assert!(Game::new(&[(Even, 255, &[0; MAX_EDGES])]).is_ok());
+    assert_eq!(refused(&[0], &[0], &[0, 16_385], &[0; MAX_EDGES + 1]), Refusal::TooManyEdges);
+    assert_eq!(Game::new(&[(Even, 256, &[0])]), Err(Refusal::Priority(0)));
+    // more edges than an offset can say, and more vertices than a target can
+    assert_eq!(Game::new(&[(Even, 0, &[0; 70_000])]), Err(Refusal::TooManyEdges));
+    assert_eq!(Game::new(&vec![(Even, 0, &[0][..]); 70_000]), Err(Refusal::TooManyVertices));
+}
+
+#[test]
+fn solitaire_refuses_two_owners() {
+    let game = Game::new(&[(Even, 0, &[1]), (Odd, 0, &[0])]).unwrap();
+    assert_eq!(game.solve_solitaire_game(), Err(Refusal::OwnersDiffer));
+}
+
+#[test]
+fn wrong_lengths_and_stray_members() {
+    let game = Game::new(&[(Even, 0, &[1]), (Odd, 0, &[0])]).unwrap();
+    assert_eq!(game.check(&[true], &[false, true], &[None, None]), Err(Refusal::Size));
+    assert_eq!(game.check(&[true, true], &[false, false], &[Some(1)]), Err(Refusal::Size));
+    assert_eq!(game.attractor(Even, &[false, true], &[true, true]), Err(Refusal::Bit(0)));
+    assert_eq!(game.attractor(Even, &[false, true], &[false; 3]), Err(Refusal::Size));
+    // a choice that no entry can hold is refused, and not taken for none
+    assert_eq!(game.check(&[true, true], &[false, false], &[Some(1), Some(65_535)]), Err(Refusal::Entry(1)));
+    assert_eq!(game.check(&[true, true], &[false, false], &[Some(1), Some(1 << 20)]), Err(Refusal::Entry(1)));
+}
+
+#[test]
+fn every_number_goes_both_ways() {
+    for number in (1..=13).chain(21..=24) {
+        let refusal = Answer { number, place: 0, count: 0 }.result().unwrap_err();
+        assert_eq!(refusal.number_and_place(), (number, 0));
+        assert!(refusal.to_string().starts_with(&format!("{} at 0: ", number)));
+    }
+    assert_eq!(Answer { number: 0, place: 0, count: 7 }.result(), Ok(7));
+}
+
+/// C6, with junk in everything that is lent: two words of work area more than needed.
+struct Lent {
+    even: Vec<u64>,
+    odd: Vec<u64>,
+    strategy: Vec<u16>,
+    work: Vec<u64>,
+}
+
+const C6: Tables<'static> = Tables { owners: &[0, 1], priorities: &[2, 1], offsets: &[0, 1, 2], targets: &[1, 1] };
+const JUNK: u64 = 0xfeed_feed_feed_feed;
+const W: usize = 8 * (2 + 2) + 4 * 2 + 2 * 2 + 272;
+
+impl Lent {
+    fn junk() -> Lent {
+        Lent { even: vec![JUNK], odd: vec![JUNK], strategy: vec![777; 2], work: vec![JUNK; W + 2] }
+    }
+
+    /// Sets and strategy are as they were.
+    fn outputs_kept(&self) -> bool {
+        self.even == [JUNK] && self.odd == [JUNK] && self.strategy == [777; 2]
+    }
+
+    /// The first W words are zero and those beyond as they were.
+    fn work_zeroed(&self) -> bool {
+        self.work[..W].iter().all(|word| *word == 0) && self.work[W..] == [JUNK; 2]
+    }
+
+    fn solve(&mut self, solver: Solver, budget: u64, words: usize) -> Answer {
+        solver(C6, true, budget, &mut self.even, &mut self.odd, &mut self.strategy, &mut self.work[..words])
+    }
+}
+
+type Solver = fn(Tables<'_>, bool, u64, &mut [u64], &mut [u64], &mut [u16], &mut [u64]) -> Answer;
+
+#[test]
+fn sizes_are_those_of_document_01() {
+    assert_eq!([0, 1, 64, 65, 4_096].map(set_words), [0, 1, 1, 2, 64]);
+    assert_eq!(work_words(2, 2), W);
+    assert_eq!(work_words(0, 0), 272);
+}
+
+#[test]
+fn a_word_too_few_gets_10_and_writes_nothing() {
+    for solver in [reckonbough::zielonka as Solver, reckonbough::priority_promotion] {
+        let mut lent = Lent::junk();
+        assert_eq!(lent.solve(solver, u64::MAX, W - 1), Answer { number: 10, place: 0, count: 0 });
+        assert!(lent.outputs_kept() && lent.work == [JUNK; W + 2]);
+        // W words are enough
+        assert_eq!(lent.solve(solver, u64::MAX, W).number, 0);
+    }
+    let ten = Answer { number: 10, place: 0, count: 0 };
+    let solitaire = Tables { owners: &[0, 0], ..C6 };
+    assert_eq!(reckonbough::solitaire(solitaire, &mut [0], &mut [0; W - 1]), ten);
+    assert_eq!(reckonbough::check(C6, &[0], &[3], &[NONE, 1], &mut [0; W - 1]), ten);
+    assert_eq!(reckonbough::attractor(C6, 0, &[3], &[1], &mut [0], &mut [0; 2], &mut [0; W - 1]), ten);
+}
+
+#[test]
+fn budget_3_on_c6_gets_13_and_4_answers() {
+    let mut lent = Lent::junk();
+    assert_eq!(lent.solve(reckonbough::zielonka, 3, W + 2), Answer { number: 13, place: 0, count: 3 });
+    assert!(lent.outputs_kept() && lent.work_zeroed());
+    assert_eq!(lent.solve(reckonbough::zielonka, 4, W + 2), Answer { number: 0, place: 0, count: 4 });
+    assert!(lent.work_zeroed());
+    assert_eq!((lent.even, lent.odd, lent.strategy), (vec![0], vec![3], vec![NONE, 1]));
+}
+
+#[test]
+fn a_set_or_a_table_of_another_length_gets_9() {
+    let nine = Answer { number: 9, place: 0, count: 0 };
+    for solver in [reckonbough::zielonka as Solver, reckonbough::priority_promotion] {
+        assert_eq!(solver(C6, true, 9, &mut [0; 2], &mut [0], &mut [0; 2], &mut [0; W]), nine);
+        assert_eq!(solver(C6, true, 9, &mut [0], &mut [], &mut [0; 2], &mut [0; W]), nine);
+        assert_eq!(solver(C6, true, 9, &mut [0], &mut [0], &mut [0; 3], &mut [0; W - 1]), nine);
+    }
+    assert_eq!(reckonbough::compact(C6, &mut [0; 3]), nine);
+    assert_eq!(reckonbough::solitaire(C6, &mut [], &mut [0; W]), nine);
+    assert_eq!(reckonbough::check(C6, &[0], &[3; 2], &[NONE, 1], &mut [0; W]), nine);
+    assert_eq!(reckonbough::attractor(C6, 0, &[3], &[], &mut [0], &mut [0; 2], &mut [0; W]), nine);
+}
+
+#[test]
+fn a_bit_at_n_or_above_gets_12_or_21() {
+    let number = |number, place| Answer { number, place, count: 0 };
+    assert_eq!(reckonbough::attractor(C6, 0, &[0b111], &[0], &mut [0], &mut [0; 2], &mut [0; W]), number(12, 2));
+    assert_eq!(reckonbough::check(C6, &[1 << 63], &[3], &[NONE, 1], &mut [0; W]), number(21, 63));
+}

@@ -1,0 +1,197 @@
+/*
+ * Reckonbough: parity games, solved by code that is proved correct. The functions of libreckonbough.a, for C99 and C++.
+ *
+ * A game is four tables. Let n be its vertices and m its edges:
+ *   owners      n bytes, 0 Even, 1 Odd
+ *   priorities  n numbers, at most 255; the highest on a cycle decides, and an even one is Even's
+ *   offsets     n + 1 numbers; the edges of vertex v stand from offsets[v] up to offsets[v + 1]
+ *   targets     m numbers, each below n; parallel edges and self loops are allowed
+ * A game with n = 0 has the one offset 0. Every vertex needs an edge.
+ *
+ * A set is s words, vertex v at bit v % 64 of word v / 64; reckonbough_set_words gives s. A strategy is n entries, each a
+ * vertex or RECKONBOUGH_NONE. The work area is W words or more; reckonbough_work_words gives W. It may hold anything.
+ *
+ * Every slice is a pointer and the number of its elements (not bytes). The pointer is aligned for its type and good for
+ * that many elements; a null pointer with length 0 is an empty slice. What a function writes to (place and count too)
+ * overlaps nothing else that it is lent in that call. Apart from that every content and every length is answered.
+ * Nothing of it is kept after the call.
+ *
+ * Each function returns a number and writes a place and a count. Of 1 to 24 it is the first that applies, else 0:
+ *   number                                                                              place
+ *    0  answered, the checker's yes included                                            0
+ *    1  n above 4096                                                                    0
+ *    2  priorities not n or offsets not n + 1 long                                      0
+ *    3  m above 16384                                                                   0
+ *    4  an owner that is not 0 or 1                                                     lowest vertex
+ *    5  a priority above 255                                                            lowest vertex
+ *    6  the first offset is not 0; or one is above the next; or the last is not m       0; lowest index; n
+ *    7  a target not below n                                                            lowest edge
+ *    8  a vertex without an edge                                                        lowest vertex
+ *    9  a set not s words, a strategy or a table of new priorities not n entries long   0
+ *   10  a work area shorter than W                                                      0
+ *   11  solitaire: two owners differ                                                    0
+ *   12  attractor: a bit at n or above, or a bit of target that is not in within        lowest such bit
+ *   13  more calls or rounds are needed than the budget                                 0
+ *   21  checker: a vertex in both sets or in neither, or a bit at n or above            lowest bit
+ *   22  checker: an entry where the vertex's owner does not win it, or one that is no
+ *       target of the vertex's edges where the owner does                               lowest vertex
+ *   23  checker: the entry's edge at a vertex whose owner wins it, or any edge at
+ *       another vertex, ends outside the winner's set                                   lowest vertex
+ *   24  checker: a cycle of those edges inside a set, whose highest priority has the
+ *       other player's parity                                                           lowest vertex on one
+ * The count of an answer is what the function says below. With 13 it is the budget, with every other number 0.
+ *
+ * Numbers 1 to 12 write nothing but place and count. With 13 the sets and the strategy stay as they were. With 0, 13 and
+ * 21 to 24 the first W words of the work area are zero afterwards; words beyond W never change.
+ */
+#ifndef RECKONBOUGH_H
+#define RECKONBOUGH_H
+
+#include <stddef.h>
+#include <stdint.h>
+
+/* A strategy entry that chooses nothing. */
+#define RECKONBOUGH_NONE 65535
+
+/* The most vertices, the most edges and the highest priority of a game. */
+#define RECKONBOUGH_MAX_VERTICES 4096
+#define RECKONBOUGH_MAX_EDGES 16384
+#define RECKONBOUGH_MAX_PRIORITY 255
+
+#ifdef __cplusplus
+extern "C" {
+#endif
+
+/* s: the words of a set of n vertices. */
+static inline size_t reckonbough_set_words(size_t n)
+{
+    return n / 64 + (n % 64 != 0);
+}
+
+/* W: the fewest words of the work area for n vertices and m edges, for games within the limits above. */
+static inline size_t reckonbough_work_words(size_t n, size_t m)
+{
+    return 8 * (n + 2) * reckonbough_set_words(n) + 4 * n + 2 * m + 272;
+}
+
+/*
+ * Checks the tables.
+ * Gives 0 or 1 to 8. The count is 0.
+ */
+uint64_t reckonbough_check_tables(
+    const uint8_t *owners, size_t owners_length,
+    const uint16_t *priorities, size_t priorities_length,
+    const uint16_t *offsets, size_t offsets_length,
+    const uint16_t *targets, size_t targets_length,
+    uint64_t *place, uint64_t *count);
+
+/*
+ * The attractor of target in within for a player (0 Even, anything else Odd): the smallest set that contains target, each
+ * vertex of the player in within with an edge into it, and each other vertex of within that has an edge inside within and
+ * all such edges into it.
+ * Reads within and target, s words each; target lies inside within. Writes result, s words, and strategy, n entries: for
+ * each vertex of the player that was drawn in, the target of an edge that leads towards target; else none. Works in work,
+ * W words or more.
+ * Gives 0, 1 to 10 or 12. The count is the looks: how many edges end in the result.
+ */
+uint64_t reckonbough_attractor(
+    const uint8_t *owners, size_t owners_length,
+    const uint16_t *priorities, size_t priorities_length,
+    const uint16_t *offsets, size_t offsets_length,
+    const uint16_t *targets, size_t targets_length,
+    uint8_t player,
+    const uint64_t *within, size_t within_length,
+    const uint64_t *target, size_t target_length,
+    uint64_t *result, size_t result_length,
+    uint16_t *strategy, size_t strategy_length,
+    uint64_t *work, size_t work_length,
+    uint64_t *place, uint64_t *count);
+
+/*
+ * Solves the game by Zielonka's recursion, in at most budget calls.
+ * Writes even and odd, s words each: who wins where; and strategy, n entries: where compute_strategy is not 0, the chosen
+ * target for each vertex whose owner wins it and none elsewhere; where it is 0, none everywhere. Works in work, W words or
+ * more.
+ * Gives 0, 1 to 10 or 13. The count is the calls, those on empty sets included.
+ */
+uint64_t reckonbough_zielonka(
+    const uint8_t *owners, size_t owners_length,
+    const uint16_t *priorities, size_t priorities_length,
+    const uint16_t *offsets, size_t offsets_length,
+    const uint16_t *targets, size_t targets_length,
+    uint8_t compute_strategy,
+    uint64_t budget,
+    uint64_t *even, size_t even_length,
+    uint64_t *odd, size_t odd_length,
+    uint16_t *strategy, size_t strategy_length,
+    uint64_t *work, size_t work_length,
+    uint64_t *place, uint64_t *count);
+
+/*
+ * Solves the game by priority promotion, in at most budget rounds. Takes, writes and gives what reckonbough_zielonka does;
+ * the count is the rounds. The sets are the same; the strategy may be another.
+ */
+uint64_t reckonbough_priority_promotion(
+    const uint8_t *owners, size_t owners_length,
+    const uint16_t *priorities, size_t priorities_length,
+    const uint16_t *offsets, size_t offsets_length,
+    const uint16_t *targets, size_t targets_length,
+    uint8_t compute_strategy,
+    uint64_t budget,
+    uint64_t *even, size_t even_length,
+    uint64_t *odd, size_t odd_length,
+    uint16_t *strategy, size_t strategy_length,
+    uint64_t *work, size_t work_length,
+    uint64_t *place, uint64_t *count);
+
+/*
+ * Solves a game in which one player owns every vertex.
+ * Writes set, s words: the vertices that the owner wins, those from which a cycle can be reached whose highest priority
+ * has the owner's parity. The other player wins the rest. Works in work, W words or more.
+ * Gives 0 or 1 to 11. The count is 0.
+ */
+uint64_t reckonbough_solitaire(
+    const uint8_t *owners, size_t owners_length,
+    const uint16_t *priorities, size_t priorities_length,
+    const uint16_t *offsets, size_t offsets_length,
+    const uint16_t *targets, size_t targets_length,
+    uint64_t *set, size_t set_length,
+    uint64_t *work, size_t work_length,
+    uint64_t *place, uint64_t *count);
+
+/*
+ * Checks a claim: that Even wins from even and Odd from odd, each by the entries of strategy.
+ * Reads even and odd, s words each, and strategy, n entries: a target of the vertex's edges where the vertex's owner wins
+ * it, none elsewhere. Works in work, W words or more.
+ * Gives 0 for yes, 1 to 10, or 21 to 24 for the first thing that is wrong. The count is 0.
+ */
+uint64_t reckonbough_check(
+    const uint8_t *owners, size_t owners_length,
+    const uint16_t *priorities, size_t priorities_length,
+    const uint16_t *offsets, size_t offsets_length,
+    const uint16_t *targets, size_t targets_length,
+    const uint64_t *even, size_t even_length,
+    const uint64_t *odd, size_t odd_length,
+    const uint16_t *strategy, size_t strategy_length,
+    uint64_t *work, size_t work_length,
+    uint64_t *place, uint64_t *count);
+
+/*
+ * Makes the priorities small without changing who wins: the lowest used becomes 0 or 1 by its parity, each next different
+ * one the last new number plus 1 where the parity differs and plus 2 where it does not. 3, 7, 4 becomes 1, 3, 2.
+ * Writes new_priorities, n numbers.
+ * Gives 0 or 1 to 9. The count is 0.
+ */
+uint64_t reckonbough_compact(
+    const uint8_t *owners, size_t owners_length,
+    const uint16_t *priorities, size_t priorities_length,
+    const uint16_t *offsets, size_t offsets_length,
+    const uint16_t *targets, size_t targets_length,
+    uint16_t *new_priorities, size_t new_priorities_length,
+    uint64_t *place, uint64_t *count);
+
+#ifdef __cplusplus
+}
+#endif
+
+#endif
