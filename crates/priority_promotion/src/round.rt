@@ -25,10 +25,12 @@ pub fn round(
     work: &mut [u64],
     state: State,
 ) -> State
-    requires { ⌜ RoundReady (now owners) (now priorities) (now offsets) (now targets) s (state .current .0) (state .unsolved) (state .rounds) (now work) ⌝ }
+    requires { ⌜ RoundReady (now owners) (now priorities) (now offsets) (now targets) s
+        (state .current .0) (state .unsolved) (state .rounds) (now work) ⌝ }
     ensures { λ r.
-        ⌜ RoundDone (now (owners .entry)) (now (priorities .entry)) (now (offsets .entry)) (now (targets .entry)) s (state .current .0)
-        (state .unsolved) (state .rounds) (r .current .0) (r .unsolved) (r .rounds) (now (work .entry)) (now (work .exit)) ⌝ }
+        ⌜ RoundDone (now (owners .entry)) (now (priorities .entry)) (now (offsets .entry)) (now (targets .entry)) s
+        (state .current .0) (state .unsolved) (state .rounds) (r .current .0) (r .unsolved) (r .rounds)
+        (now (work .entry)) (now (work .exit)) ⌝ }
 {
     let n = owners.len();
     let m = targets.len();
