@@ -1,5 +1,6 @@
 /*
- * What only C can pass: null pointers for empty slices, and players and flags other than 0 and 1. Every function is called.
+ * What only C can pass: null pointers for empty slices, and players and flags other than 0 and 1; and the largest game. Every
+ * function is called.
  * Each line is what was asked and the number, the place and the count given; tests/doors compares them.
  */
 #include <inttypes.h>
@@ -60,9 +61,41 @@ static void players_and_flags(void)
     }
 }
 
+/*
+ * The largest game, 2,048 pairs: E2 to the pair's other; E1 to itself and to the next pair. Zielonka's recursion nests 2,049
+ * deep in it. One vertex more is refused.
+ */
+static void most_vertices(void)
+{
+    enum { N = 4096, M = 3 * N / 2 - 1, S = N / 64 };
+    static uint8_t owners[N + 1];
+    static uint16_t priorities[N + 1], offsets[N + 2], targets[M], strategy[N];
+    static uint64_t even[S], odd[S], area[8 * (N + 2) * S + 4 * N + 2 * M + 272];
+    const size_t w = reckonbough_work_words(N, M);
+    for (size_t v = 0, m = 0; v < N; v++) {
+        priorities[v] = v % 2 == 0 ? 2 : 1;
+        targets[m++] = (uint16_t)(v | 1);
+        if (v % 2 == 1 && v + 1 < N)
+            targets[m++] = (uint16_t)(v + 1);
+        offsets[v + 1] = (uint16_t)m;
+    }
+#define CHAIN owners, N, priorities, N, offsets, N + 1, targets, M
+    print("zielonka of 4,096 vertices",
+          reckonbough_zielonka(CHAIN, 1, UINT64_MAX, even, S, odd, S, strategy, N, area, w, &place, &count));
+    print("check of it", reckonbough_check(CHAIN, even, S, odd, S, strategy, N, area, w, &place, &count));
+    print("priority_promotion of 4,096 vertices",
+          reckonbough_priority_promotion(CHAIN, 1, UINT64_MAX, even, S, odd, S, strategy, N, area, w, &place, &count));
+    print("check of it", reckonbough_check(CHAIN, even, S, odd, S, strategy, N, area, w, &place, &count));
+    print("solitaire of 4,096 vertices", reckonbough_solitaire(CHAIN, even, S, area, w, &place, &count));
+    print("zielonka of 4,097 vertices",
+          reckonbough_zielonka(owners, N + 1, priorities, N + 1, offsets, N + 2, targets, M, 1, UINT64_MAX, even, S, odd, S,
+                               strategy, N, area, w, &place, &count));
+}
+
 int main(void)
 {
     no_vertices();
     players_and_flags();
+    most_vertices();
     return 0;
 }
