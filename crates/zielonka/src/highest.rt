@@ -6,22 +6,44 @@ ghost use mathlib.Core.Path.{_≡_};
 ghost use Prim.Native.Nat.{_*_, _≤_};
 ghost use lib.ListN.{length};
 ghost use Rattle.rules.specs.Words.{setOf};
+ghost use Rattle.zielonka.specs.Highest.{HighestIn};
 ghost use Rattle.zielonka.specs.Parts.{highestOf, Collects, Collected, Inside, Ends};
 ghost use Rattle.zielonka.specs.Extending.{Extends, Extended};
 ghost use Rattle.rules.specs.Tables.{tablesOf};
 
-// Tests vertex by vertex.
+// The highest of `best` and of the priorities of one word's members. Tests vertex by vertex, until no bit is left.
+fn highest_in_word(priorities: &[u16], from: usize, word: u64, best: u16) -> u16
+    requires { ⌜ from ≤ length (now priorities) ⌝ }
+    ensures { λ r. ⌜ HighestIn (now (priorities .entry)) from word best r ⌝ }
+{
+    let mut highest = best;
+    let mut rest = word;
+    let mut v = from;
+    while rest != 0 {
+        if priorities.len() <= v {
+            return highest;
+        }
+        if rest % 2 == 1 {
+            if highest < priorities[v] {
+                highest = priorities[v];
+            }
+        }
+        rest /= 2;
+        v += 1;
+    }
+    highest
+}
+
+// Word after word.
 pub fn get_highest_prio(priorities: &[u16], set: &[u64]) -> Priority
     requires { ⌜ length (now priorities) ≤ 64 * length (now set) ⌝ }
     ensures { λ r. ⌜ r .0 ≡ highestOf (now (priorities .entry)) (setOf (now (set .entry))) ⌝ }
 {
     let mut highest: u16 = 0;
-    for v in 0..priorities.len() {
-        if sets::contains(set, v) {
-            if highest < priorities[v] {
-                highest = priorities[v];
-            }
-        }
+    let mut from = 0;
+    while from < priorities.len() {
+        highest = highest_in_word(priorities, from, set[from / 64], highest);
+        from += 64;
     }
     Priority(highest as usize)
 }
