@@ -7,7 +7,7 @@ use native.Mathlib.Decide.{ℕ-discrete}
 use native.Mathlib.Nat.{add-zero}
 use native.Mathlib.Numerals.{add-one}
 use native.Mathlib.Omega.{arith}
-use lib.Bits.{bitAnd, and-step, and-self}
+use lib.Bits.{bitAnd, bitOr, and-step, and-self, and-le-l, and-le-r, or-add-and}
 use lib.Count.{trailingZeros, under}
 use lib.Dec.{eqb}
 use lib.ListN.{length, getD, drop, drop-of-length-le}
@@ -103,6 +103,31 @@ left-over xs i h =
     ap (λ (l : List ℕ). l ++ ofWords (suc i) (drop (suc i) xs)) (ofWord-zero (64 * i) 0 64)
     ∙ ap (λ (j : ℕ). ofWords j (drop j xs)) (sym (add-one i))
     ∙ ap (λ (l : List ℕ). ofWords (i + 1) l) (drop-cons xs (i + 1) 0 h)
+
+-- the same where the next word is 0
+left-empty : (xs : List ℕ) (i j : ℕ) → j ≡ i + 1 → j < length xs → getD xs j 0 ≡ 0
+    → left xs (record { at = i; word = 0 }) ≡ left xs (record { at = j; word = 0 })
+left-empty xs i j q h e =
+    left-over xs i (omega (arith, q, h))
+    ∙ ap (λ (k : ℕ). left xs (record { at = k; word = getD xs k 0 })) (sym q)
+    ∙ ap (λ (x : ℕ). left xs (record { at = j; word = x })) e
+
+-- words whose | is 0 are 0
+or-none : (a b : ℕ) → bitOr a b ≡ 0 → (a ≡ 0) × (b ≡ 0)
+or-none a b e = (omega (arith, or-add-and a b, and-le-r a b, e), omega (arith, or-add-and a b, and-le-l a b, e))
+
+-- no bit is left in word i, and none is in the next four
+pub left-four : (xs : List ℕ) (i : ℕ) → i + 4 < length xs
+    → bitOr (bitOr (bitOr (getD xs (i + 1) 0) (getD xs (i + 2) 0)) (getD xs (i + 3) 0)) (getD xs (i + 4) 0) ≡ 0
+    → left xs (record { at = i; word = 0 }) ≡ left xs (record { at = i + 4; word = 0 })
+left-four xs i h e =
+    let (three, d) = or-none (bitOr (bitOr (getD xs (i + 1) 0) (getD xs (i + 2) 0)) (getD xs (i + 3) 0)) (getD xs (i + 4) 0) e in
+    let (two, c) = or-none (bitOr (getD xs (i + 1) 0) (getD xs (i + 2) 0)) (getD xs (i + 3) 0) three in
+    let (a, b) = or-none (getD xs (i + 1) 0) (getD xs (i + 2) 0) two in
+    left-empty xs i (i + 1) refl (omega (arith, h)) a
+    ∙ left-empty xs (i + 1) (i + 2) (omega arith) (omega (arith, h)) b
+    ∙ left-empty xs (i + 2) (i + 3) (omega arith) (omega (arith, h)) c
+    ∙ left-empty xs (i + 3) (i + 4) (omega arith) h d
 
 -- the next member
 pub left-member : (xs : List ℕ) (i w : ℕ) → w < 2 ^ 64 → (w ≡ 0 → ⊥)

@@ -16,6 +16,23 @@ pub enum Next {
     Done,
 }
 
+// Passes over words of 0, four at a time: no bit is left in a word, nor in those after it up to the one given.
+fn pass_over(set: &[u64], from: usize) -> usize
+    requires { ⌜ (length (now set) ≤ 64) × (from ≤ 64) ⌝ }
+    ensures { λ r.
+        ⌜ (left (now (set .entry)) (record { at = from; word = 0 }) ≡ left (now (set .entry)) (record { at = r; word = 0 })) ×
+        (r ≤ 64) ⌝ }
+{
+    let mut at = from;
+    while at + 4 < set.len() {
+        if set[at + 1] | set[at + 2] | set[at + 3] | set[at + 4] != 0 {
+            break;
+        }
+        at += 4;
+    }
+    at
+}
+
 impl Members {
     pub fn new(set: &[u64]) -> Members
         ensures { λ r. ⌜ (left (now (set .entry)) r ≡ members (now (set .entry))) × (r .at ≡ 0) ⌝ }
@@ -36,6 +53,9 @@ impl Members {
     {
         let mut at = self.at;
         let mut word = self.word;
+        if word == 0 {
+            at = pass_over(set, at);
+        }
         while word == 0 {
             at += 1;
             if set.len() <= at {
