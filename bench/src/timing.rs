@@ -39,10 +39,12 @@ pub fn measure(game: &Game, solver: Solver) -> Option<Row> {
     let cap = Cap { messages: 10_000_000, time: Duration::from_secs(20) };
     let Outcome::Answer(solved) = solver.oracle(game, cap) else { return None };
     let prepared = Prepared::new(game);
-    let mut rust = Shortest::default();
+    let mut rust = Shortest::new();
     let mut port = PortTimes::new(game, solver);
     let start = Instant::now();
-    while rust.runs < 3 || start.elapsed() < Duration::from_millis(600) {
+    let mut turns = 0;
+    while turns < 3 || start.elapsed() < Duration::from_millis(600) {
+        turns += 1;
         rust.time(|| match solver {
             Solver::Zielonka => drop(black_box(prepared.zielonka())),
             Solver::Promotion => drop(black_box(prepared.priority_promotion())),
@@ -65,17 +67,19 @@ struct PortTimes<'a> {
 impl<'a> PortTimes<'a> {
     fn new(game: &'a Game, solver: Solver) -> Self {
         let lent = compare::port::Lent::junk(game);
-        PortTimes { game, solver, lent, whole: Shortest::default(), zeroing: Shortest::default() }
+        PortTimes { game, solver, lent, whole: Shortest::new(), zeroing: Shortest::new() }
     }
 
     fn turn(&mut self) {
         use compare::port;
         let (game, lent, solver) = (self.game, &mut self.lent, self.solver);
-        let answer = self.whole.time(|| match solver {
-            Solver::Zielonka => port::zielonka(game, false, u64::MAX, lent),
-            Solver::Promotion => port::priority_promotion(game, false, u64::MAX, lent),
+        self.whole.time(|| {
+            let answer = match solver {
+                Solver::Zielonka => port::zielonka(game, false, u64::MAX, lent),
+                Solver::Promotion => port::priority_promotion(game, false, u64::MAX, lent),
+            };
+            assert_eq!(answer.number, 0, "the port refuses a game of the benchmark");
         });
-        assert_eq!(answer.number, 0, "the port refuses a game of the benchmark");
         let words = compare::reference::tables::work_words(game.n(), game.m());
         self.zeroing.time(|| black_box(&mut lent.work)[..words].fill(0));
     }
@@ -101,25 +105,28 @@ impl PortTimes {
     }
 }
 
-/// The shortest run so far, in milliseconds of the thread's own processor time.
+/// The shortest time so far, in milliseconds of the thread's own processor time. Short work is repeated within one reading of
+/// the clock, about half a millisecond long.
 struct Shortest {
     ms: f64,
-    runs: u64,
-}
-
-impl Default for Shortest {
-    fn default() -> Self {
-        Shortest { ms: f64::MAX, runs: 0 }
-    }
+    repeats: u32,
 }
 
 impl Shortest {
-    fn time<T>(&mut self, work: impl FnOnce() -> T) -> T {
+    fn new() -> Self {
+        Shortest { ms: f64::MAX, repeats: 1 }
+    }
+
+    fn time(&mut self, mut work: impl FnMut()) {
         let begin = thread_ms();
-        let result = work();
-        self.ms = self.ms.min(thread_ms() - begin);
-        self.runs += 1;
-        result
+        (0..self.repeats).for_each(|_| work());
+        let each = (thread_ms() - begin) / f64::from(self.repeats);
+        if self.repeats == 1 && each < 0.25 {
+            // too short to be told by one reading: the first only says how often
+            self.repeats = (0.5 / each.max(0.000_01)) as u32;
+        } else {
+            self.ms = self.ms.min(each);
+        }
     }
 }
 
