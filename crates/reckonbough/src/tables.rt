@@ -3,7 +3,6 @@ use crate::answer::tell;
 ghost use mathlib.Core.Path.{_≡_};
 ghost use Rattle.rules.specs.Outcome.{outcome, answered};
 ghost use Rattle.rules.specs.Tables.{tableChecks, tablesOf};
-ghost use Rattle.checker.specs.Checks.{Checks};
 ghost use Rattle.compaction.specs.Compacts.{Compacts};
 ghost use Rattle.reckonbough.specs.Doors.{told};
 

@@ -5,7 +5,7 @@ use mathlib.Core.Logic.{_⊎_, inl, inr}
 use mathlib.Core.Path.{_≡_, refl, sym, ap, _∙_}
 use Prim.Native.Nat.{ℕ, zero, suc, _+_, _-_, _*_, _/_, _%_, _^_, _≤_, _<_, min, max}
 use native.Mathlib.Decide.{ℕ-discrete}
-use native.Mathlib.Nat.{add-zero}
+use native.Mathlib.Nat.{add-zero, mul-one, mul-zero}
 use native.Mathlib.Numerals.{add-one}
 use native.Mathlib.Omega.{arith}
 use lib.Dec.{eqb}
@@ -13,7 +13,7 @@ use lib.ListN.{length, getD}
 use Rattle.rules.specs.Counting.{Set, greatest}
 use Rattle.rules.specs.Tables.{Tables, gameOf, targetsOf, tablesOf}
 use Rattle.rules.specs.Words.{digit, bit, setOf}
-use Rattle.theory.specs.Basics.{clash, someOf-elim}
+use Rattle.theory.specs.Basics.{bool-cases, clash, someOf-elim}
 use Rattle.theory.specs.Tables.{edge-place, place-edge}
 use Rattle.sets.specs.Digits.{digit-low, digit-up, digit-zero}
 use Rattle.sets.specs.Whole.{bit-at}
@@ -27,18 +27,32 @@ greatest-next : (v : ℕ) (S : Set) (f : ℕ → ℕ) → greatest (v + 1) S f �
 unfolding greatest
 greatest-next v S f = ap (λ (n : ℕ). greatest n S f) (add-one v)
 
-module _ {h : ℕ} (v : ℕ) (S : Set) (f : ℕ → ℕ) (e : h ≡ greatest v S f) where
-  -- a member with more
-  pub greatest-more : S v ≡ true → h < f v → f v ≡ greatest (v + 1) S f
-  greatest-more p l = omega (arith, greatest-next v S f, ap (λ (b : Bool). cond b (f v) 0) p)
+-- no member
+greatest-past : {h : ℕ} (v : ℕ) (S : Set) (f : ℕ → ℕ) → h ≡ greatest v S f → S v ≡ false → h ≡ greatest (v + 1) S f
+greatest-past v S f e p = omega (arith, greatest-next v S f, ap (λ (b : Bool). cond b (f v) 0) p)
 
-  -- a member with as much or less
-  pub greatest-less : S v ≡ true → f v ≤ h → h ≡ greatest (v + 1) S f
-  greatest-less p l = omega (arith, greatest-next v S f, ap (λ (b : Bool). cond b (f v) 0) p)
+-- a member's priority, and 0 for another vertex, by the bit
+seen-is : (a bit : ℕ) → a * (bit % 2) ≡ cond (eqb (bit % 2) 1) a 0
+seen-is a bit = go (ℕ-discrete (bit % 2) 1)
+  where
+    go : Dec (bit % 2 ≡ 1) → a * (bit % 2) ≡ cond (eqb (bit % 2) 1) a 0
+    go (yes e) = rw e (mul-one a)
+    go (no d) = let e : bit % 2 ≡ 0 = omega (arith, d) in rw e (mul-zero a)
 
-  -- no member
-  pub greatest-past : S v ≡ false → h ≡ greatest (v + 1) S f
-  greatest-past p = omega (arith, greatest-next v S f, ap (λ (b : Bool). cond b (f v) 0) p)
+pub seen-small : (a bit : ℕ) → a < 65536 → a * (bit % 2) < 65536
+seen-small a bit l = go (bool-cases (eqb (bit % 2) 1))
+  where
+    go : (eqb (bit % 2) 1 ≡ true) ⊎ (eqb (bit % 2) 1 ≡ false) → a * (bit % 2) < 65536
+    go (inl e) = omega (arith, seen-is a bit, ap (λ (b : Bool). cond b a 0) e)
+    go (inr e) = omega (arith, seen-is a bit, ap (λ (b : Bool). cond b a 0) e)
+
+pub greatest-seen :
+    {h : ℕ} (v : ℕ) (S : Set) (f : ℕ → ℕ) (bit : ℕ) →
+    h ≡ greatest v S f →
+    S v ≡ eqb (bit % 2) 1 →
+    max h (f v * (bit % 2)) ≡ greatest (v + 1) S f
+greatest-seen v S f bit e p =
+    omega (arith, greatest-next v S f, e, seen-is (f v) bit, ap (λ (b : Bool). cond b (f v) 0) p)
 
 -- **A word's bits, one vertex after another.**
 

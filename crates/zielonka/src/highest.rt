@@ -23,10 +23,10 @@ fn highest_in_word(priorities: &[u16], from: usize, word: u64, best: u16) -> u16
         if priorities.len() <= v {
             return highest;
         }
-        if rest % 2 == 1 {
-            if highest < priorities[v] {
-                highest = priorities[v];
-            }
+        // 0 where v is no member: a branch on the bit would be hard to foresee
+        let seen = priorities[v] * (rest % 2) as u16;
+        if highest < seen {
+            highest = seen;
         }
         rest /= 2;
         v += 1;

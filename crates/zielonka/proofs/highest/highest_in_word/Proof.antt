@@ -1,13 +1,12 @@
 -- `highest_in_word` meets its contract. The loop's invariant: what is left of the word says so of the vertices from v on, and `highest`
 -- is the greatest priority of the members below v.
 use mathlib.Core.Logic.{inl, inr, ⊎-elim}
-use mathlib.Core.Path.{_≡_, refl, sym, ap, _∙_}
-use Prim.Native.Nat.{ℕ, _+_, _-_, _%_, _^_, _≤_, _<_}
+use mathlib.Core.Path.{_≡_, _∙_}
+use Prim.Native.Nat.{ℕ, _+_, _-_, _*_, _%_, _^_, _≤_, _<_, max}
 use native.Mathlib.Omega.{arith}
-use borrow.Author.Tests.{eq-eqb, ne-eqb}
 use lib.ListN.{length, getD}
 use Rattle.rules.specs.Counting.{Set, greatest}
-use Rattle.zielonka.specs.Highest.{Says, says-here, says-next, rest-small, rest-within, word-over, greatest-more, greatest-less, greatest-past}
+use Rattle.zielonka.specs.Highest.{Says, says-here, says-next, rest-small, rest-within, word-over, seen-small, greatest-seen}
 use borrow.Author.Needs.{needs}
 use Rattle.zielonka.proofs.highest.highest_in_word.Statement.{statement}
 use Rattle.zielonka.proofs.highest.highest_in_word.Tie as tie
@@ -32,40 +31,24 @@ within c =
 -- the greatest so far, by the way that the turn took
 again :
     (c : tie.Joined2 Inv-loop μ-loop) →
-    let a = c .before .before .before .before .args in
+    let a = c .before .before .before .before .before .args in
     (c .if2 .highest < 65536) ×
     ((S : Set) →
     Says S (a .from) (a .from + 64) (a .word) →
     a .best ≡ greatest (a .from) S (λ u. getD (a .priorities .now) u 0) →
-    c .if2 .highest ≡ greatest (c .before .before .before .loop .v + 1) S (λ u. getD (a .priorities .now) u 0))
+    c .if2 .highest ≡ greatest (c .before .before .before .before .loop .v + 1) S (λ u. getD (a .priorities .now) u 0))
 again c =
-    let l = c .before .before .before .loop in
-    let a = c .before .before .before .before .args in
+    let l = c .before .before .before .before .loop in
+    let a = c .before .before .before .before .before .args in
     let f : ℕ → ℕ = λ u. getD (a .priorities .now) u 0 in
-    let inside = within (c .before .before) in
-    ⊎-elim
-    (λ w. (
-      omega (arith, w .4, w .1 .given (l .v)),
+    let small = seen-small (f (l .v)) (l .rest) (omega (arith, c .before .shared-slice-known .given (l .v))) in
+    let inside = within (c .before .before .before) in
+    let both : c .if2 .highest ≡ max (l .highest) (f (l .v) * (l .rest % 2)) =
+    ⊎-elim (λ w. omega (arith, w .0 .taken, w .1)) (λ w. omega (arith, w .0 .left, w .1)) (c .if2 .came) in (
+      omega (arith, both, small),
       λ S says is.
-          let so = l .inv .4 S says is in
-          w .4 ∙ greatest-more (l .v) S f (so .1) (says-here (so .0) inside ∙ eq-eqb (l .rest % 2) 1 (w .0 .taken)) (w .2 .taken),
-    ))
-    (λ w.
-    ⊎-elim
-    (λ u. (
-      omega (arith, u .3),
-      λ S says is.
-          let so = l .inv .4 S says is in
-          u .3 ∙ greatest-less (l .v) S f (so .1) (says-here (so .0) inside ∙ eq-eqb (l .rest % 2) 1 (u .0 .taken)) (u .2 .left),
-    ))
-    (λ u. (
-      omega (arith, u .1),
-      λ S says is.
-          let so = l .inv .4 S says is in
-          u .1 ∙ greatest-past (l .v) S f (so .1) (says-here (so .0) inside ∙ ne-eqb (l .rest % 2) 1 (u .0 .left)),
-    ))
-    w)
-    (c .if2 .came)
+          let so = l .inv .4 S says is in both ∙ greatest-seen (l .v) S f (l .rest) (so .1) (says-here (so .0) inside),
+    )
 
 loop-holds : tie.Need-loop-holds Inv-loop μ-loop
 loop-holds c =
@@ -79,17 +62,20 @@ returns c S says is =
     let so = l .inv .4 S says is in
     word-over (a .priorities .now) S (a .from) (l .v) (a .word) (l .rest) (a .best) (l .highest) (so .0) (so .1) (inr (c .if1 .taken)) (l .inv .0) (l .inv .1)
 
-mul-if3 : tie.Need-mul-if3 Inv-loop μ-loop
-mul-if3 c = search needs
+mul-seen : tie.Need-mul-seen Inv-loop μ-loop
+mul-seen c = search needs
 
-shared-slice-read-if3 : tie.Need-shared-slice-read-if3 Inv-loop μ-loop
-shared-slice-read-if3 c = search needs
+shared-slice-read-seen : tie.Need-shared-slice-read-seen Inv-loop μ-loop
+shared-slice-read-seen c = search needs
 
-mul-highest : tie.Need-mul-highest Inv-loop μ-loop
-mul-highest c = search needs
+cast-seen : tie.Need-cast-seen Inv-loop μ-loop
+cast-seen c = search needs
 
-shared-slice-read-highest : tie.Need-shared-slice-read-highest Inv-loop μ-loop
-shared-slice-read-highest c = search needs
+mul-seen-2 : tie.Need-mul-seen-2 Inv-loop μ-loop
+mul-seen-2 c =
+    let l = c .before .before .before .loop in
+    let a = c .before .before .before .before .args in
+    record { fits = seen-small (getD (a .priorities .now) (l .v) 0) (l .rest) (omega (arith, c .shared-slice-known .given (l .v))) }
 
 add-v : tie.Need-add-v Inv-loop μ-loop
 add-v c = search needs
@@ -99,9 +85,9 @@ loop-less c = search needs
 
 loop-again : tie.Need-loop-again Inv-loop μ-loop
 loop-again c =
-    let l = c .before .before .before .loop in
-    let a = c .before .before .before .before .args in
-    let inside = within (c .before .before) in
+    let l = c .before .before .before .before .loop in
+    let a = c .before .before .before .before .before .args in
+    let inside = within (c .before .before .before) in
     let next = again c in (
       omega arith,
       search needs,
@@ -125,10 +111,10 @@ highest-in-word-spec =
     μ-loop
     loop-holds
     returns
-    mul-if3
-    shared-slice-read-if3
-    mul-highest
-    shared-slice-read-highest
+    mul-seen
+    shared-slice-read-seen
+    cast-seen
+    mul-seen-2
     add-v
     loop-less
     loop-again
