@@ -51,7 +51,7 @@ impl Scale {
         let high = |pick: fn(&(f64, f64)) -> f64| points().map(pick).fold(f64::MIN, f64::max);
         Scale {
             n: (low(|point| point.0.log2()).floor(), high(|point| point.0.log2()).ceil()),
-            ms: (low(|point| point.1.log10()).floor(), high(|point| point.1.log10()).ceil()),
+            ms: (low(|point| point.1.max(0.000_1).log10()).floor(), high(|point| point.1.log10()).ceil()),
         }
     }
 
@@ -83,7 +83,7 @@ fn axes(out: &mut String, scale: &Scale, left: f64, title: &str) {
 fn draw(out: &mut String, scale: &Scale, left: f64, line: &Line) {
     let colour = COLOURS[line.family % COLOURS.len()];
     let dash = if line.port { " stroke-dasharray='6 4'" } else { "" };
-    let place = |point: &(f64, f64)| format!("{:.1},{:.1}", scale.x(left, point.0.log2()), scale.y(point.1.log10()));
+    let place = |point: &(f64, f64)| format!("{:.1},{:.1}", scale.x(left, point.0.log2()), scale.y(point.1.max(0.000_1).log10()));
     let points: Vec<String> = line.points.iter().map(place).collect();
     let _ = writeln!(out, "<polyline points='{}' fill='none' stroke='{colour}' stroke-width='2'{dash}/>", points.join(" "));
 }

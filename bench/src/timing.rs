@@ -39,11 +39,11 @@ pub fn measure(game: &Game, solver: Solver) -> Option<Row> {
     let cap = Cap { messages: 10_000_000, time: Duration::from_secs(20) };
     let Outcome::Answer(solved) = solver.oracle(game, cap) else { return None };
     let prepared = Prepared::new(game);
-    let mut rust = Shortest::new();
+    let mut rust = Times::new();
     let mut port = PortTimes::new(game, solver);
     let start = Instant::now();
     let mut turns = 0;
-    while turns < 3 || start.elapsed() < Duration::from_millis(600) {
+    while turns < 4 || start.elapsed() < Duration::from_millis(600) {
         turns += 1;
         rust.time(|| match solver {
             Solver::Zielonka => drop(black_box(prepared.zielonka())),
@@ -51,7 +51,7 @@ pub fn measure(game: &Game, solver: Solver) -> Option<Row> {
         });
         port.turn();
     }
-    Some(Row { count: solved.count, rust_ms: rust.ms, port: port.done() })
+    Some(Row { count: solved.count, rust_ms: rust.ms(), port: port.done() })
 }
 
 #[cfg(feature = "port")]
@@ -59,15 +59,15 @@ struct PortTimes<'a> {
     game: &'a Game,
     solver: Solver,
     lent: compare::port::Lent,
-    whole: Shortest,
-    zeroing: Shortest,
+    whole: Times,
+    zeroing: Times,
 }
 
 #[cfg(feature = "port")]
 impl<'a> PortTimes<'a> {
     fn new(game: &'a Game, solver: Solver) -> Self {
         let lent = compare::port::Lent::junk(game);
-        PortTimes { game, solver, lent, whole: Shortest::new(), zeroing: Shortest::new() }
+        PortTimes { game, solver, lent, whole: Times::new(), zeroing: Times::new() }
     }
 
     fn turn(&mut self) {
@@ -85,7 +85,7 @@ impl<'a> PortTimes<'a> {
     }
 
     fn done(self) -> Option<Port> {
-        Some(Port { ms: self.whole.ms, zeroing_ms: self.zeroing.ms })
+        Some(Port { ms: self.whole.ms(), zeroing_ms: self.zeroing.ms() })
     }
 }
 
@@ -105,16 +105,16 @@ impl PortTimes {
     }
 }
 
-/// The shortest time so far, in milliseconds of the thread's own processor time. Short work is repeated within one reading of
-/// the clock, about half a millisecond long.
-struct Shortest {
-    ms: f64,
+/// The times taken so far, in milliseconds of the thread's own processor time. Short work is repeated within one reading of the
+/// clock, about half a millisecond long.
+struct Times {
+    each: Vec<f64>,
     repeats: u32,
 }
 
-impl Shortest {
+impl Times {
     fn new() -> Self {
-        Shortest { ms: f64::MAX, repeats: 1 }
+        Times { each: Vec::new(), repeats: 1 }
     }
 
     fn time(&mut self, mut work: impl FnMut()) {
@@ -123,10 +123,16 @@ impl Shortest {
         let each = (thread_ms() - begin) / f64::from(self.repeats);
         if self.repeats == 1 && each < 0.25 {
             // too short to be told by one reading: the first only says how often
-            self.repeats = (0.5 / each.max(0.000_01)) as u32;
+            self.repeats = (0.5 / each.max(0.001)) as u32;
         } else {
-            self.ms = self.ms.min(each);
+            self.each.push(each);
         }
+    }
+
+    /// The time that a quarter of the turns kept below: neither a clock that jumps now and then nor other work tells much.
+    fn ms(mut self) -> f64 {
+        self.each.sort_by(f64::total_cmp);
+        self.each[self.each.len() / 4]
     }
 }
 
