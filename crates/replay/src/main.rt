@@ -1,6 +1,7 @@
-// Replays the fixed list of the oracle's answers, one game a line on standard input (compare/README.md says how it was made):
-// n m owners.. priorities.. offsets.. targets.. winners.. calls rounds solitaire..
-// Prints how many games there were, and on how many of them each solver differs. A line that is no game counts as a difference.
+// Replays the fixed list of the oracle's answers, one game a line on standard input (compare/README.md says how it was
+// made): n m owners.. priorities.. offsets.. targets.. winners.. calls rounds solitaire..
+// Prints how many games there were, and on how many of them each solver differs. A line that is no game counts as a
+// difference.
 mod solvers;
 mod text;
 
@@ -25,8 +26,8 @@ fn judge(
     targets: &[u16],
 ) -> Line {
     let said = solvers::read_said(list, from, owners.len());
-    let zielonka = solvers::zielonka_differs(owners, priorities, offsets, targets, said);
-    let promotion = solvers::promotion_differs(owners, priorities, offsets, targets, said);
+    let zielonka = solvers::solver_differs(false, owners, priorities, offsets, targets, said);
+    let promotion = solvers::solver_differs(true, owners, priorities, offsets, targets, said);
     let solitaire = solvers::solitaire_differs(owners, priorities, offsets, targets, said);
     Line {
         next: end,

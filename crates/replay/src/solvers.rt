@@ -43,48 +43,48 @@ fn differs(r: Answer, checked: Answer, even: u64, odd: u64, count: u64, said: Sa
     0
 }
 
-pub fn zielonka_differs(
+// The answer of priority promotion, or of Zielonka.
+fn solve(
+    promotion: bool,
     owners: &[u8],
     priorities: &[u16],
     offsets: &[u16],
     targets: &[u16],
-    said: Said,
-) -> u64 {
-    let mut even = [0u64; 1];
-    let mut odd = [0u64; 1];
-    let mut entries = [0u16; 12];
-    let mut work = [0u64; 600];
-    let n = owners.len();
-    if n > 12 {
-        return 1;
+    even: &mut [u64],
+    odd: &mut [u64],
+    strategy: &mut [u16],
+    work: &mut [u64],
+) -> Answer {
+    if promotion {
+        return priority_promotion::solve_priority_promotion(
+            owners,
+            priorities,
+            offsets,
+            targets,
+            true,
+            1000000,
+            even,
+            odd,
+            strategy,
+            work,
+        );
     }
-    let strategy: &mut [u16] = &mut entries[0..n];
-    let r = zielonka::solve_zielonka(
+    zielonka::solve_zielonka(
         owners,
         priorities,
         offsets,
         targets,
         true,
         1000000,
-        &mut even,
-        &mut odd,
+        even,
+        odd,
         strategy,
-        &mut work,
-    );
-    let checked = checker::check(
-        owners,
-        priorities,
-        offsets,
-        targets,
-        &even,
-        &odd,
-        strategy,
-        &mut work,
-    );
-    differs(r, checked, even[0], odd[0], said.calls, said)
+        work,
+    )
 }
 
-pub fn promotion_differs(
+pub fn solver_differs(
+    promotion: bool,
     owners: &[u8],
     priorities: &[u16],
     offsets: &[u16],
@@ -100,13 +100,12 @@ pub fn promotion_differs(
         return 1;
     }
     let strategy: &mut [u16] = &mut entries[0..n];
-    let r = priority_promotion::solve_priority_promotion(
+    let r = solve(
+        promotion,
         owners,
         priorities,
         offsets,
         targets,
-        true,
-        1000000,
         &mut even,
         &mut odd,
         strategy,
@@ -122,7 +121,8 @@ pub fn promotion_differs(
         strategy,
         &mut work,
     );
-    differs(r, checked, even[0], odd[0], said.rounds, said)
+    let count = if promotion { said.rounds } else { said.calls };
+    differs(r, checked, even[0], odd[0], count, said)
 }
 
 // 0 where the solitaire solver gives this set, or refuses two owners; else 1.
