@@ -1,7 +1,6 @@
-// Replays the fixed list of the oracle's answers, one game a line on standard input (compare/README.md says how it was
-// made): n m owners.. priorities.. offsets.. targets.. winners.. calls rounds solitaire..
-// Prints how many games there were, and on how many of them each solver differs. A line that is no game counts as a
-// difference.
+// Replays the fixed list of the oracle's answers, one game a line on standard input (compare/README.md says how it
+// was made): n m owners.. priorities.. offsets.. targets.. winners.. calls rounds solitaire.. Prints how many games
+// there were, and on how many of them each solver differs. A line that is no game counts as a difference.
 mod solvers;
 mod text;
 
