@@ -20,7 +20,8 @@ pub enum Next {
 fn pass_over(set: &[u64], from: usize) -> usize
     requires { ⌜ (length (now set) ≤ 64) × (from ≤ 64) ⌝ }
     ensures { λ r.
-        ⌜ (left (now (set .entry)) (record { at = from; word = 0 }) ≡ left (now (set .entry)) (record { at = r; word = 0 })) ×
+        ⌜ (left (now (set .entry)) (record { at = from; word = 0 })
+        ≡ left (now (set .entry)) (record { at = r; word = 0 })) ×
         (r ≤ 64) ⌝ }
 {
     let mut at = from;
