@@ -8,6 +8,5 @@ mod ran;
 
 pub use area::prepare;
 pub use checks::check_all;
-pub use entries::write_strategy;
 pub use outputs::write_out;
 pub use ran::Ran;
