@@ -1,12 +1,14 @@
 -- The attractor's state away from the work area: the members so far, the counters, the queue, the entries, and what one look and
 -- the looks along a row of the predecessor table make of it.
-use mathlib.Core.Bool.{true, false, cond}
+use mathlib.Core.Bool.{true, false, cond, _&&_, not}
 use mathlib.Core.List.{List, [], _∷_, _++_}
+use mathlib.Core.Logic.{⊎-elim}
 use mathlib.Core.Path.{_≡_, refl}
 use Prim.Native.Nat.{ℕ, suc, _-_}
-use borrow.Author.Tests.{eq-eqb, ne-eqb}
+use borrow.Author.Tests.{not-false, eq-eqb, ne-eqb}
 use lib.Dec.{eqb}
 use Rattle.rules.specs.Counting.{Set}
+use Rattle.theory.specs.Basics.{bool-cases, clash, and-false-cases}
 
 pub record State : Type 0 where
   pub members : Set
@@ -79,15 +81,15 @@ unfolding looked
 looked-more V' own w v [] s = refl
 looked-more V' own w v (u ∷ vs) s = looked-more V' own w v vs (touched V' own w u s)
 
--- a look by its tests: outside V', in already, an own vertex, another's with its last inside edge, and another's that still waits
+-- a look by its tests: not in V' or in already, an own vertex, another's with its last inside edge, and another's that still waits
 module _ (V' own : Set) (w v : ℕ) (s : State) where
-  pub touched-outside : V' v ≡ false → touched V' own w v s ≡ s
+  pub touched-passed : (V' v && not (s .members v)) ≡ false → touched V' own w v s ≡ s
   unfolding touched
-  touched-outside i = rw i
-
-  pub touched-again : V' v ≡ true → s .members v ≡ true → touched V' own w v s ≡ s
-  unfolding touched
-  touched-again i m = rw (i, m)
+  touched-passed e =
+      ⊎-elim
+      (λ i. rw i (⊎-elim (λ o. absurd (clash i o)) (λ m. rw (not-false (s .members v) m)) (and-false-cases (V' v) _ e)))
+      (λ i. rw i)
+      (bool-cases (V' v))
 
   pub touched-entry : V' v ≡ true → s .members v ≡ false → own v ≡ true → touched V' own w v s ≡ joined v (entered w v s)
   unfolding touched

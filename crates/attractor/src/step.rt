@@ -36,10 +36,7 @@ fn touch(
         (now (work .entry)) (now (work .exit)) tail r ⌝ }
 {
     let n = owners.len();
-    if !sets::contains(&work[within..within + s], v) {
-        return tail;
-    }
-    if sets::contains(&work[set..set + s], v) {
+    if !sets::in_difference(&work[within..within + s], &work[set..set + s], v) {
         return tail;
     }
     if owners[v] == alpha {

@@ -1,5 +1,5 @@
 -- One bit of a set: what a shift and a mask read of it, and what a new word at its place makes of the set.
-use mathlib.Core.Bool.{Bool, true, false, cond}
+use mathlib.Core.Bool.{Bool, true, false, cond, _&&_, not}
 use mathlib.Core.List.{List}
 use mathlib.Core.Path.{_≡_, sym, ap, ap₂, _∙_}
 use Prim.Native.Nat.{ℕ, _-_, _*_, _/_, _%_, _^_, _<_, max}
@@ -27,6 +27,29 @@ eqb-alike a b c d f g = go (ℕ-discrete a b)
 pub read-bit : (xs : List ℕ) (v : ℕ) → eqb (bitAnd (getD xs (v / 64) 0 / 2 ^ (v % 64)) 1) 1 ≡ setOf xs v
 unfolding setOf bit digit
 read-bit xs v = ap (λ (x : ℕ). eqb x 1) (and-mask (getD xs (v / 64) 0 / 2 ^ (v % 64)) 1)
+
+-- ((w & !x) >> k) & 1 == 1
+pub read-difference :
+    (xs ys : List ℕ) (v : ℕ) →
+    getD ys (v / 64) 0 < 2 ^ 64 →
+    eqb (bitAnd (bitAnd (getD xs (v / 64) 0) ((2 ^ 64 - 1) - getD ys (v / 64) 0) / 2 ^ (v % 64)) 1) 1 ≡ (setOf xs v && not (setOf ys v))
+unfolding setOf bit digit
+read-difference xs ys v h =
+    ap (λ (x : ℕ). eqb x 1)
+    (and-mask (bitAnd (getD xs (v / 64) 0) ((2 ^ 64 - 1) - getD ys (v / 64) 0) / 2 ^ (v % 64)) 1 ∙
+    digit-and-not 64 (getD xs (v / 64) 0) (getD ys (v / 64) 0) (v % 64) h (omega arith)) ∙
+    less (digit (getD xs (v / 64) 0) (v % 64)) (digit (getD ys (v / 64) 0) (v % 64)) (digit-lt (getD xs (v / 64) 0) (v % 64))
+    (digit-lt (getD ys (v / 64) 0) (v % 64))
+  where
+    less : (a b : ℕ) → a < 2 → b < 2 → eqb (a - b) 1 ≡ (eqb a 1 && not (eqb b 1))
+    less a b l small = go (ℕ-discrete a 1) (ℕ-discrete b 1)
+      where
+        go : Dec (a ≡ 1) → Dec (b ≡ 1) → eqb (a - b) 1 ≡ (eqb a 1 && not (eqb b 1))
+        go (yes e) (yes f) =
+            ne-eqb (a - b) 1 (λ z. omega arith) ∙ sym (ap₂ (λ (s t : Bool). s && not t) (eq-eqb a 1 e) (eq-eqb b 1 f))
+        go (yes e) (no d) =
+            eq-eqb (a - b) 1 (omega (arith, small, d)) ∙ sym (ap₂ (λ (s t : Bool). s && not t) (eq-eqb a 1 e) (ne-eqb b 1 d))
+        go (no d) f = ne-eqb (a - b) 1 (λ z. d (omega arith)) ∙ sym (ap (λ (s : Bool). s && not (eqb b 1)) (ne-eqb a 1 d))
 
 -- a new word at the place of v, with digit d there and else the old word's digits, puts d at v
 pub put-word : (xs : List ℕ) (v d w : ℕ) → v < 64 * length xs

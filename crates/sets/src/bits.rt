@@ -1,4 +1,5 @@
 // One member: asked for, added, removed.
+ghost use mathlib.Core.Bool.{_&&_, not};
 ghost use mathlib.Core.Path.{_≡_};
 ghost use Prim.Native.Nat.{_*_, _<_};
 ghost use lib.ListN.{length};
@@ -10,6 +11,14 @@ pub fn contains(set: &[u64], v: usize) -> bool
     ensures { λ r. ⌜ r ≡ setOf (now (set .entry)) v ⌝ }
 {
     (set[v / 64] >> (v % 64)) & 1 == 1
+}
+
+// Whether v is in the one set and not in the other: one test, where two would each be hard to foresee.
+pub fn in_difference(set: &[u64], without: &[u64], v: usize) -> bool
+    requires { ⌜ (v < 64 * length (now set)) × (v < 64 * length (now without)) ⌝ }
+    ensures { λ r. ⌜ r ≡ (setOf (now (set .entry)) v && not (setOf (now (without .entry)) v)) ⌝ }
+{
+    ((set[v / 64] & !without[v / 64]) >> (v % 64)) & 1 == 1
 }
 
 pub fn insert(set: &mut [u64], v: usize)

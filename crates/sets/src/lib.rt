@@ -5,6 +5,7 @@ mod members;
 mod whole;
 
 pub use bits::contains;
+pub use bits::in_difference;
 pub use bits::insert;
 pub use bits::remove;
 pub use members::Members;

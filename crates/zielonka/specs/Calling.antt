@@ -6,7 +6,7 @@ use Prim.Native.Nat.{ℕ, _+_, _-_, _*_, _≤_, _<_}
 use native.Mathlib.Nat.{mul-le-mul-left, mul-add, mul-one}
 use native.Mathlib.Omega.{arith}
 use borrow.Author.Tests.{not-true, not-false}
-use lib.ListN.{length, getD, take, drop}
+use lib.ListN.{length, getD, take, drop, length-take}
 use Rattle.rules.specs.Counting.{some, count, greatest}
 use Rattle.rules.specs.Game.{Player, opponent, parity}
 use Rattle.rules.specs.Tables.{Tables, gameOf, vertices, edgesIn, words}
@@ -19,10 +19,10 @@ use Rattle.theory.specs.Run.{Top, highest-top, cut-inside}
 use Rattle.theory.specs.RunSound.{run-sound}
 use Rattle.theory.specs.Tables.{accepted-sound}
 use Rattle.attractor.specs.Area.{free, setAt, wordsAt}
-use Rattle.attractor.specs.Views.{part-length}
+use Rattle.attractor.specs.Views.{words-few}
 use Rattle.attractor.specs.SetsAt.{set-cleared, set-inside}
 use Rattle.attractor.specs.Walking.{lent-part}
-use Rattle.zielonka.specs.Parts.{highestOf}
+use Rattle.zielonka.specs.Parts.{highestOf, Searchable}
 use Rattle.zielonka.specs.Level.{nextLevel, wonPlace, onLevel, wonAt, Called, Stays, Done, Over}
 use Rattle.zielonka.specs.Steps.{CutBy, AllAt, JoinedAt, stays-on, stays-next, level-stays, cut-over, nested-called, first-less, cut-less}
 use Rattle.zielonka.specs.Steps.{done-empty, done-all, done-some, over-nested, over-second}
@@ -51,13 +51,17 @@ module _ {t : Tables} {base : ℕ} {w₀ : List ℕ} (called : Called t base w�
   lent : take ((base + s) - base) (drop base w₀) ≡ wordsAt (vertices t) base w₀
   lent = lent-part (vertices t) s base w₀ size
 
-  -- each vertex has a bit in the part that is lent
-  pub highest-fits : length (t .priorities) ≤ 64 * length (take ((base + s) - base) (drop base w₀))
-  unfolding words
-  highest-fits =
-      let long = accepted-sound t (called .accepted) .priority-each in
-      let fits = level-fits in
-      omega (arith, ap length lent, part-length base (words (vertices t)) w₀ (omega arith))
+  -- V can be searched
+  pub highest-given : Searchable (length (t .priorities)) (take ((base + s) - base) (drop base w₀))
+  highest-given =
+      let sound = accepted-sound t (called .accepted) in
+      let long = sound .priority-each in
+      let few = words-few (vertices t) (sound .few-vertices) in
+      rw lent
+      record {
+        few = omega (arith, length-take (words (vertices t)) (drop base w₀));
+        below = λ v m. omega (arith, called .below v m);
+      }
 
   -- V is empty
   pub level-empty :

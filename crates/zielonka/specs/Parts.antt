@@ -17,6 +17,11 @@ use Rattle.attractor.specs.Area.{setAt}
 abbrev pub highestOf : List ℕ → Set → ℕ
 highestOf priorities S = greatest (length priorities) S (λ v. getD priorities v 0)
 
+-- a set that a walk can pass: its vertices are below n
+pub record Searchable (n : ℕ) (set : List ℕ) : Type 0 where
+  pub few : length set ≤ 64
+  pub below : (v : ℕ) → setOf set v ≡ true → v < n
+
 -- V stands at `within`, has no vertex at n or above, and the set at `into` is apart from it and empty
 pub record Collects (n s within into : ℕ) (work : List ℕ) : Type 0 where
   pub size : s ≡ words n

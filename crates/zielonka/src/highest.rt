@@ -3,49 +3,31 @@ use parity_game::Priority;
 use sets::Members;
 use sets::Next;
 ghost use mathlib.Core.Path.{_≡_};
-ghost use Prim.Native.Nat.{_*_, _≤_};
 ghost use lib.ListN.{length};
 ghost use Rattle.rules.specs.Words.{setOf};
-ghost use Rattle.zielonka.specs.Highest.{HighestIn};
-ghost use Rattle.zielonka.specs.Parts.{highestOf, Collects, Collected, Inside, Ends};
+ghost use Rattle.zielonka.specs.Parts.{highestOf, Searchable, Collects, Collected, Inside, Ends};
 ghost use Rattle.zielonka.specs.Extending.{Extends, Extended};
 ghost use Rattle.rules.specs.Tables.{tablesOf};
 
-// The highest of `best` and of the priorities of one word's members. Tests vertex by vertex, until no bit is left.
-fn highest_in_word(priorities: &[u16], from: usize, word: u64, best: u16) -> u16
-    requires { ⌜ from ≤ length (now priorities) ⌝ }
-    ensures { λ r. ⌜ HighestIn (now (priorities .entry)) from word best r ⌝ }
-{
-    let mut highest = best;
-    let mut rest = word;
-    let mut v = from;
-    while rest != 0 {
-        if priorities.len() <= v {
-            return highest;
-        }
-        // 0 where v is no member: a branch on the bit would be hard to foresee
-        let seen = priorities[v] * (rest % 2) as u16;
-        if highest < seen {
-            highest = seen;
-        }
-        rest /= 2;
-        v += 1;
-    }
-    highest
-}
-
-// Word after word.
+// The highest priority in V, its members found by words.
 pub fn get_highest_prio(priorities: &[u16], set: &[u64]) -> Priority
-    requires { ⌜ length (now priorities) ≤ 64 * length (now set) ⌝ }
+    requires { ⌜ Searchable (length (now priorities)) (now set) ⌝ }
     ensures { λ r. ⌜ r .0 ≡ highestOf (now (priorities .entry)) (setOf (now (set .entry))) ⌝ }
 {
     let mut highest: u16 = 0;
-    let mut from = 0;
-    while from < priorities.len() {
-        highest = highest_in_word(priorities, from, set[from / 64], highest);
-        from += 64;
+    let mut walk = Members::new(set);
+    loop {
+        let next = walk.next(set);
+        let Next::Member(member, rest) = next else {
+            return Priority(highest as usize);
+        };
+        let v = member.0;
+        let p = priorities[v];
+        if highest < p {
+            highest = p;
+        }
+        walk = rest;
     }
-    Priority(highest as usize)
 }
 
 // U: the members of V with priority p, found by words.

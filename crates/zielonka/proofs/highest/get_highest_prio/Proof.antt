@@ -1,67 +1,99 @@
--- `get_highest_prio` meets its contract: before a word it has the greatest priority of the members in the words passed.
-use mathlib.Core.Path.{_≡_, ap, _∙_}
-use Prim.Native.Nat.{ℕ, _-_, _%_, _<_, min}
+-- `get_highest_prio` meets its contract: it has the highest priority of the members that the walk has passed.
+use Prim.Native.Nat.{ℕ, _≤_, _<_}
+use mathlib.Core.List.{_∷_}
+use mathlib.Core.Path.{_≡_, subst}
 use native.Mathlib.Omega.{arith}
-use lib.ListN.{length, getD}
-use Rattle.rules.specs.Counting.{greatest}
-use Rattle.rules.specs.Words.{setOf}
-use Rattle.zielonka.specs.Highest.{greatest-none, word-says}
+use lib.ListN.{length}
+use Rattle.sets.specs.declared.members.Members.{Members}
+use Rattle.sets.specs.Walk.{left, Walks}
+use Rattle.attractor.specs.Walking.{next-shorter}
+use Rattle.zielonka.specs.Highest.{SearchedTo, searched-none, searched-all, searched-small, searched-more}
 use borrow.Author.Needs.{needs}
 use Rattle.zielonka.proofs.highest.get_highest_prio.Statement.{statement}
 use Rattle.zielonka.proofs.highest.get_highest_prio.Tie as tie
 
 abbrev Inv-loop : tie.InvT-loop
-Inv-loop priorities set highest₀ from₀ highest from =
-    (from % 64 ≡ 0) × (highest < 65536) ×
-    (highest ≡ greatest (min from (length priorities)) (setOf set) (λ u. getD priorities u 0))
+Inv-loop priorities set highest₀ walk₀ highest walk = (highest < 65536) × SearchedTo priorities set walk highest
 
 abbrev μ-loop : tie.MeasureT-loop
-μ-loop priorities set highest₀ from₀ highest from = length priorities - from
+μ-loop priorities set highest₀ walk₀ highest walk = length (left set walk)
+
+-- where the function begins, and the loop's head of a turn
+abbrev start-of : tie.At-loop Inv-loop μ-loop → tie.Start Inv-loop μ-loop
+start-of c = c .before .before .before .before
+
+abbrev turn : tie.After-known-told Inv-loop μ-loop → tie.At-loop Inv-loop μ-loop
+turn c = c .before .before .before .before
+
+-- the vertex that the walk came to, and the walk after it
+abbrev vertex : tie.After-known-told Inv-loop μ-loop → ℕ
+vertex c = c .before .next2 .given .0 .0 .0
+
+abbrev after : tie.After-known-told Inv-loop μ-loop → Members
+after c = c .before .next2 .given .0 .1 .0
+
+moved :
+    (c : tie.After-known-told Inv-loop μ-loop) →
+    let set = start-of (turn c) .args .set .now in
+    (left set (turn c .loop .walk) ≡ vertex c ∷ left set (after c)) × (after c .at ≤ 64)
+moved c =
+    subst (Walks (start-of (turn c) .args .set .now) (turn c .loop .walk)) (c .before .next2 .given .1) (c .before .before .before .next .ensures)
+
+shorter :
+    (c : tie.After-known-told Inv-loop μ-loop) →
+    let set = start-of (turn c) .args .set .now in
+    length (left set (after c)) < length (left set (turn c .loop .walk))
+shorter c = next-shorter (after c) (turn c .loop .inv .1 .walking) (moved c .0)
+
+small : (c : tie.After-known-told Inv-loop μ-loop) → vertex c < length (start-of (turn c) .args .priorities .now)
+small c = searched-small (start-of (turn c) .pre) (turn c .loop .inv .1) (after c) (moved c)
+
+new-requires : tie.Need-new-requires Inv-loop μ-loop
+new-requires c κs = search needs
 
 loop-holds : tie.Need-loop-holds Inv-loop μ-loop
-loop-holds c =
-    let a = c .before .before .args in
-    let start : 0 ≡ min 0 (length (a .priorities .now)) = omega arith in
-    let S = setOf (a .set .now) in
-    let f : ℕ → ℕ = λ u. getD (a .priorities .now) u 0 in
-    (search needs, search needs, greatest-none S f ∙ ap (λ (k : ℕ). greatest k S f) start)
+loop-holds c = (search needs, searched-none (c .before .before .before .pre) (c .new .result) (c .new .ensures) (omega arith))
 
-mul-highest-in-word : tie.Need-mul-highest-in-word Inv-loop μ-loop
-mul-highest-in-word c = search needs
+next-requires : tie.Need-next-requires Inv-loop μ-loop
+next-requires c κs = (start-of c .pre .few, c .loop .inv .1 .walking .at)
 
-shared-slice-read-highest-in-word : tie.Need-shared-slice-read-highest-in-word Inv-loop μ-loop
-shared-slice-read-highest-in-word c = search needs
+enum-known-next : tie.Need-enum-known-next Inv-loop μ-loop
+enum-known-next c = search needs
 
-highest-in-word-requires : tie.Need-highest-in-word-requires Inv-loop μ-loop
-highest-in-word-requires c κs = search needs
-
-add-from : tie.Need-add-from Inv-loop μ-loop
-add-from c = search needs
-
-loop-less : tie.Need-loop-less Inv-loop μ-loop
-loop-less c = search needs
-
-loop-again : tie.Need-loop-again Inv-loop μ-loop
-loop-again c =
-    let l = c .before .before .before .loop in
-    let a = c .before .before .before .before .before .before .args in
-    let here : min (l .from) (length (a .priorities .now)) ≡ l .from = omega (arith, c .before .before .loop-test .taken) in
-    let S = setOf (a .set .now) in
-    let f : ℕ → ℕ = λ u. getD (a .priorities .now) u 0 in (
-      omega arith,
-      search needs,
-      c .highest-in-word .ensures S (word-says (a .set .now) (l .from) (l .inv .0)) (l .inv .2 ∙ ap (λ (k : ℕ). greatest k S f) here),
-    )
+enum-told : tie.Need-enum-told Inv-loop μ-loop
+enum-told c = search needs
 
 cast-t10 : tie.Need-cast-t10 Inv-loop μ-loop
 cast-t10 c = search needs
 
 returns : tie.Need-returns Inv-loop μ-loop
 returns c =
-    let l = c .before .loop in
-    let a = c .before .before .before .before .args in
-    let all : min (l .from) (length (a .priorities .now)) ≡ length (a .priorities .now) = omega (arith, c .loop-test .left) in
-    l .inv .2 ∙ ap (λ (k : ℕ). greatest k (setOf (a .set .now)) (λ u. getD (a .priorities .now) u 0)) all
+    let d = c .before .before .before in
+    searched-all (start-of d .pre) (d .loop .inv .1)
+    (subst (Walks (start-of d .args .set .now) (d .loop .walk)) (c .enum-told .given .1) (c .before .before .next .ensures))
+
+mul-p : tie.Need-mul-p Inv-loop μ-loop
+mul-p c = omega (arith, small c, start-of (turn c) .good)
+
+shared-slice-read-p : tie.Need-shared-slice-read-p Inv-loop μ-loop
+shared-slice-read-p c = small (c .before)
+
+loop-less : tie.Need-loop-less Inv-loop μ-loop
+loop-less c = shorter (c .before .before)
+
+loop-again : tie.Need-loop-again Inv-loop μ-loop
+loop-again c =
+    let d = c .before .before in
+    let known = c .before .shared-slice-known3 .given (vertex d) in
+    (omega arith, searched-more (start-of (turn d) .pre) (turn d .loop .inv .1) (after d) (moved d) (omega (arith, c .if1 .taken)))
+
+loop-less-2 : tie.Need-loop-less-2 Inv-loop μ-loop
+loop-less-2 c = shorter (c .before .before)
+
+loop-again-2 : tie.Need-loop-again-2 Inv-loop μ-loop
+loop-again-2 c =
+    let d = c .before .before in
+    (turn d .loop .inv .0, searched-more (start-of (turn d) .pre) (turn d .loop .inv .1) (after d) (moved d) (omega (arith, c .if1 .left)))
 
 pub get-highest-prio-spec : {M : Type 1} → statement M
 get-highest-prio-spec =
@@ -69,12 +101,16 @@ get-highest-prio-spec =
     (tie.spec
     Inv-loop
     μ-loop
+    new-requires
     loop-holds
-    mul-highest-in-word
-    shared-slice-read-highest-in-word
-    highest-in-word-requires
-    add-from
+    next-requires
+    enum-known-next
+    enum-told
+    cast-t10
+    returns
+    mul-p
+    shared-slice-read-p
     loop-less
     loop-again
-    cast-t10
-    returns)
+    loop-less-2
+    loop-again-2)

@@ -9,7 +9,7 @@ use Rattle.rules.specs.Tables.{Tables, tablesOf}
 use Rattle.attractor.specs.Area.{setAt}
 use Rattle.zielonka.specs.Level.{Ends}
 use Rattle.zielonka.specs.Steps.{over-first}
-use Rattle.zielonka.specs.Calling.{level-fits, highest-fits, level-empty, level-some, empty-done, member-ready, member-top}
+use Rattle.zielonka.specs.Calling.{level-fits, highest-given, level-empty, level-some, empty-done, member-ready, member-top}
 use Rattle.zielonka.specs.Calling.{Begun, begun-less, begun-called, begun-came, begun-over}
 use Rattle.zielonka.specs.Calling.{Came, came-ready, came-all, came-losable, came-lost}
 use Rattle.zielonka.specs.Calling.{Lost, lost-less, lost-called, lost-over, lost-high, lost-done}
@@ -205,7 +205,7 @@ part-get-highest-prio-end : (t : ℕ) → lts.Need-part-get-highest-prio-end (cs
 part-get-highest-prio-end t c = search needs
 
 get-highest-prio-requires : (t : ℕ) → lts.Need-get-highest-prio-requires (cs t) (called-at t) own.Post
-get-highest-prio-requires t c κs = highest-fits (c .before .before .before .before .before .before .before .before .before .before .before .before .before .pre .1) (c .before .before .before .before .before .before .set-words .ensures)
+get-highest-prio-requires t c κs = highest-given (c .before .before .before .before .before .before .before .before .before .before .before .before .before .pre .1) (c .before .before .before .before .before .before .set-words .ensures)
 
 attract-highest-requires : (t : ℕ) → lts.Need-attract-highest-requires (cs t) (called-at t) own.Post
 attract-highest-requires t c κs =
