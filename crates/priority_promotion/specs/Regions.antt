@@ -13,7 +13,7 @@ use lib.ListN.{length, getD, set, length-set}
 use lib.Seq.{getD-set-same, getD-set-other}
 use Rattle.rules.specs.Counting.{count, greatest}
 use Rattle.theory.specs.Basics.{below-suc, bool-cases, count-cong, count-le, count-pos, count-some, some-intro, false-some}
-use Rattle.theory.specs.PromotionBasics.{greatest-bounds, greatest-attained, greatest-none}
+use Rattle.theory.specs.Greatest.{greatest-bounds, greatest-some, greatest-none}
 use Rattle.attractor.specs.Tally.{flag, flag-one, flag-zero}
 
 -- the region of vertex v
@@ -235,7 +235,7 @@ module _ (n regions under : ℕ) (work : List ℕ) (given : Tallied n regions wo
       let in-set = lt-ltb (regionAt regions work v) under (omega arith) in
       let at-least = greatest-bounds n (λ u. ltb (regionAt regions work u) under) (regionAt regions work) v k in-set in
       let (u, j, below, top) =
-      greatest-attained n (λ u. ltb (regionAt regions work u) under) (regionAt regions work)
+      greatest-some n (λ u. ltb (regionAt regions work u) under) (regionAt regions work)
       (some-intro n (λ u. ltb (regionAt regions work u) under) v k in-set) in
       let at-most = none u j (ltb-true (regionAt regions work u) under below) in
       omega arith

@@ -3,32 +3,36 @@ use mathlib.Core.Bool.{Bool, true, false, _&&_, _||_, not, cond}
 use mathlib.Core.List.{List}
 use mathlib.Core.Logic.{_⊎_, inl, inr, ⊎-elim}
 use mathlib.Core.Path.{_≡_, refl, sym, ap, ap₂, subst, _∙_}
-use Prim.Native.Nat.{ℕ, zero, suc, _+_, _-_, _%_, _≤_, _<_}
-use native.Mathlib.Nat.{le-refl, le-step}
+use Prim.Native.Nat.{ℕ, _+_, _-_, _*_, _%_, _≤_, _<_}
 use native.Mathlib.Omega.{arith}
-use borrow.Author.Tests.{eqb-true, eq-eqb, ne-eqb, lt-ltb, le-ltb, ltb-true, not-true}
+use borrow.Author.Tests.{eqb-true, eq-eqb, lt-ltb, le-ltb, ltb-true, not-true}
 use lib.Dec.{eqb, ltb}
-use lib.ListN.{length, getD}
+use lib.ListN.{length, getD, take, drop, length-take}
 use Rattle.rules.specs.Counting.{Set, count, some, lowest, greatest}
 use Rattle.rules.specs.Game.{Player, Even, Odd, Game, Total, Edge, parity, same}
-use Rattle.rules.specs.Tables.{Tables, gameOf, Accepted, tablesOf}
-use Rattle.rules.specs.Words.{noEntry}
+use Rattle.rules.specs.Tables.{Tables, gameOf, words, Accepted, tablesOf}
+use Rattle.rules.specs.Words.{noEntry, setOf}
 use Rattle.rules.specs.Promotion.{Regions, unsolved, regionSet, isOpen, roundOf, afterRounds}
 use Rattle.theory.specs.Basics.{bool-cases, not-true-is-false, and-intro, and-left, and-right, lt-or-ge, some-intro, some-elim, false-some, some-cong, someOf-cong, someOf-intro, someOf-elim, same-false, false-same, lowest-none, lowest-unique, count-cong}
 use Rattle.theory.specs.Tables.{accepted-total, accepted-priority, accepted-sound}
-use Rattle.theory.specs.PromotionBasics.{noted-below, greatest-cong, atRegion, at-in}
+use Rattle.theory.specs.Greatest.{greatest-cong}
+use Rattle.theory.specs.PromotionBasics.{noted-below, atRegion, at-in}
 use Rattle.theory.specs.PromotionEntries.{RoundEntries, opened, promotes, solves, AttractedEntries}
 use Rattle.theory.specs.PromotionRounds.{attractedRegion}
 use Rattle.theory.specs.PromotionStanding.{Standing}
 use Rattle.theory.specs.PromotionBound.{after-standing}
 use Rattle.theory.specs.PromotionTable.{openAt, leadsUp, nextAbove, above-solved, region-table, attracts-table, region-read, remaining-read, open-read, some-way-read}
 use Rattle.theory.specs.PromotionTable.{table-opens, table-promotes, table-solves, promoted-entries-read, solved-entries-read}
-use Rattle.attractor.specs.Area.{entries, free, setAt}
+use Rattle.sets.specs.Laws.{length-members}
+use Rattle.attractor.specs.Area.{entries, free, setAt, wordsAt}
+use Rattle.attractor.specs.Begun.{members-count}
+use Rattle.attractor.specs.Views.{words-few}
+use Rattle.attractor.specs.Walking.{lent-part}
 use Rattle.priority_promotion.specs.Regions.{regionAt, Elsewhere, highestUnder}
 use Rattle.attractor.specs.SetsAt.{set-kept}
 use Rattle.priority_promotion.specs.Opening.{isOpenAt}
 use Rattle.priority_promotion.specs.Escapes.{Escapes, LowestAbove, Reaches}
-use Rattle.priority_promotion.specs.Layout.{heldAt, evenAt, regionsAt, tableAt, table-below, table-above, entryOf, Ready}
+use Rattle.priority_promotion.specs.Layout.{heldAt, evenAt, regionsAt, tableAt, table-below, table-above, entryOf, Ready, unsolved-small}
 use Rattle.priority_promotion.specs.Pulled.{owner-test, owner-number, number-owner}
 use Rattle.priority_promotion.specs.Query.{QueryReady, Queried}
 use Rattle.priority_promotion.specs.Promoting.{PromoteAll, PromotedAll}
@@ -44,17 +48,6 @@ pub record Shows (owners priorities offsets targets : List ℕ) (s : ℕ) (r : R
   pub won : (b : Player) (v : ℕ) → v < length owners → setAt (length owners) (wonAt (length owners) (length targets) s b) work v ≡ r .won b v
   pub bare : (b : Player) (v : ℕ) → length owners ≤ v → setAt (length owners) (wonAt (length owners) (length targets) s b) work v ≡ false
   pub left : many ≡ count (length owners) (setAt (length owners) (free (length owners) (length targets)) work)
-
--- those that pass a test and those that fail it are all
-count-both : (n : ℕ) (S S' : Set) → ((v : ℕ) → v < n → S' v ≡ not (S v)) → count n S + count n S' ≡ n
-unfolding count
-count-both zero S S' h = refl
-count-both (suc n) S S' h =
-    let before = count-both n S S' (λ v l. h v (le-step l)) in
-    ⊎-elim
-    (λ (e : S n ≡ true). rw (h n (le-refl (suc n)), e) (omega arith))
-    (λ (e : S n ≡ false). rw (h n (le-refl (suc n)), e) (omega arith))
-    (bool-cases (S n))
 
 module _ (owners priorities offsets targets : List ℕ) (ok : Accepted (tablesOf owners priorities offsets targets)) (s k current left : ℕ)
     (w0 : List ℕ)
@@ -447,28 +440,29 @@ module _ (owners priorities offsets targets : List ℕ) (ok : Accepted (tablesOf
                 let small-v = ltb-true v n in-game in
                 omega arith)
 
-            -- how many are left, by the counts
+            -- the words of the unsolved vertices, as the code has them
+            lent2 :
+                take ((free (length owners) (length targets) + s) - free (length owners) (length targets)) (drop (free (length owners) (length targets)) w2) ≡
+                wordsAt (length owners) (free (length owners) (length targets)) w2
+            lent2 = lent-part n s (free n m) w2 (c2 .ready .size)
+
+            pub left-few :
+                length (take ((free (length owners) (length targets) + s) - free (length owners) (length targets)) (drop (free (length owners) (length targets)) w2)) ≤ 64
+            left-few =
+                let few = words-few n (accepted-sound (tablesOf owners priorities offsets targets) ok .few-vertices) in
+                rw lent2 (omega (arith, length-take (words n) (drop (free n m) w2)))
+
+            -- how many are left, by their ones
             pub left-counted :
                 {many : ℕ} →
-                many ≡ length owners - getD w2 (regionsAt (length owners) (length targets) s + length owners + 256) 0 →
+                let xs = take ((free (length owners) (length targets) + s) - free (length owners) (length targets)) (drop (free (length owners) (length targets)) w2) in
+                many ≡ count (64 * length xs) (setOf xs) →
                 many ≡ count (length owners) (setAt (length owners) (free (length owners) (length targets)) w2)
-            left-counted {many} is =
-                let solved = c2 .ready .tallied .counts 256 (le-refl 256) in
-                let all = count-both n (setAt n (free n m) w2) (λ v. eqb (regionAt Rg w2 v) 256) rest in
-                omega arith
-              where
-                rest : (v : ℕ) → v < n → eqb (regionAt Rg w2 v) 256 ≡ not (setAt n (free n m) w2 v)
-                rest v l =
-                    ⊎-elim
-                    (λ (less : regionAt Rg w2 v < 256).
-                    ne-eqb (regionAt Rg w2 v) 256 (λ e. omega arith) ∙
-                    sym (ap not (c2 .ready .unsolved v ∙ and-intro (lt-ltb v n l) (lt-ltb (tableAt n m s w2 v) 256 (rw (table-below n m s w2 v l) less)))))
-                    (λ (high : 256 ≤ regionAt Rg w2 v).
-                    let most = c2 .ready .tallied .high v l in
-                    let out : setAt n (free n m) w2 v ≡ false =
-                    c2 .ready .unsolved v ∙ rw (lt-ltb v n l, le-ltb (tableAt n m s w2 v) 256 (rw (table-below n m s w2 v l) high)) in
-                    eq-eqb (regionAt Rg w2 v) 256 (omega arith) ∙ sym (ap not out))
-                    (lt-or-ge (regionAt Rg w2 v) 256)
+            left-counted is =
+                is ∙
+                ap (λ (xs : List ℕ). count (64 * length xs) (setOf xs)) lent2 ∙
+                sym (length-members (wordsAt n (free n m) w2)) ∙
+                members-count n (free n m) w2 (omega (arith, c2 .ready .tallied .room, c2 .ready .size)) (unsolved-small (c2 .ready))
 
             pub round-solves :
                 {highest many : ℕ} →

@@ -15,7 +15,8 @@ use Rattle.rules.specs.Tables.{words, workWords, gameOf, Accepted, tablesOf}
 use Rattle.rules.specs.Promotion.{unsolved, atStart, afterRounds}
 use Rattle.theory.specs.Basics.{lt-or-ge}
 use Rattle.theory.specs.Tables.{accepted-sound}
-use Rattle.theory.specs.PromotionBasics.{noted-below, greatest-cong}
+use Rattle.theory.specs.Greatest.{greatest-cong}
+use Rattle.theory.specs.PromotionBasics.{noted-below}
 use Rattle.theory.specs.PromotionEntries.{starts}
 use Rattle.attractor.specs.Area.{entries, free, setAt}
 use Rattle.attractor.specs.Attracted.{Listed}

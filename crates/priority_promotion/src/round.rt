@@ -60,7 +60,7 @@ pub fn round(
         };
     }
     solve_dominion(owners, priorities, offsets, targets, p, s, work);
-    let left = n - work[regions + n + 256] as usize;
+    let left = sets::size(&work[unsolved..unsolved + s]);
     let current = next_priority(n, work, regions, 256);
     State {
         current,

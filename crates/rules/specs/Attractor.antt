@@ -50,9 +50,9 @@ pub record Growing : Type 0 where
 unfoldable pub atFirst : Set → Growing
 atFirst T = record { members = T; taken = λ v. false; looks = 0 }
 
--- the predecessor entries of w: v once for each edge from v to w
-abbrev pub Entries : Game → ℕ → List ℕ → Type 0
-Entries g w sources = (v : ℕ) → times v sources ≡ edges g v w
+-- the sources are the predecessor entries of w: v once for each edge from v to w
+abbrev pub Sources : Game → ℕ → List ℕ → Type 0
+Sources g w sources = (v : ℕ) → times v sources ≡ edges g v w
 
 -- one step: a member not yet taken is taken, each of its predecessor entries is looked at once, those outside V included,
 -- and each vertex that those entries complete is drawn in
@@ -61,7 +61,7 @@ pub record TakesOne (g : Game) (a : Player) (V' : Set) (s t : Growing) : Type 0 
   pub member : s .members vertex ≡ true
   pub fresh : s .taken vertex ≡ false
   pub sources : List ℕ
-  pub entries : Entries g vertex sources
+  pub entries : Sources g vertex sources
   pub looks : t .looks ≡ s .looks + length sources
   pub taken : (v : ℕ) → t .taken v ≡ (s .taken v || eqb v vertex)
   pub members : (v : ℕ) → t .members v ≡ (s .members v || someOf sources (eqb v) && drawn g a V' (t .taken) v)

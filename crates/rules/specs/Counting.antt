@@ -56,11 +56,6 @@ unfoldable pub lowest : ℕ → (ℕ → Bool) → ℕ
 lowest zero test = 0
 lowest (suc n) test = cond (some n test) (lowest n test) (cond (test n) n (suc n))
 
--- the highest number below n that passes the test, or 0 where none does
-unfoldable pub highest : ℕ → (ℕ → Bool) → ℕ
-highest zero test = 0
-highest (suc n) test = cond (test n) n (highest n test)
-
 -- what f gives at 0 to n - 1, written down in order
 unfoldable pub listed : {A : Type 0} → ℕ → (ℕ → A) → List A
 listed zero f = []

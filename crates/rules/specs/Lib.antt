@@ -1,5 +1,5 @@
--- The rules, a file for each section of document 01, in its order. A reader who believes these definitions
--- can trust the rest to the prover.
+-- The rules: a file for each idea of document 01, each after those that it uses. A reader who believes these
+-- definitions can trust the rest to the prover.
 pub mod Counting
 pub mod Outcome
 pub mod Game

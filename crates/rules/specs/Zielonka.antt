@@ -19,7 +19,7 @@ pub record Solved : Type 0 where
   pub won : Player → Set
   pub calls : ℕ
 
--- a wins S and its opponent the rest
+-- a wins S and its opponent T
 abbrev pub wonBy : Player → Set → Set → Player → Set
 wonBy Even S T Even = S
 wonBy Even S T Odd = T

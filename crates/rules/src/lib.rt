@@ -1,2 +1,2 @@
-// The rules: what documents 01 and 02 say, as definitions a reader can hold against their sentences. There is no code
-// here and no proof; specs/ has a short file for each section.
+// The rules: what document 01 says, as definitions a reader can hold against its sentences. There is no code here and
+// no proof; specs/ has a short file for each idea.

@@ -11,7 +11,7 @@ use lib.Dec.{eqb}
 use lib.ListN.{length}
 use Rattle.rules.specs.Counting.{Set}
 use Rattle.rules.specs.Game.{Game, Edge, edges, Total}
-use Rattle.rules.specs.Attractor.{Entries, indegree, looksOf}
+use Rattle.rules.specs.Attractor.{Sources, indegree, looksOf}
 use Rattle.theory.specs.Basics.{bool-cases, lt-or-ge, times-pos, times-member, times-none}
 use Rattle.theory.specs.AttractorBasics.{sum, sum-cong, sum-zero, sum-swap, sum-change, sum-length, sum-times, countOf}
 use Rattle.theory.specs.AttractorBasics.{gathered, gathered-past, times-gathered}
@@ -31,11 +31,11 @@ unfolding looksOf
 looksOf-sum g S = sum-elim (g .size) (λ w. cond (S w) (indegree g w) 0)
 
 -- the predecessor entries of w are the vertices with an edge to w
-pub source-edge : (g : Game) (v w : ℕ) (sources : List ℕ) → Entries g w sources → List·Memᴰ v sources → Edge g v w
+pub source-edge : (g : Game) (v w : ℕ) (sources : List ℕ) → Sources g w sources → List·Memᴰ v sources → Edge g v w
 unfolding edges
 source-edge g v w sources entries m = times-member w (g .targets v) (rw (entries v) at (times-pos v sources m))
 
-pub edge-source : (g : Game) (v w : ℕ) (sources : List ℕ) → Entries g w sources → Edge g v w → List·Memᴰ v sources
+pub edge-source : (g : Game) (v w : ℕ) (sources : List ℕ) → Sources g w sources → Edge g v w → List·Memᴰ v sources
 unfolding edges
 edge-source g v w sources entries e = times-member v sources (rw (entries v) (times-pos w (g .targets v) e))
 
@@ -44,7 +44,7 @@ pub entries-length :
     (g : Game) →
     ((v w : ℕ) → Edge g v w → v < g .size) →
     (w : ℕ) (sources : List ℕ) →
-    Entries g w sources →
+    Sources g w sources →
     length sources ≡ indegree g w
 entries-length g starts w sources entries =
     sym (sum-length (g .size) sources (λ v m. starts v w (source-edge g v w sources entries m))) ∙
@@ -93,7 +93,7 @@ looks-more g S S' x l new adds =
 abbrev pub sourcesOf : Game → ℕ → List ℕ
 sourcesOf g w = gathered (g .size) (λ v. edges g v w)
 
-pub sourcesOf-entries : (g : Game) → ((v w : ℕ) → Edge g v w → v < g .size) → (w : ℕ) → Entries g w (sourcesOf g w)
+pub sourcesOf-entries : (g : Game) → ((v w : ℕ) → Edge g v w → v < g .size) → (w : ℕ) → Sources g w (sourcesOf g w)
 unfolding edges
 sourcesOf-entries g starts w v =
     ⊎-elim

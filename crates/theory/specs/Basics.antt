@@ -1,5 +1,5 @@
 -- Laws of the plain words of the rules, each once: tests and players, some, every and count below n, some, every and times in a
--- list, lowest and highest, a set worked out once, and the pigeonhole.
+-- list, lowest, a set worked out once, and the pigeonhole.
 use mathlib.Core.Bool.{Bool, true, false, _&&_, _||_, not, cond, true≢false, and-true}
 use mathlib.Core.List.{List, [], _∷_, List·Memᴰ, List·Memᴰ·head, List·Memᴰ·tail, Memᴰ·cast}
 use mathlib.Core.Logic.{_⊎_, inl, inr, ⊎-elim}
@@ -11,7 +11,7 @@ use native.Mathlib.Omega.{arith}
 use borrow.Author.Tests.{eqb-true, eqb-false, eq-eqb, ltb-true, ltb-false, not-true}
 use lib.Dec.{eqb, ltb}
 use lib.ListN.{getD, length, List·getD-eq-default}
-use Rattle.rules.specs.Counting.{Set, some, every, count, someOf, everyOf, times, lowest, highest, listed, within, without, union}
+use Rattle.rules.specs.Counting.{Set, some, every, count, someOf, everyOf, times, lowest, listed, within, without, union}
 use Rattle.rules.specs.Game.{Player, Even, Odd, opponent, same}
 
 -- a test is true or false, with its equation
@@ -422,7 +422,7 @@ times-member x (y ∷ ys) h =
 pub times-none : (x : ℕ) (xs : List ℕ) → (List·Memᴰ x xs → ⊥) → times x xs ≡ 0
 times-none x xs n = ⊎-elim (λ z. z) (λ h. absurd (n (times-member x xs h))) (eq-zero-or-pos (times x xs))
 
--- the lowest number below n that passes, and the highest
+-- the lowest number below n that passes
 
 -- k is a number below n that passes, and none below it does
 pub record IsLowest (n : ℕ) (test : Set) (k : ℕ) : Type 0 where
@@ -472,55 +472,18 @@ lowest-unique n test k low =
     (le-of-not-lt (λ less. clash (low .passes) (found .first k less)))
     (le-of-not-lt (λ less. clash (found .passes) (low .first (lowest n test) less)))
 
--- k is a number below n that passes, and none above it does
-pub record IsHighest (n : ℕ) (test : Set) (k : ℕ) : Type 0 where
-  pub below : k < n
-  pub passes : test k ≡ true
-  pub last : (v : ℕ) → v < n → test v ≡ true → v ≤ k
+-- what is written down: sets, numbers
 
--- where some number passes, highest gives the highest that does
-pub highest-found : (n : ℕ) (test : Set) → some n test ≡ true → IsHighest n test (highest n test)
-unfolding highest some
-highest-found zero test p = absurd (true≢false (sym p))
-highest-found (suc n) test p =
-    ⊎-elim
-    (λ r. rw r (record { below = le-refl (suc n); passes = r; last = λ v l t. le-of-suc-le-suc l }))
-    (λ r.
-    let old =
-    highest-found n test (⊎-elim (λ q. q) (λ q. absurd (clash q r)) (or-cases (some n test) (test n) p)) in
-    rw r
-    (record {
-      below = le-step (old .below);
-      passes = old .passes;
-      last = λ v l t. ⊎-elim (λ e. absurd (clash t (ap test e ∙ r))) (λ k. old .last v k t) (below-suc l);
-    }))
-    (bool-cases (test n))
-
-pub highest-none : (n : ℕ) (test : Set) → some n test ≡ false → highest n test ≡ 0
-unfolding highest some
-highest-none zero test p = refl
-highest-none (suc n) test p = let (q, r) = or-false-both (some n test) (test n) p in rw r (highest-none n test q)
-
--- there is one highest number
-pub highest-unique : (n : ℕ) (test : Set) (k : ℕ) → IsHighest n test k → highest n test ≡ k
-highest-unique n test k high =
-    let found = highest-found n test (some-intro n test k (high .below) (high .passes)) in
-    le-antisymm
-    (high .last (highest n test) (found .below) (found .passes))
-    (found .last k (high .below) (high .passes))
-
--- sets written down
-
-pub length-listed : (n : ℕ) (S : Set) → length (listed n S) ≡ n
+pub length-listed : {A : Type 0} (n : ℕ) (f : ℕ → A) → length (listed n f) ≡ n
 unfolding listed
-length-listed zero S = refl
-length-listed (suc n) S = ap suc (length-listed n (λ k. S (suc k)))
+length-listed zero f = refl
+length-listed (suc n) f = ap suc (length-listed n (λ k. f (suc k)))
 
-pub getD-listed : (n : ℕ) (S : Set) (v : ℕ) (d : Bool) → v < n → getD (listed n S) v d ≡ S v
+pub getD-listed : {A : Type 0} (n : ℕ) (f : ℕ → A) (v : ℕ) (d : A) → v < n → getD (listed n f) v d ≡ f v
 unfolding listed
-getD-listed zero S v d l = absurd (not-suc-le-zero l)
-getD-listed (suc n) S zero d l = refl
-getD-listed (suc n) S (suc v) d l = getD-listed n (λ k. S (suc k)) v d (le-of-suc-le-suc l)
+getD-listed zero f v d l = absurd (not-suc-le-zero l)
+getD-listed (suc n) f zero d l = refl
+getD-listed (suc n) f (suc v) d l = getD-listed n (λ k. f (suc k)) v d (le-of-suc-le-suc l)
 
 -- a set worked out below n is the set below n, and has no member at n or above
 pub within-below : (n : ℕ) (S : Set) (v : ℕ) → v < n → within n S v ≡ S v

@@ -1,13 +1,13 @@
 -- Laws of the greatest number that a function gives to a member of a set.
 use mathlib.Core.Bool.{true, false}
 use mathlib.Core.Logic.{_⊎_, inl, inr, ⊎-elim}
-use mathlib.Core.Path.{_≡_, sym, ap, _∙_}
+use mathlib.Core.Path.{_≡_, refl, sym, ap, _∙_}
 use Prim.Native.Nat.{ℕ, zero, suc, _≤_, _<_, zero-le}
 use native.Mathlib.Nat.{le-refl, le-trans, le-step, lt-irrefl, not-suc-le-zero, eq-zero-or-pos}
 use native.Mathlib.Nat.{le-max-left, le-max-right, max-le, max-zero, max-eq-left, max-eq-right}
 use native.Mathlib.Omega.{arith}
-use Rattle.rules.specs.Counting.{Set, greatest}
-use Rattle.theory.specs.Basics.{bool-cases, below-suc, le-or-ge}
+use Rattle.rules.specs.Counting.{Set, some, greatest}
+use Rattle.theory.specs.Basics.{bool-cases, or-false-both, below-suc, le-or-ge, some-elim}
 
 -- the greatest number that f gives to a member of S below n is not exceeded
 pub greatest-bounds : (n : ℕ) (S : Set) (f : ℕ → ℕ) (v : ℕ) → v < n → S v ≡ true → f v ≤ greatest n S f
@@ -60,3 +60,27 @@ greatest-attained n S f v l p =
     (λ z. let most = greatest-bounds n S f v l p in (v, l, p, omega arith))
     (greatest-from n S f)
     (eq-zero-or-pos (greatest n S f))
+
+pub greatest-some : (n : ℕ) (S : Set) (f : ℕ → ℕ) → some n S ≡ true → Given n S f (greatest n S f)
+greatest-some n S f p = let (v, l, q) = some-elim n S p in greatest-attained n S f v l q
+
+-- and 0 where there is none
+pub greatest-none : (n : ℕ) (S : Set) (f : ℕ → ℕ) → some n S ≡ false → greatest n S f ≡ 0
+unfolding greatest some
+greatest-none zero S f p = refl
+greatest-none (suc n) S f p = let (q, r) = or-false-both (some n S) (S n) p in rw (r, greatest-none n S f q)
+
+-- equal sets and equal numbers have the same greatest
+pub greatest-cong :
+    (n : ℕ) (S T : Set) (f h : ℕ → ℕ) →
+    ((v : ℕ) → v < n → S v ≡ T v) →
+    ((v : ℕ) → v < n → f v ≡ h v) →
+    greatest n S f ≡ greatest n T h
+unfolding greatest
+greatest-cong zero S T f h agree equal = refl
+greatest-cong (suc n) S T f h agree equal =
+    rw (
+      greatest-cong n S T f h (λ v l. agree v (le-step l)) (λ v l. equal v (le-step l)),
+      agree n (le-refl (suc n)),
+      equal n (le-refl (suc n)),
+    )

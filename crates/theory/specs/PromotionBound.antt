@@ -15,7 +15,8 @@ use Rattle.rules.specs.Budget.{differentPriorities}
 use Rattle.rules.specs.Promotion.{Regions, solvedRegion, unsolved, atStart, regionSet, isOpen, wayOut, roundOf, afterRounds, allSolved, roundsNeeded}
 use Rattle.theory.specs.Basics.{bool-cases, clash, and-intro, and-left, and-right, not-true-is-false, lt-or-ge, some-intro, some-elim, count-le}
 use Rattle.theory.specs.Basics.{count-mono, count-strict, count-none, count-pos, without-left, without-right, lowest-found}
-use Rattle.theory.specs.PromotionBasics.{noted-below, greatest-bounds, atRegion, at-intro, at-in, at-is, at-out}
+use Rattle.theory.specs.Greatest.{greatest-bounds}
+use Rattle.theory.specs.PromotionBasics.{noted-below, atRegion, at-intro, at-in, at-is, at-out}
 use Rattle.theory.specs.PromotionEntries.{remaining, promotedTo, dominionSet}
 use Rattle.theory.specs.PromotionRegions.{Placed, Promotes, Moved, lifted, reset, stayed, stays-upper, goes-up}
 use Rattle.theory.specs.PromotionMeasure.{value, Digits, value-bound, value-rises}

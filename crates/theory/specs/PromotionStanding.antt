@@ -13,7 +13,8 @@ use Rattle.rules.specs.Game.{parity, Game, Edge, Total, same}
 use Rattle.rules.specs.Promotion.{Regions, solvedRegion, unsolved, highestRegion, atStart, regionSet, isOpen, wayOut, roundOf}
 use Rattle.theory.specs.Basics.{bool-cases, clash, and-intro, and-left, and-right, some-intro, some-elim, lt-or-ge, le-of-not-lt, someOf-false}
 use Rattle.theory.specs.AttractorComplement.{TotalIn, rest-total}
-use Rattle.theory.specs.PromotionBasics.{noted-below, greatest-bounds, greatest-attained, at-intro, up-in, up-le}
+use Rattle.theory.specs.Greatest.{greatest-bounds, greatest-some}
+use Rattle.theory.specs.PromotionBasics.{noted-below, at-intro, up-in, up-le}
 use Rattle.theory.specs.PromotionEntries.{mover, remaining, promotedTo, dominionSet}
 use Rattle.theory.specs.PromotionRegions.{Placed, SettledAt, below-total, promoted-player, placed-afresh, placed-attracted, attracted-settled}
 use Rattle.theory.specs.PromotionRegions.{placed-lower, Promotes, Moved, lifted, reset, stayed, placed-promoted, gained-is}
@@ -157,7 +158,7 @@ module _ (g : Game) (s : Regions) where
     module _ (small : s .current < solvedRegion) (opens : isOpen g s (regionSet g s) ≡ true) where
       pub lowered-vertex : (u : ℕ) × (remaining g s u ≡ true) × (attractedRegion g s u ≡ loweredTo g s) × (attractedRegion g s u < s .current)
       lowered-vertex =
-          let (u, l, t, e) = greatest-attained (g .size) (lowerVertices g s) (attractedRegion g s) (open-goes-down small placed opens) in (
+          let (u, l, t, e) = greatest-some (g .size) (lowerVertices g s) (attractedRegion g s) (open-goes-down small placed opens) in (
             u,
             attracted-unsolved g s small u ∙ and-left (unsolved g (attractedRegion g s) u) _ t,
             e,

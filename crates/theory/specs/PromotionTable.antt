@@ -19,7 +19,8 @@ use Rattle.theory.specs.Basics.{someOf-intro, someOf-elim, false-same, s
 use Rattle.theory.specs.Basics.{and-right, some-cong, someOf-cong, not-true-is-false}
 use Rattle.theory.specs.AttractorRank.{Certificate, certificate-is}
 use Rattle.theory.specs.Attractor.{attractor-unique, attractor-is, attractor-same}
-use Rattle.theory.specs.PromotionBasics.{lowest-cong, greatest-cong, noted-below, noted-above, atRegion, upTo, at-intro, at-in, at-is}
+use Rattle.theory.specs.Greatest.{greatest-cong}
+use Rattle.theory.specs.PromotionBasics.{lowest-cong, noted-below, noted-above, atRegion, upTo, at-intro, at-in, at-is}
 use Rattle.theory.specs.PromotionEntries.{mover, remaining, promotedTo, dominionSet, Attracts, AttractedEntries, PromotedEntries, SolvedEntries}
 use Rattle.theory.specs.PromotionTests.{unsolved-below, unsolved-intro, region-in, region-out, region-certificate, way-intro, way-elim}
 use Rattle.theory.specs.PromotionTests.{promoted-small, wayAt}

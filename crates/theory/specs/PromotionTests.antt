@@ -16,7 +16,8 @@ use Rattle.theory.specs.Basics.{bool-cases, clash, and-intro, and-left, 
 use Rattle.theory.specs.Basics.{false-same, some-intro, some-elim, some-false, lt-or-ge, someOf-intro, someOf-elim, IsLowest, lowest-found}
 use Rattle.theory.specs.Attractor.{Fits}
 use Rattle.theory.specs.AttractorRank.{Certificate, attractor-certificate}
-use Rattle.theory.specs.PromotionBasics.{greatest-bounds, greatest-attained, greatest-none, atRegion, upTo, at-intro, at-in, at-is, up-intro}
+use Rattle.theory.specs.Greatest.{greatest-bounds, greatest-some, greatest-none}
+use Rattle.theory.specs.PromotionBasics.{atRegion, upTo, at-intro, at-in, at-is, up-intro}
 use Rattle.theory.specs.PromotionBasics.{up-in, up-le}
 use Rattle.theory.specs.PromotionEntries.{mover, remaining, promotedTo, dominionSet}
 
@@ -36,7 +37,7 @@ module _ (g : Game) (r : ℕ → ℕ) where
   pub highest-present : (v : ℕ) → unsolved g r v ≡ true → (u : ℕ) × (unsolved g r u ≡ true) × (r u ≡ highestRegion g r)
   highest-present v i =
       let (u, l, j, e) =
-      greatest-attained (g .size) (unsolved g r) r (some-intro (g .size) (unsolved g r) v (unsolved-below g r v i) i) in
+      greatest-some (g .size) (unsolved g r) r (some-intro (g .size) (unsolved g r) v (unsolved-below g r v i) i) in
       (u, j, e)
 
   pub highest-top : (v : ℕ) → unsolved g r v ≡ true → r v ≤ highestRegion g r
@@ -46,7 +47,7 @@ module _ (g : Game) (r : ℕ → ℕ) where
   highest-small =
       ⊎-elim
       (λ p.
-      let (u, l, j, e) = greatest-attained (g .size) (unsolved g r) r p in rw (← e) (unsolved-region g r u j))
+      let (u, l, j, e) = greatest-some (g .size) (unsolved g r) r p in rw (← e) (unsolved-region g r u j))
       (λ p. rw (greatest-none (g .size) (unsolved g r) r p) (omega arith))
       (bool-cases (some (g .size) (unsolved g r)))
 

@@ -5,13 +5,11 @@ use mathlib.Core.Bool.{true, false, _&&_, not, cond}
 use mathlib.Core.List.{Memᴰ·cast}
 use mathlib.Core.Logic.{⊎-elim}
 use mathlib.Core.Path.{_≡_, refl, sym, ap, _∙_}
-use Prim.Native.Nat.{ℕ, zero, suc, _≤_, _<_, suc-le-suc}
-use native.Mathlib.Nat.{le-trans, le-max-left, le-max-right}
-use native.Mathlib.Omega.{arith}
+use Prim.Native.Nat.{ℕ, suc, _≤_, _<_, suc-le-suc}
 use borrow.Author.Tests.{eqb-true, eqb-false, eq-eqb, ltb-true, lt-ltb, leb-true, le-leb, not-false}
 use lib.Dec.{eqb, ltb, leb}
 use lib.ListN.{getD}
-use Rattle.rules.specs.Counting.{Set, some, someOf, within, without, greatest}
+use Rattle.rules.specs.Counting.{Set, some, someOf, within, without}
 use Rattle.rules.specs.Game.{Player, opponent, Game, everywhere, Edge, Total, parity, same, playerOf}
 use Rattle.rules.specs.Outcome.{none}
 use Rattle.rules.specs.Tables.{Tables, vertices, gameOf}
@@ -19,8 +17,9 @@ use Rattle.rules.specs.Winning.{Cycle, Reach, here, Step, Wins, WinningSets}
 use Rattle.rules.specs.Zielonka.{highestIn}
 use Rattle.rules.specs.Solitaire.{inside, reached, atMost, onPart, solitaire, check11}
 use Rattle.theory.specs.Basics.{bool-cases, clash, bool-ext, not-true-is-false, and-intro, and-left, and-right}
-use Rattle.theory.specs.Basics.{some-intro, some-elim, some-false, someOf-intro, someOf-elim, below-suc, within-below, within-member}
+use Rattle.theory.specs.Basics.{some-intro, some-elim, some-false, someOf-intro, someOf-elim, within-below, within-member}
 use Rattle.theory.specs.Basics.{same-true, true-same, player-cases, opponent-is-other}
+use Rattle.theory.specs.Greatest.{greatest-bounds}
 use Rattle.theory.specs.Walks.{Among, reach-append, reach-map, walk-map, walk-among, reach-walk, hits}
 use Rattle.theory.specs.Walks.{leaves-start, highest-bounds, highest-is, highest-le, no-falling-cycle}
 use Rattle.theory.specs.Orbit.{comes-back}
@@ -37,16 +36,6 @@ edge-test g v w e = someOf-intro (g .targets v) (eqb w) w e (eq-eqb w w refl)
 pub test-edge : (g : Game) (v w : ℕ) → someOf (g .targets v) (eqb w) ≡ true → Edge g v w
 test-edge g v w p =
     let (u, m, e) = someOf-elim (g .targets v) (eqb w) p in Memᴰ·cast (eqb-true w u e) m
-
--- what f gives to a member of S is at most the greatest
-pub le-greatest : (n : ℕ) (S : Set) (f : ℕ → ℕ) (v : ℕ) → v < n → S v ≡ true → f v ≤ greatest n S f
-unfolding greatest
-le-greatest zero S f v l p = absurd (omega arith)
-le-greatest (suc n) S f v l p =
-    ⊎-elim
-    (λ e. let q : S n ≡ true = ap S (sym e) ∙ p in rw (e, q) (le-max-right (greatest n S f) (f n)))
-    (λ k. le-trans (le-greatest n S f v k p) (le-max-left (greatest n S f) _))
-    (below-suc l)
 
 -- the vertices in a good part for some priority of a's parity
 unfoldable pub partsFor : Game → Player → Set
@@ -68,7 +57,7 @@ module _ (g : Game) where
 
   -- no vertex has a priority above the highest of the game
   pub priority-le-highest : (v : ℕ) → v < g .size → g .priority v ≤ highestIn g (everywhere g)
-  priority-le-highest v l = le-greatest (g .size) (everywhere g) (g .priority) v l (lt-ltb v (g .size) l)
+  priority-le-highest v l = greatest-bounds (g .size) (everywhere g) (g .priority) v l (lt-ltb v (g .size) l)
 
   -- among vertices of priority at most p
   pub at-most-elim : (p v : ℕ) → atMost g p v ≡ true → (v < g .size) × (g .priority v ≤ p)

@@ -12,12 +12,6 @@ use native.Mathlib.Omega.{arith}
 use borrow.Author.Needs.{needs}
 use Rattle.checker.proofs.certify.Statement.{statement}
 use Rattle.checker.proofs.certify.Tie as tie
-use Rattle.checker.proofs.certify.Reads as reads
-use Rattle.checker.proofs.certify.Lts as lts
-use Rattle.checker.proofs.cycles.check_cycles.Reads as check-cycles-reads
-use Rattle.checker.proofs.sides.check_entries.Reads as check-entries-reads
-use Rattle.checker.proofs.sides.check_partition.Reads as check-partition-reads
-use Rattle.checker.proofs.sides.check_sides.Reads as check-sides-reads
 
 abbrev tables : tie.Start → Tables
 tables s = tablesOf (s .args .owners .now) (s .args .priorities .now) (s .args .offsets .now) (s .args .targets .now)

@@ -14,11 +14,6 @@ use native.Mathlib.Omega.{arith}
 use borrow.Author.Needs.{needs}
 use Rattle.checker.proofs.check.Statement.{statement}
 use Rattle.checker.proofs.check.Tie as tie
-use Rattle.checker.proofs.check.Reads as reads
-use Rattle.checker.proofs.check.Lts as lts
-use Rattle.checker.proofs.certify.Reads as certify-reads
-use Rattle.parity_game.proofs.work_words.Reads as work-words-reads
-use Rattle.parts.proofs.clear.Reads as clear-reads
 
 abbrev tables : tie.Start → Tables
 tables s = tablesOf (s .args .owners .now) (s .args .priorities .now) (s .args .offsets .now) (s .args .targets .now)

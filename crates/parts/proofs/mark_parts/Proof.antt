@@ -5,13 +5,6 @@ use native.Mathlib.Omega.{arith}
 use borrow.Author.Needs.{needs}
 use Rattle.parts.proofs.mark_parts.Statement.{statement}
 use Rattle.parts.proofs.mark_parts.Tie as tie
-use Rattle.parts.proofs.mark_parts.Reads as reads
-use Rattle.parts.proofs.mark_parts.Lts as lts
-use Rattle.parts.proofs.collect.clear.Reads as clear-reads
-use Rattle.parts.proofs.collect.collect.Reads as collect-reads
-use Rattle.parts.proofs.collect.note.Reads as note-reads
-use Rattle.parts.proofs.first.first_pass.Reads as first-pass-reads
-use Rattle.parts.proofs.second.second_pass.Reads as second-pass-reads
 
 abbrev graph-of : tie.Start → Graph
 graph-of s = graph (s .args .priorities .now) (s .args .offsets .now) (s .args .targets .now) (s .args .entries .now) (s .args .p)

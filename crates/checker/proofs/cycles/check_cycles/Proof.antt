@@ -6,10 +6,6 @@ use native.Mathlib.Omega.{arith}
 use borrow.Author.Needs.{needs}
 use Rattle.checker.proofs.cycles.check_cycles.Statement.{statement}
 use Rattle.checker.proofs.cycles.check_cycles.Tie as tie
-use Rattle.checker.proofs.cycles.check_cycles.Reads as reads
-use Rattle.checker.proofs.cycles.check_cycles.Lts as lts
-use Rattle.checker.proofs.cycles.find_losing.Reads as find-losing-reads
-use Rattle.checker.proofs.cycles.mark_cycles.Reads as mark-cycles-reads
 
 abbrev tables : tie.Start → Tables
 tables s = tablesOf (s .args .owners .now) (s .args .priorities .now) (s .args .offsets .now) (s .args .targets .now)

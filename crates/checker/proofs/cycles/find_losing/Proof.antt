@@ -9,9 +9,6 @@ use native.Mathlib.Omega.{arith}
 use borrow.Author.Needs.{needs}
 use Rattle.checker.proofs.cycles.find_losing.Statement.{statement}
 use Rattle.checker.proofs.cycles.find_losing.Tie as tie
-use Rattle.checker.proofs.cycles.find_losing.Reads as reads
-use Rattle.checker.proofs.cycles.find_losing.Lts as lts
-use Rattle.checker.proofs.cycles.is_losing.Reads as is-losing-reads
 
 abbrev Inv-loop : tie.InvT-loop
 Inv-loop even work rows n v₀ v =

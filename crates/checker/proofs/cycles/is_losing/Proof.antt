@@ -5,9 +5,6 @@ use native.Mathlib.Omega.{arith}
 use borrow.Author.Needs.{needs}
 use Rattle.checker.proofs.cycles.is_losing.Statement.{statement}
 use Rattle.checker.proofs.cycles.is_losing.Tie as tie
-use Rattle.checker.proofs.cycles.is_losing.Reads as reads
-use Rattle.checker.proofs.cycles.is_losing.Lts as lts
-use Rattle.sets.proofs.contains.Reads as contains-reads
 
 contains-requires : tie.Need-contains-requires
 contains-requires c κs = search needs

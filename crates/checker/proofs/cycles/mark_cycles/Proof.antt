@@ -4,11 +4,6 @@ use native.Mathlib.Omega.{arith}
 use borrow.Author.Needs.{needs}
 use Rattle.checker.proofs.cycles.mark_cycles.Statement.{statement}
 use Rattle.checker.proofs.cycles.mark_cycles.Tie as tie
-use Rattle.checker.proofs.cycles.mark_cycles.Reads as reads
-use Rattle.checker.proofs.cycles.mark_cycles.Lts as lts
-use Rattle.parts.proofs.clear.Reads as clear-reads
-use Rattle.parts.proofs.mark_parity.Reads as mark-parity-reads
-use Rattle.predecessors.proofs.build.Reads as build-reads
 
 add-rows : tie.Need-add-rows
 add-rows c = search needs

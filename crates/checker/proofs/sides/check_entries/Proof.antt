@@ -14,9 +14,6 @@ use native.Mathlib.Omega.{arith}
 use borrow.Author.Needs.{needs}
 use Rattle.checker.proofs.sides.check_entries.Statement.{statement}
 use Rattle.checker.proofs.sides.check_entries.Tie as tie
-use Rattle.checker.proofs.sides.check_entries.Reads as reads
-use Rattle.checker.proofs.sides.check_entries.Lts as lts
-use Rattle.checker.proofs.sides.is_own.Reads as is-own-reads
 
 abbrev Inv-loop : tie.InvT-loop
 Inv-loop owners offsets targets even strategy v₀ e₀ v-end e-end v e =

@@ -9,9 +9,6 @@ use native.Mathlib.Omega.{arith}
 use borrow.Author.Needs.{needs}
 use Rattle.checker.proofs.sides.check_partition.Statement.{statement}
 use Rattle.checker.proofs.sides.check_partition.Tie as tie
-use Rattle.checker.proofs.sides.check_partition.Reads as reads
-use Rattle.checker.proofs.sides.check_partition.Lts as lts
-use Rattle.checker.proofs.sides.is_stray.Reads as is-stray-reads
 
 abbrev Inv-loop : tie.InvT-loop
 Inv-loop n even odd b₀ b-end b =

@@ -13,10 +13,6 @@ use native.Mathlib.Omega.{arith}
 use borrow.Author.Needs.{needs}
 use Rattle.checker.proofs.sides.check_sides.Statement.{statement}
 use Rattle.checker.proofs.sides.check_sides.Tie as tie
-use Rattle.checker.proofs.sides.check_sides.Reads as reads
-use Rattle.checker.proofs.sides.check_sides.Lts as lts
-use Rattle.checker.proofs.sides.is_own.Reads as is-own-reads
-use Rattle.checker.proofs.sides.stays.Reads as stays-reads
 
 abbrev Inv-loop : tie.InvT-loop
 Inv-loop owners offsets targets even strategy v e₀ v-end e-end e =

@@ -5,9 +5,6 @@ use native.Mathlib.Omega.{arith}
 use borrow.Author.Needs.{needs}
 use Rattle.checker.proofs.sides.is_own.Statement.{statement}
 use Rattle.checker.proofs.sides.is_own.Tie as tie
-use Rattle.checker.proofs.sides.is_own.Reads as reads
-use Rattle.checker.proofs.sides.is_own.Lts as lts
-use Rattle.sets.proofs.contains.Reads as contains-reads
 
 contains-requires : tie.Need-contains-requires
 contains-requires c κs = search needs

@@ -6,9 +6,6 @@ use native.Mathlib.Omega.{arith}
 use borrow.Author.Needs.{needs}
 use Rattle.checker.proofs.sides.stays.Statement.{statement}
 use Rattle.checker.proofs.sides.stays.Tie as tie
-use Rattle.checker.proofs.sides.stays.Reads as reads
-use Rattle.checker.proofs.sides.stays.Lts as lts
-use Rattle.sets.proofs.contains.Reads as contains-reads
 
 contains-requires : tie.Need-contains-requires
 contains-requires c κs = search needs

@@ -10,9 +10,6 @@ use native.Mathlib.Omega.{arith}
 use borrow.Author.Needs.{needs}
 use Rattle.parts.proofs.collect.collect.Statement.{statement}
 use Rattle.parts.proofs.collect.collect.Tie as tie
-use Rattle.parts.proofs.collect.collect.Reads as reads
-use Rattle.parts.proofs.collect.collect.Lts as lts
-use Rattle.parts.proofs.collect.is_good.Reads as is-good-reads
 
 abbrev Inv-loop : tie.InvT-loop
 Inv-loop priorities offsets targets entries p work₀ base v₀ v-end work v =

@@ -10,9 +10,6 @@ use native.Mathlib.Omega.{arith}
 use borrow.Author.Needs.{needs}
 use Rattle.parts.proofs.collect.has_loop.Statement.{statement}
 use Rattle.parts.proofs.collect.has_loop.Tie as tie
-use Rattle.parts.proofs.collect.has_loop.Reads as reads
-use Rattle.parts.proofs.collect.has_loop.Lts as lts
-use Rattle.parts.proofs.links.keeps.Reads as keeps-reads
 
 abbrev Inv-loop : tie.InvT-loop
 Inv-loop priorities offsets targets entries p v e₀ e-end e =

@@ -7,9 +7,6 @@ use native.Mathlib.Omega.{arith}
 use borrow.Author.Needs.{needs}
 use Rattle.parts.proofs.collect.is_good.Statement.{statement}
 use Rattle.parts.proofs.collect.is_good.Tie as tie
-use Rattle.parts.proofs.collect.is_good.Reads as reads
-use Rattle.parts.proofs.collect.is_good.Lts as lts
-use Rattle.parts.proofs.collect.has_loop.Reads as has-loop-reads
 
 abbrev graph-of : tie.Start → Graph
 graph-of s = graph (s .args .priorities .now) (s .args .offsets .now) (s .args .targets .now) (s .args .entries .now) (s .args .p)

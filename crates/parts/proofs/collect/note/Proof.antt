@@ -9,9 +9,6 @@ use native.Mathlib.Omega.{arith}
 use borrow.Author.Needs.{needs}
 use Rattle.parts.proofs.collect.note.Statement.{statement}
 use Rattle.parts.proofs.collect.note.Tie as tie
-use Rattle.parts.proofs.collect.note.Reads as reads
-use Rattle.parts.proofs.collect.note.Lts as lts
-use Rattle.parts.proofs.collect.tells.Reads as tells-reads
 
 abbrev Inv-loop : tie.InvT-loop
 Inv-loop priorities m p work₀ row two n labels u₀ work u =

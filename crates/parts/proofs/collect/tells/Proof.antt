@@ -5,8 +5,6 @@ use native.Mathlib.Omega.{arith}
 use borrow.Author.Needs.{needs}
 use Rattle.parts.proofs.collect.tells.Statement.{statement}
 use Rattle.parts.proofs.collect.tells.Tie as tie
-use Rattle.parts.proofs.collect.tells.Reads as reads
-use Rattle.parts.proofs.collect.tells.Lts as lts
 
 returns : tie.Need-returns
 returns c =

@@ -7,10 +7,6 @@ use native.Mathlib.Omega.{arith}
 use borrow.Author.Needs.{needs}
 use Rattle.parts.proofs.first.advance.Statement.{statement}
 use Rattle.parts.proofs.first.advance.Tie as tie
-use Rattle.parts.proofs.first.advance.Reads as reads
-use Rattle.parts.proofs.first.advance.Lts as lts
-use Rattle.parts.proofs.first.next_edge.Reads as next-edge-reads
-use Rattle.parts.proofs.first.push.Reads as push-reads
 
 abbrev graph-of : tie.Start → Graph
 graph-of s = graph (s .args .priorities .now) (s .args .offsets .now) (s .args .targets .now) (s .args .entries .now) (s .args .p)

@@ -9,10 +9,6 @@ use native.Mathlib.Omega.{arith}
 use borrow.Author.Needs.{needs}
 use Rattle.parts.proofs.first.first_pass.Statement.{statement}
 use Rattle.parts.proofs.first.first_pass.Tie as tie
-use Rattle.parts.proofs.first.first_pass.Reads as reads
-use Rattle.parts.proofs.first.first_pass.Lts as lts
-use Rattle.parts.proofs.first.search_from.Reads as search-from-reads
-use Rattle.parts.proofs.links.is_fresh.Reads as is-fresh-reads
 
 abbrev Inv-loop : tie.InvT-loop
 Inv-loop priorities offsets targets entries p work₀ marks done₀ r₀ r-end work done r =

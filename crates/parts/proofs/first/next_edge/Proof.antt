@@ -7,9 +7,6 @@ use native.Mathlib.Omega.{arith}
 use borrow.Author.Needs.{needs}
 use Rattle.parts.proofs.first.next_edge.Statement.{statement}
 use Rattle.parts.proofs.first.next_edge.Tie as tie
-use Rattle.parts.proofs.first.next_edge.Reads as reads
-use Rattle.parts.proofs.first.next_edge.Lts as lts
-use Rattle.parts.proofs.links.opens.Reads as opens-reads
 
 abbrev Inv-loop : tie.InvT-loop
 Inv-loop priorities offsets targets entries p work t from marks end e₀ e =

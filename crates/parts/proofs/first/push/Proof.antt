@@ -4,8 +4,6 @@ use lib.ListN.{length-set}
 use borrow.Author.Needs.{needs}
 use Rattle.parts.proofs.first.push.Statement.{statement}
 use Rattle.parts.proofs.first.push.Tie as tie
-use Rattle.parts.proofs.first.push.Reads as reads
-use Rattle.parts.proofs.first.push.Lts as lts
 
 mul-work : tie.Need-mul-work
 mul-work c = search needs

@@ -7,10 +7,6 @@ use native.Mathlib.Omega.{arith}
 use borrow.Author.Needs.{needs}
 use Rattle.parts.proofs.first.search_from.Statement.{statement}
 use Rattle.parts.proofs.first.search_from.Tie as tie
-use Rattle.parts.proofs.first.search_from.Reads as reads
-use Rattle.parts.proofs.first.search_from.Lts as lts
-use Rattle.parts.proofs.first.advance.Reads as advance-reads
-use Rattle.parts.proofs.first.push.Reads as push-reads
 
 abbrev Inv-loop : tie.InvT-loop
 Inv-loop priorities offsets targets entries p work₀ r done n marks at₀ work at =

@@ -3,8 +3,6 @@ use Rattle.parts.specs.Leading.{fresh-high, fresh-low}
 use borrow.Author.Needs.{needs}
 use Rattle.parts.proofs.links.is_fresh.Statement.{statement}
 use Rattle.parts.proofs.links.is_fresh.Tie as tie
-use Rattle.parts.proofs.links.is_fresh.Reads as reads
-use Rattle.parts.proofs.links.is_fresh.Lts as lts
 
 mul-if1 : tie.Need-mul-if1
 mul-if1 c = search needs

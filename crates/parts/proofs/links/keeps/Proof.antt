@@ -4,8 +4,6 @@ use Rattle.parts.specs.Leading.{keeping-past, keeping-none, keeping-entr
 use borrow.Author.Needs.{needs}
 use Rattle.parts.proofs.links.keeps.Statement.{statement}
 use Rattle.parts.proofs.links.keeps.Tie as tie
-use Rattle.parts.proofs.links.keeps.Reads as reads
-use Rattle.parts.proofs.links.keeps.Lts as lts
 
 returns : tie.Need-returns
 returns c = let a = c .before .args in keeping-past (a .entries .now) (a .v) (a .w) (c .if1 .taken)

@@ -6,10 +6,6 @@ use native.Mathlib.Omega.{arith}
 use borrow.Author.Needs.{needs}
 use Rattle.parts.proofs.links.opens.Statement.{statement}
 use Rattle.parts.proofs.links.opens.Tie as tie
-use Rattle.parts.proofs.links.opens.Reads as reads
-use Rattle.parts.proofs.links.opens.Lts as lts
-use Rattle.parts.proofs.links.is_fresh.Reads as is-fresh-reads
-use Rattle.parts.proofs.links.keeps.Reads as keeps-reads
 
 is-fresh-requires : tie.Need-is-fresh-requires
 is-fresh-requires c κs = search needs

@@ -7,9 +7,6 @@ use native.Mathlib.Omega.{arith}
 use borrow.Author.Needs.{needs}
 use Rattle.parts.proofs.parity.mark_parity.Statement.{statement}
 use Rattle.parts.proofs.parity.mark_parity.Tie as tie
-use Rattle.parts.proofs.parity.mark_parity.Reads as reads
-use Rattle.parts.proofs.parity.mark_parity.Lts as lts
-use Rattle.parts.proofs.parity.mark_used.Reads as mark-used-reads
 
 abbrev Inv-loop : tie.InvT-loop
 Inv-loop priorities offsets targets entries parity work₀ base k₀ work k =

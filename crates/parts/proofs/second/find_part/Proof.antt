@@ -7,10 +7,6 @@ use native.Mathlib.Omega.{arith}
 use borrow.Author.Needs.{needs}
 use Rattle.parts.proofs.second.find_part.Statement.{statement}
 use Rattle.parts.proofs.second.find_part.Tie as tie
-use Rattle.parts.proofs.second.find_part.Reads as reads
-use Rattle.parts.proofs.second.find_part.Lts as lts
-use Rattle.parts.proofs.second.look_back.Reads as look-back-reads
-use Rattle.parts.proofs.second.put.Reads as put-reads
 
 abbrev Inv-loop : tie.InvT-loop
 Inv-loop priorities offsets targets entries p work₀ r n queue head₀ tail₀ work head tail =

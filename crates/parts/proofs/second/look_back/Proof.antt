@@ -9,10 +9,6 @@ use native.Mathlib.Omega.{arith}
 use borrow.Author.Needs.{needs}
 use Rattle.parts.proofs.second.look_back.Statement.{statement}
 use Rattle.parts.proofs.second.look_back.Tie as tie
-use Rattle.parts.proofs.second.look_back.Reads as reads
-use Rattle.parts.proofs.second.look_back.Lts as lts
-use Rattle.parts.proofs.links.opens.Reads as opens-reads
-use Rattle.parts.proofs.second.put.Reads as put-reads
 
 abbrev Inv-loop : tie.InvT-loop
 Inv-loop priorities offsets targets entries p work₀ w r tail n queue labels end₀ e₀ e-end work end e =

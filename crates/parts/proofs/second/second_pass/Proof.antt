@@ -9,9 +9,6 @@ use native.Mathlib.Omega.{arith}
 use borrow.Author.Needs.{needs}
 use Rattle.parts.proofs.second.second_pass.Statement.{statement}
 use Rattle.parts.proofs.second.second_pass.Tie as tie
-use Rattle.parts.proofs.second.second_pass.Reads as reads
-use Rattle.parts.proofs.second.second_pass.Lts as lts
-use Rattle.parts.proofs.second.find_part.Reads as find-part-reads
 
 abbrev Inv-loop : tie.InvT-loop
 Inv-loop priorities offsets targets entries p work₀ done n order i₀ work i =

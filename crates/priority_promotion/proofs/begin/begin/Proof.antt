@@ -6,11 +6,6 @@ use Rattle.priority_promotion.specs.Beginning.{BegunTo, begun-none, rese
 use borrow.Author.Needs.{needs}
 use Rattle.priority_promotion.proofs.begin.begin.Statement.{statement}
 use Rattle.priority_promotion.proofs.begin.begin.Tie as tie
-use Rattle.priority_promotion.proofs.begin.begin.Reads as reads
-use Rattle.priority_promotion.proofs.begin.begin.Lts as lts
-use Rattle.priority_promotion.proofs.regions.next_priority.Reads as next-priority-reads
-use Rattle.priority_promotion.proofs.regions.reset.Reads as reset-reads
-use Rattle.sets.proofs.clear.Reads as clear-reads
 
 abbrev Inv-loop : tie.InvT-loop
 Inv-loop priorities m s work₀ n entries lower regions v₀ work v = BegunTo priorities m s v work₀ work
@@ -25,78 +20,60 @@ first c = c .before .before .before .before
 abbrev cleared : tie.At-loop Inv-loop μ-loop → tie.After-clear Inv-loop μ-loop
 cleared c = c .before .before .before
 
--- src/begin.rt:21:19
 add-entries : tie.Need-add-entries Inv-loop μ-loop
 add-entries c = search needs
 
--- src/begin.rt:21:19
 add-entries-2 : tie.Need-add-entries-2 Inv-loop μ-loop
 add-entries-2 c = search needs
 
--- src/begin.rt:21:19
 add-entries-3 : tie.Need-add-entries-3 Inv-loop μ-loop
 add-entries-3 c = search needs
 
--- src/begin.rt:21:19
 add-entries-4 : tie.Need-add-entries-4 Inv-loop μ-loop
 add-entries-4 c = search needs
 
--- src/begin.rt:22:17
 add-lower : tie.Need-add-lower Inv-loop μ-loop
 add-lower c = search needs
 
--- src/begin.rt:22:17
 add-lower-2 : tie.Need-add-lower-2 Inv-loop μ-loop
 add-lower-2 c = search needs
 
--- src/begin.rt:23:19
 add-regions : tie.Need-add-regions Inv-loop μ-loop
 add-regions c = search needs
 
--- src/begin.rt:23:31
 mul-regions : tie.Need-mul-regions Inv-loop μ-loop
 mul-regions c = search needs
 
--- src/begin.rt:23:19
 add-regions-2 : tie.Need-add-regions-2 Inv-loop μ-loop
 add-regions-2 c = search needs
 
--- src/begin.rt:24:30
 mul-clear : tie.Need-mul-clear Inv-loop μ-loop
 mul-clear c = search needs
 
--- src/begin.rt:24:30
 add-clear : tie.Need-add-clear Inv-loop μ-loop
 add-clear c = search needs
 
--- src/begin.rt:24:30
 add-clear-2 : tie.Need-add-clear-2 Inv-loop μ-loop
 add-clear-2 c = search needs
 
--- src/begin.rt:24:5
 clear-requires : tie.Need-clear-requires Inv-loop μ-loop
 clear-requires c κs = let g = c .before .before .before in omega (arith, g .pre .room)
 
--- src/begin.rt:25:10
 add-work : tie.Need-add-work Inv-loop μ-loop
 add-work c = let d = c .before .before in omega (arith, first d .pre .room, d .clear .ensures .long, first d .good)
 
--- src/begin.rt:25:5
 mul-work : tie.Need-mul-work Inv-loop μ-loop
 mul-work c = let d = c .before .before in omega (arith, first d .pre .room, d .clear .ensures .long, first d .good)
 
--- src/begin.rt:25:5
 slice-write-work : tie.Need-slice-write-work Inv-loop μ-loop
 slice-write-work c = let d = c .before .before in omega (arith, first d .pre .room, d .clear .ensures .long)
 
--- src/begin.rt:26:5
 loop-holds : tie.Need-loop-holds Inv-loop μ-loop
 loop-holds c =
     let d = c .before .before in
     let g = first d in
     begun-none (g .args .priorities .now) (g .args .m) (g .args .s) (g .args .work .now) (g .pre) (d .clear .ensures)
 
--- src/begin.rt:27:9
 reset-requires : tie.Need-reset-requires Inv-loop μ-loop
 reset-requires c κs =
     let i = c .before in
@@ -104,15 +81,12 @@ reset-requires c κs =
     let g = first (cleared l) in
     reset-ready (g .args .priorities .now) (g .args .m) (g .args .s) (g .args .work .now) (g .pre) (l .loop .inv) (i .loop-test .taken)
 
--- src/begin.rt:26:9
 add-v : tie.Need-add-v Inv-loop μ-loop
 add-v c = search needs
 
--- src/begin.rt:26:5
 loop-less : tie.Need-loop-less Inv-loop μ-loop
 loop-less c = search needs
 
--- src/begin.rt:26:5
 loop-again : tie.Need-loop-again Inv-loop μ-loop
 loop-again c =
     let r = c .before .before in
@@ -121,11 +95,9 @@ loop-again c =
     let g = first (cleared l) in
     begun-more (g .args .priorities .now) (g .args .m) (g .args .s) (g .args .work .now) (g .pre) (l .loop .inv) (i .loop-test .taken) (r .reset .ensures)
 
--- src/begin.rt:29:9
 next-priority-requires : tie.Need-next-priority-requires Inv-loop μ-loop
 next-priority-requires c κs = (c .before .before .loop .inv .keeps .good, omega arith)
 
--- src/begin.rt:11:1
 same-length : tie.Need-same-length Inv-loop μ-loop
 same-length c =
     let l = c .before .before .before in
@@ -134,7 +106,6 @@ same-length c =
     begun-all (g .args .priorities .now) (g .args .m) (g .args .s) (g .args .work .now) (g .pre) (d .clear .ensures) (l .loop .inv)
     (c .before .before .loop-test .left) (c .next-priority .ensures) .long
 
--- src/begin.rt:11:1
 returns : tie.Need-returns Inv-loop μ-loop
 returns c =
     let l = c .before .before .before in

@@ -7,12 +7,6 @@ use Rattle.priority_promotion.specs.Dominion.{wonAt, won-picked, attract
 use borrow.Author.Needs.{needs}
 use Rattle.priority_promotion.proofs.dominion.solve_dominion.Statement.{statement}
 use Rattle.priority_promotion.proofs.dominion.solve_dominion.Tie as tie
-use Rattle.priority_promotion.proofs.dominion.solve_dominion.Reads as reads
-use Rattle.priority_promotion.proofs.dominion.solve_dominion.Lts as lts
-use Rattle.attractor.proofs.attract.Reads as attract-reads
-use Rattle.priority_promotion.proofs.promote.apply_priority_promotion.Reads as apply-priority-promotion-reads
-use Rattle.sets.proofs.difference_with.Reads as difference-with-reads
-use Rattle.sets.proofs.union_with.Reads as union-with-reads
 
 -- where the function begins
 abbrev first : tie.After-attract → tie.Start
@@ -29,66 +23,51 @@ picked c =
     won-picked (length (a .owners .now)) (length (a .targets .now)) (a .s) (a .p) (c .if1 .won)
     (⊎-elim (λ y. inl (y .0 .taken, y .1)) (λ y. inr (y .0 .left, y .1)) (c .if1 .came))
 
--- src/dominion.rt:16:19
 add-entries : tie.Need-add-entries
 add-entries c = search needs
 
--- src/dominion.rt:16:19
 add-entries-2 : tie.Need-add-entries-2
 add-entries-2 c = search needs
 
--- src/dominion.rt:16:19
 add-entries-3 : tie.Need-add-entries-3
 add-entries-3 c = search needs
 
--- src/dominion.rt:16:19
 add-entries-4 : tie.Need-add-entries-4
 add-entries-4 c = search needs
 
--- src/dominion.rt:17:20
 add-unsolved : tie.Need-add-unsolved
 add-unsolved c = search needs
 
--- src/dominion.rt:18:16
 add-held : tie.Need-add-held
 add-held c = search needs
 
--- src/dominion.rt:18:16
 add-held-2 : tie.Need-add-held-2
 add-held-2 c = search needs
 
--- src/dominion.rt:19:26
 mul-regions : tie.Need-mul-regions
 mul-regions c = search needs
 
--- src/dominion.rt:19:19
 add-regions : tie.Need-add-regions
 add-regions c = search needs
 
--- src/dominion.rt:20:17
 cast-alpha : tie.Need-cast-alpha
 cast-alpha c = search needs
 
--- src/dominion.rt:21:5
 attract-requires : tie.Need-attract-requires
 attract-requires c κs =
     let g = c .before .before .before .before .before .before in
     let a = g .args in
     attract-ready (a .owners .now) (a .priorities .now) (a .offsets .now) (a .targets .now) (a .s) (a .p) (a .work .now) (g .pre)
 
--- src/dominion.rt:22:31
 add-won : tie.Need-add-won
 add-won c = search needs
 
--- src/dominion.rt:22:56
 mul-won : tie.Need-mul-won
 mul-won c = search needs
 
--- src/dominion.rt:22:49
 add-won-2 : tie.Need-add-won-2
 add-won-2 c = search needs
 
--- src/dominion.rt:23:5
 union-with-requires : tie.Need-union-with-requires
 union-with-requires c κs =
     let j = c .before in
@@ -98,7 +77,6 @@ union-with-requires c κs =
     union-parts (a .owners .now) (a .priorities .now) (a .offsets .now) (a .targets .now) (a .s) (a .p) (a .work .now) (g .pre)
     (d .attract .ensures (a .priorities .now) (g .pre .accepted)) (j .if1 .won) (picked j)
 
--- src/dominion.rt:24:5
 apply-priority-promotion-requires : tie.Need-apply-priority-promotion-requires
 apply-priority-promotion-requires c κs =
     let u = c .before .before .before in
@@ -109,7 +87,6 @@ apply-priority-promotion-requires c κs =
     promote-ready2 (a .owners .now) (a .priorities .now) (a .offsets .now) (a .targets .now) (a .s) (a .p) (a .work .now) (g .pre)
     (d .attract .ensures (a .priorities .now) (g .pre .accepted)) (j .if1 .won) (picked j) (u .union-with .ensures)
 
--- src/dominion.rt:25:5
 difference-with-requires : tie.Need-difference-with-requires
 difference-with-requires c κs =
     let e = c .before .before .before in
@@ -122,11 +99,9 @@ difference-with-requires c κs =
     (d .attract .ensures (a .priorities .now) (g .pre .accepted)) (j .if1 .won) (picked j) (u .union-with .ensures)
     (e .apply-priority-promotion .ensures)
 
--- src/dominion.rt:6:1
 same-length : tie.Need-same-length
 same-length c = search needs
 
--- src/dominion.rt:6:1
 returns : tie.Need-returns
 returns c =
     let f = c .before .before in

@@ -28,10 +28,6 @@ use Rattle.priority_promotion.specs.Opening.{Shut}
 use borrow.Author.Needs.{needs}
 use Rattle.priority_promotion.proofs.open.is_open.Statement.{statement}
 use Rattle.priority_promotion.proofs.open.is_open.Tie as tie
-use Rattle.priority_promotion.proofs.open.is_open.Reads as reads
-use Rattle.priority_promotion.proofs.open.is_open.Lts as lts
-use Rattle.sets.proofs.members.Members.new.Reads as new-reads
-use Rattle.sets.proofs.members.Members.next.Reads as next-reads
 
 abbrev Inv-loop : tie.InvT-loop
 Inv-loop owners offsets targets alpha p s work held regions walk v own e₀ e-end e =
@@ -122,69 +118,53 @@ shorter :
     length (left xs (after c)) < length (left xs (turn c .vertices .walk))
 shorter c = walked-shorter (escape-walkable (first c .pre)) (turn c .vertices .inv) (after c) (moved c)
 
--- src/open.rt:26:45
 add-new : tie.Need-add-new Inv-loop μ-loop Inv-vertices μ-vertices
 add-new c = search needs
 
--- src/open.rt:26:33
 mul-new : tie.Need-mul-new Inv-loop μ-loop Inv-vertices μ-vertices
 mul-new c = search needs
 
--- src/open.rt:26:33
 sub-new : tie.Need-sub-new Inv-loop μ-loop Inv-vertices μ-vertices
 sub-new c = search needs
 
--- src/open.rt:26:33
 part-new-start : tie.Need-part-new-start Inv-loop μ-loop Inv-vertices μ-vertices
 part-new-start c = search needs
 
--- src/open.rt:26:33
 part-new-end : tie.Need-part-new-end Inv-loop μ-loop Inv-vertices μ-vertices
 part-new-end c = search needs
 
--- src/open.rt:26:9
 new-requires : tie.Need-new-requires Inv-loop μ-loop Inv-vertices μ-vertices
 new-requires c κs = search needs
 
--- src/open.rt:27:5
 vertices-holds : tie.Need-vertices-holds Inv-loop μ-loop Inv-vertices μ-vertices
 vertices-holds c =
     let g = c .before .before .before .before .before .before in
     walked-none (escape-walkable (g .pre)) tt (c .new .result) (c .new .ensures)
 
--- src/open.rt:28:42
 add-next : tie.Need-add-next Inv-loop μ-loop Inv-vertices μ-vertices
 add-next c = search needs
 
--- src/open.rt:28:30
 mul-next : tie.Need-mul-next Inv-loop μ-loop Inv-vertices μ-vertices
 mul-next c = search needs
 
--- src/open.rt:28:30
 sub-next : tie.Need-sub-next Inv-loop μ-loop Inv-vertices μ-vertices
 sub-next c = search needs
 
--- src/open.rt:28:30
 part-next-start : tie.Need-part-next-start Inv-loop μ-loop Inv-vertices μ-vertices
 part-next-start c = search needs
 
--- src/open.rt:28:30
 part-next-end : tie.Need-part-next-end Inv-loop μ-loop Inv-vertices μ-vertices
 part-next-end c = search needs
 
--- src/open.rt:28:13
 next-requires : tie.Need-next-requires Inv-loop μ-loop Inv-vertices μ-vertices
 next-requires c κs = let d = c .before in walked-few (escape-walkable (start-of d .pre)) (d .vertices .inv)
 
--- src/open.rt:29:26
 enum-known-next : tie.Need-enum-known-next Inv-loop μ-loop Inv-vertices μ-vertices
 enum-known-next c = search needs
 
--- src/open.rt:30:13
 enum-told : tie.Need-enum-told Inv-loop μ-loop Inv-vertices μ-vertices
 enum-told c = search needs
 
--- src/open.rt:30:13
 returns : tie.Need-returns Inv-loop μ-loop Inv-vertices μ-vertices
 returns c =
     let d = c .before .before .before .before in
@@ -194,39 +174,30 @@ returns c =
     (walked-all (escape-walkable (g .pre)) (d .vertices .inv)
     (subst (Walks (part g) (d .vertices .walk)) (c .enum-told .given .1) (c .before .before .next .ensures)))
 
--- src/open.rt:34:19
 shared-slice-read-own : tie.Need-shared-slice-read-own Inv-loop μ-loop Inv-vertices μ-vertices
 shared-slice-read-own c = small (c .before .before)
 
--- src/open.rt:35:18
 mul-e : tie.Need-mul-e Inv-loop μ-loop Inv-vertices μ-vertices
 mul-e c = let d = c .before .before in omega (arith, looks d .each, first d .good)
 
--- src/open.rt:35:18
 shared-slice-read-e : tie.Need-shared-slice-read-e Inv-loop μ-loop Inv-vertices μ-vertices
 shared-slice-read-e c = let d = c .before .before .before in omega (arith, looks d .each)
 
--- src/open.rt:35:18
 cast-e : tie.Need-cast-e Inv-loop μ-loop Inv-vertices μ-vertices
 cast-e c = omega (arith, c .shared-slice-known6 .given (vertex (c .before .before .before)))
 
--- src/open.rt:35:47
 add-e-end : tie.Need-add-e-end Inv-loop μ-loop Inv-vertices μ-vertices
 add-e-end c = let d = c .before .before .before in omega (arith, looks d .each, first d .good)
 
--- src/open.rt:35:39
 mul-e-end : tie.Need-mul-e-end Inv-loop μ-loop Inv-vertices μ-vertices
 mul-e-end c = let d = c .before .before .before in omega (arith, looks d .each, first d .good)
 
--- src/open.rt:35:39
 shared-slice-read-e-end : tie.Need-shared-slice-read-e-end Inv-loop μ-loop Inv-vertices μ-vertices
 shared-slice-read-e-end c = let d = c .before .before .before .before in omega (arith, looks d .each)
 
--- src/open.rt:35:39
 cast-e-end : tie.Need-cast-e-end Inv-loop μ-loop Inv-vertices μ-vertices
 cast-e-end c = omega (arith, c .shared-slice-known7 .given (vertex (c .before .before .before .before) + 1))
 
--- src/open.rt:35:9
 loop-holds : tie.Need-loop-holds Inv-loop μ-loop Inv-vertices μ-vertices
 loop-holds c =
     let d = c .before .before .before .before in
@@ -237,36 +208,28 @@ loop-holds c =
       λ other. none-first (a .offsets .now) (a .targets .now) (vertex d) (λ w. ltb (regionAt (a .regions) (a .work .now) w) (a .p)),
     )
 
--- src/open.rt:36:21
 mul-w : tie.Need-mul-w Inv-loop μ-loop Inv-vertices μ-vertices
 mul-w c = omega (arith, edge-inside c, first (outer (c .before)) .good)
 
--- src/open.rt:36:21
 shared-slice-read-w : tie.Need-shared-slice-read-w Inv-loop μ-loop Inv-vertices μ-vertices
 shared-slice-read-w c = edge-inside (c .before)
 
--- src/open.rt:36:21
 cast-w : tie.Need-cast-w Inv-loop μ-loop Inv-vertices μ-vertices
 cast-w c = omega (arith, c .shared-slice-known8 .given (c .before .before .loop .e))
 
--- src/open.rt:37:31
 add-region : tie.Need-add-region Inv-loop μ-loop Inv-vertices μ-vertices
 add-region c = omega (arith, region-inside (c .before), first (outer (c .before .before)) .good)
 
--- src/open.rt:37:26
 mul-region : tie.Need-mul-region Inv-loop μ-loop Inv-vertices μ-vertices
 mul-region c = omega (arith, region-inside (c .before), first (outer (c .before .before)) .good)
 
--- src/open.rt:37:26
 shared-slice-read-region :
     tie.Need-shared-slice-read-region Inv-loop μ-loop Inv-vertices μ-vertices
 shared-slice-read-region c = region-inside (c .before .before)
 
--- src/open.rt:27:5
 vertices-less : tie.Need-vertices-less Inv-loop μ-loop Inv-vertices μ-vertices
 vertices-less c = shorter (outer (c .before .before .before .before .before))
 
--- src/open.rt:27:5
 vertices-again : tie.Need-vertices-again Inv-loop μ-loop Inv-vertices μ-vertices
 vertices-again c =
     let i = c .before .before .before .before in
@@ -279,7 +242,6 @@ vertices-again c =
     (some-at (a .offsets .now) (a .targets .now) (vertex d) (λ w. eqb (regionAt (a .regions) (a .work .now) w) (a .p)) (l .loop .e)
     (l .loop .inv .0) (i .loop-test .taken) (edge-inside i) (eq-eqb _ _ (c .if2 .taken))))
 
--- src/open.rt:43:17
 returns-2 : tie.Need-returns-2 Inv-loop μ-loop Inv-vertices μ-vertices
 returns-2 c =
     let i = c .before .before .before .before in
@@ -292,15 +254,12 @@ returns-2 c =
     (some-at (a .offsets .now) (a .targets .now) (vertex d) (λ w. ltb (regionAt (a .regions) (a .work .now) w) (a .p)) (l .loop .e)
     (l .loop .inv .0) (i .loop-test .taken) (edge-inside i) (lt-ltb _ _ (c .if3 .taken))))
 
--- src/open.rt:35:13
 add-e : tie.Need-add-e Inv-loop μ-loop Inv-vertices μ-vertices
 add-e c = omega (arith, edge-inside (c .before .before .before), first (outer (c .before .before .before .before)) .good)
 
--- src/open.rt:35:9
 loop-less : tie.Need-loop-less Inv-loop μ-loop Inv-vertices μ-vertices
 loop-less c = search needs
 
--- src/open.rt:35:9
 loop-again : tie.Need-loop-again Inv-loop μ-loop Inv-vertices μ-vertices
 loop-again c =
     let i = c .before .before .before in
@@ -319,7 +278,6 @@ loop-again c =
           (⊎-elim (λ y. absurd (clash (y .0 .taken) other)) (λ y. le-ltb _ _ (y .1 .left)) (c .if1 .came)),
     )
 
--- src/open.rt:47:13
 returns-3 : tie.Need-returns-3 Inv-loop μ-loop Inv-vertices μ-vertices
 returns-3 c =
     let l = c .before .before in
@@ -331,11 +289,9 @@ returns-3 c =
     (none-at-all (a .offsets .now) (a .targets .now) (vertex d) (λ w. eqb (regionAt (a .regions) (a .work .now) w) (a .p)) (l .loop .e)
     (c .before .loop-test .left) (l .loop .inv .2 (c .if4 .taken))))
 
--- src/open.rt:27:5
 vertices-less-2 : tie.Need-vertices-less-2 Inv-loop μ-loop Inv-vertices μ-vertices
 vertices-less-2 c = shorter (outer (c .before .before))
 
--- src/open.rt:27:5
 vertices-again-2 : tie.Need-vertices-again-2 Inv-loop μ-loop Inv-vertices μ-vertices
 vertices-again-2 c =
     let l = c .before .before in

@@ -13,11 +13,6 @@ use Rattle.priority_promotion.specs.Walking.{Walkable, WalkedTo, walked-
 use borrow.Author.Needs.{needs}
 use Rattle.priority_promotion.proofs.promote.apply_priority_promotion.Statement.{statement}
 use Rattle.priority_promotion.proofs.promote.apply_priority_promotion.Tie as tie
-use Rattle.priority_promotion.proofs.promote.apply_priority_promotion.Reads as reads
-use Rattle.priority_promotion.proofs.promote.apply_priority_promotion.Lts as lts
-use Rattle.priority_promotion.proofs.promote.promote_vertex.Reads as promote-vertex-reads
-use Rattle.sets.proofs.members.Members.new.Reads as new-reads
-use Rattle.sets.proofs.members.Members.next.Reads as next-reads
 
 abbrev Inv-loop : tie.InvT-loop
 Inv-loop priorities q s work₀ unsolved held regions entries walk₀ work walk =
@@ -61,79 +56,61 @@ walkable g = let a = g .args in promote-walkable (a .priorities .now) (a .q) (a 
 small : (c : tie.After-next2 Inv-loop μ-loop) → vertex c < (let a = start-of (turn c) .args in length (a .priorities .now))
 small c = walked-small (walkable (start-of (turn c))) (turn c .loop .inv) (after c) (moved c)
 
--- src/promote.rt:99:49
 add-new : tie.Need-add-new Inv-loop μ-loop
 add-new c = search needs
 
--- src/promote.rt:99:33
 mul-new : tie.Need-mul-new Inv-loop μ-loop
 mul-new c = search needs
 
--- src/promote.rt:99:33
 sub-new : tie.Need-sub-new Inv-loop μ-loop
 sub-new c = search needs
 
--- src/promote.rt:99:33
 part-new-start : tie.Need-part-new-start Inv-loop μ-loop
 part-new-start c = search needs
 
--- src/promote.rt:99:33
 part-new-end : tie.Need-part-new-end Inv-loop μ-loop
 part-new-end c = search needs
 
--- src/promote.rt:99:9
 new-requires : tie.Need-new-requires Inv-loop μ-loop
 new-requires c κs = search needs
 
--- src/promote.rt:100:5
 loop-holds : tie.Need-loop-holds Inv-loop μ-loop
 loop-holds c = let g = c .before .before .before .before .before in walked-none (walkable g) (g .pre .room .tallied) (c .new .result) (c .new .ensures)
 
--- src/promote.rt:101:46
 add-next : tie.Need-add-next Inv-loop μ-loop
 add-next c = search needs
 
--- src/promote.rt:101:30
 mul-next : tie.Need-mul-next Inv-loop μ-loop
 mul-next c = search needs
 
--- src/promote.rt:101:30
 sub-next : tie.Need-sub-next Inv-loop μ-loop
 sub-next c = search needs
 
--- src/promote.rt:101:30
 part-next-start : tie.Need-part-next-start Inv-loop μ-loop
 part-next-start c = search needs
 
--- src/promote.rt:101:30
 part-next-end : tie.Need-part-next-end Inv-loop μ-loop
 part-next-end c = search needs
 
--- src/promote.rt:101:13
 next-requires : tie.Need-next-requires Inv-loop μ-loop
 next-requires c κs =
     let d = c .before .before in walked-few (walkable (start-of d)) (d .loop .inv)
 
--- src/promote.rt:102:26
 enum-known-next : tie.Need-enum-known-next Inv-loop μ-loop
 enum-known-next c = search needs
 
--- src/promote.rt:103:13
 enum-told : tie.Need-enum-told Inv-loop μ-loop
 enum-told c = search needs
 
--- src/promote.rt:103:13
 same-length : tie.Need-same-length Inv-loop μ-loop
 same-length c = search needs
 
--- src/promote.rt:103:13
 returns : tie.Need-returns Inv-loop μ-loop
 returns c =
     let d = c .before .before .before .before .before in
     walked-all (walkable (start-of d)) (d .loop .inv)
     (subst (Walks (part d) (d .loop .walk)) (c .enum-told .given .1) (c .before .before .next .ensures))
 
--- src/promote.rt:105:9
 promote-vertex-requires : tie.Need-promote-vertex-requires Inv-loop μ-loop
 promote-vertex-requires c κs =
     let d = c .before .before in
@@ -142,13 +119,11 @@ promote-vertex-requires c κs =
     promote-ready (a .priorities .now) (a .q) (a .s) (a .unsolved) (a .held) (a .regions) (a .entries) (a .work .now) (g .pre) (turn d .loop .work)
     (turn d .loop .inv .keeps) (vertex d) (small d)
 
--- src/promote.rt:100:5
 loop-less : tie.Need-loop-less Inv-loop μ-loop
 loop-less c =
     let d = c .before .before .before .before .before in
     walked-shorter (walkable (start-of (turn d))) (turn d .loop .inv) (after d) (moved d)
 
--- src/promote.rt:100:5
 loop-again : tie.Need-loop-again Inv-loop μ-loop
 loop-again c =
     let d = c .before .before .before .before .before in

@@ -14,11 +14,6 @@ use Rattle.priority_promotion.specs.Escapes.{looks-ready, escape-walkabl
 use borrow.Author.Needs.{needs}
 use Rattle.priority_promotion.proofs.promote.best_escape.Statement.{statement}
 use Rattle.priority_promotion.proofs.promote.best_escape.Tie as tie
-use Rattle.priority_promotion.proofs.promote.best_escape.Reads as reads
-use Rattle.priority_promotion.proofs.promote.best_escape.Lts as lts
-use Rattle.priority_promotion.proofs.promote.best_of.Reads as best-of-reads
-use Rattle.sets.proofs.members.Members.new.Reads as new-reads
-use Rattle.sets.proofs.members.Members.next.Reads as next-reads
 
 abbrev Inv-loop : tie.InvT-loop
 Inv-loop owners offsets targets alpha p s work held regions lowest₀ walk₀ lowest walk =
@@ -69,31 +64,24 @@ shorter :
     length (left xs (after c)) < length (left xs (turn c .loop .walk))
 shorter c = walked-shorter (escape-walkable (first c .pre)) (turn c .loop .inv .passed) (after c) (moved c)
 
--- src/promote.rt:47:45
 add-new : tie.Need-add-new Inv-loop μ-loop
 add-new c = search needs
 
--- src/promote.rt:47:33
 mul-new : tie.Need-mul-new Inv-loop μ-loop
 mul-new c = search needs
 
--- src/promote.rt:47:33
 sub-new : tie.Need-sub-new Inv-loop μ-loop
 sub-new c = search needs
 
--- src/promote.rt:47:33
 part-new-start : tie.Need-part-new-start Inv-loop μ-loop
 part-new-start c = search needs
 
--- src/promote.rt:47:33
 part-new-end : tie.Need-part-new-end Inv-loop μ-loop
 part-new-end c = search needs
 
--- src/promote.rt:47:9
 new-requires : tie.Need-new-requires Inv-loop μ-loop
 new-requires c κs = search needs
 
--- src/promote.rt:48:5
 loop-holds : tie.Need-loop-holds Inv-loop μ-loop
 loop-holds c =
     let g = c .before .before .before .before .before .before in
@@ -103,39 +91,30 @@ loop-holds c =
       passed = walked-none (escape-walkable (g .pre)) tt (c .new .result) (c .new .ensures);
     }
 
--- src/promote.rt:49:42
 add-next : tie.Need-add-next Inv-loop μ-loop
 add-next c = search needs
 
--- src/promote.rt:49:30
 mul-next : tie.Need-mul-next Inv-loop μ-loop
 mul-next c = search needs
 
--- src/promote.rt:49:30
 sub-next : tie.Need-sub-next Inv-loop μ-loop
 sub-next c = search needs
 
--- src/promote.rt:49:30
 part-next-start : tie.Need-part-next-start Inv-loop μ-loop
 part-next-start c = search needs
 
--- src/promote.rt:49:30
 part-next-end : tie.Need-part-next-end Inv-loop μ-loop
 part-next-end c = search needs
 
--- src/promote.rt:49:13
 next-requires : tie.Need-next-requires Inv-loop μ-loop
 next-requires c κs = let d = c .before in walked-few (escape-walkable (start-of d .pre)) (d .loop .inv .passed)
 
--- src/promote.rt:50:26
 enum-known-next : tie.Need-enum-known-next Inv-loop μ-loop
 enum-known-next c = search needs
 
--- src/promote.rt:51:13
 enum-told : tie.Need-enum-told Inv-loop μ-loop
 enum-told c = search needs
 
--- src/promote.rt:51:13
 returns : tie.Need-returns Inv-loop μ-loop
 returns c =
     let d = c .before .before .before .before in
@@ -148,19 +127,15 @@ returns c =
           (subst (Walks (part g) (d .loop .walk)) (c .enum-told .given .1) (c .before .before .next .ensures)) .inside;
     }
 
--- src/promote.rt:54:12
 shared-slice-read-if1 : tie.Need-shared-slice-read-if1 Inv-loop μ-loop
 shared-slice-read-if1 c = small (c .before .before)
 
--- src/promote.rt:55:13
 best-of-requires : tie.Need-best-of-requires Inv-loop μ-loop
 best-of-requires c κs = let d = c .before .before .before in looks-ready (first d .pre) (vertex d) (small d)
 
--- src/promote.rt:48:5
 loop-less : tie.Need-loop-less Inv-loop μ-loop
 loop-less c = shorter (c .before .before .before .before)
 
--- src/promote.rt:48:5
 loop-again : tie.Need-loop-again Inv-loop μ-loop
 loop-again c =
     let d = c .before .before .before .before in
@@ -175,11 +150,9 @@ loop-again c =
       passed = walked-more (escape-walkable (g .pre)) passed (after d) (moved d) (passes here);
     }
 
--- src/promote.rt:48:5
 loop-less-2 : tie.Need-loop-less-2 Inv-loop μ-loop
 loop-less-2 c = shorter (c .before .before .before)
 
--- src/promote.rt:48:5
 loop-again-2 : tie.Need-loop-again-2 Inv-loop μ-loop
 loop-again-2 c =
     let d = c .before .before .before in

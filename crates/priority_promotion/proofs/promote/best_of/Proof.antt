@@ -9,8 +9,6 @@ use Rattle.priority_promotion.specs.Escapes.{LowestTo, lowest-none, lowe
 use borrow.Author.Needs.{needs}
 use Rattle.priority_promotion.proofs.promote.best_of.Statement.{statement}
 use Rattle.priority_promotion.proofs.promote.best_of.Tie as tie
-use Rattle.priority_promotion.proofs.promote.best_of.Reads as reads
-use Rattle.priority_promotion.proofs.promote.best_of.Lts as lts
 
 abbrev Inv-loop : tie.InvT-loop
 Inv-loop offsets targets work regions p v best lowest₀ e₀ e-end lowest e = LowestTo offsets targets regions p v work best e lowest
@@ -30,74 +28,57 @@ region-inside :
 region-inside c =
     let g = start-of (c .before) in g .pre .inside (c .before .loop .e) (omega (arith, g .pre .top, c .loop-test .taken))
 
--- src/promote.rt:16:14
 mul-e : tie.Need-mul-e Inv-loop μ-loop
 mul-e c = search needs
 
--- src/promote.rt:16:14
 shared-slice-read-e : tie.Need-shared-slice-read-e Inv-loop μ-loop
 shared-slice-read-e c = search needs
 
--- src/promote.rt:16:14
 cast-e : tie.Need-cast-e Inv-loop μ-loop
 cast-e c = search needs
 
--- src/promote.rt:16:43
 add-e-end : tie.Need-add-e-end Inv-loop μ-loop
 add-e-end c = search needs
 
--- src/promote.rt:16:35
 mul-e-end : tie.Need-mul-e-end Inv-loop μ-loop
 mul-e-end c = search needs
 
--- src/promote.rt:16:35
 shared-slice-read-e-end : tie.Need-shared-slice-read-e-end Inv-loop μ-loop
 shared-slice-read-e-end c = search needs
 
--- src/promote.rt:16:35
 cast-e-end : tie.Need-cast-e-end Inv-loop μ-loop
 cast-e-end c = search needs
 
--- src/promote.rt:16:5
 loop-holds : tie.Need-loop-holds Inv-loop μ-loop
 loop-holds c =
     let g = c .before .before in
     let a = g .args in
     lowest-none (a .offsets .now) (a .targets .now) (a .regions) (a .p) (a .v) (a .work .now) (a .best) (g .pre)
 
--- src/promote.rt:17:17
 mul-w : tie.Need-mul-w Inv-loop μ-loop
 mul-w c = search needs
 
--- src/promote.rt:17:17
 shared-slice-read-w : tie.Need-shared-slice-read-w Inv-loop μ-loop
 shared-slice-read-w c = search needs
 
--- src/promote.rt:17:17
 cast-w : tie.Need-cast-w Inv-loop μ-loop
 cast-w c = omega (arith, c .shared-slice-known3 .given (c .before .before .loop .e))
 
--- src/promote.rt:18:27
 add-region : tie.Need-add-region Inv-loop μ-loop
 add-region c = omega (arith, region-inside (c .before), start-of (c .before .before) .good)
 
--- src/promote.rt:18:22
 mul-region : tie.Need-mul-region Inv-loop μ-loop
 mul-region c = omega (arith, region-inside (c .before), start-of (c .before .before) .good)
 
--- src/promote.rt:18:22
 shared-slice-read-region : tie.Need-shared-slice-read-region Inv-loop μ-loop
 shared-slice-read-region c = region-inside (c .before .before)
 
--- src/promote.rt:16:9
 add-e : tie.Need-add-e Inv-loop μ-loop
 add-e c = search needs
 
--- src/promote.rt:16:5
 loop-less : tie.Need-loop-less Inv-loop μ-loop
 loop-less c = search needs
 
--- src/promote.rt:16:5
 loop-again : tie.Need-loop-again Inv-loop μ-loop
 loop-again c =
     let l = c .before .before .before .before in
@@ -123,7 +104,6 @@ loop-again c =
     z)
     (c .if1 .came)
 
--- src/promote.rt:11:1
 returns : tie.Need-returns Inv-loop μ-loop
 returns c =
     let g = start-of (c .before) in

@@ -4,48 +4,34 @@ use mathlib.Core.Path.{sym, _∙_}
 use borrow.Author.Needs.{needs}
 use Rattle.priority_promotion.proofs.promote.promote_vertex.Statement.{statement}
 use Rattle.priority_promotion.proofs.promote.promote_vertex.Tie as tie
-use Rattle.priority_promotion.proofs.promote.promote_vertex.Reads as reads
-use Rattle.priority_promotion.proofs.promote.promote_vertex.Lts as lts
-use Rattle.priority_promotion.proofs.regions.reset.Reads as reset-reads
-use Rattle.priority_promotion.proofs.regions.set_region.Reads as set-region-reads
-use Rattle.sets.proofs.contains.Reads as contains-reads
 
--- src/promote.rt:75:35
 add-contains : tie.Need-add-contains
 add-contains c = search needs
 
--- src/promote.rt:75:23
 mul-contains : tie.Need-mul-contains
 mul-contains c = search needs
 
--- src/promote.rt:75:23
 sub-contains : tie.Need-sub-contains
 sub-contains c = search needs
 
--- src/promote.rt:75:23
 part-contains-start : tie.Need-part-contains-start
 part-contains-start c = search needs
 
--- src/promote.rt:75:23
 part-contains-end : tie.Need-part-contains-end
 part-contains-end c = search needs
 
--- src/promote.rt:75:8
 contains-requires : tie.Need-contains-requires
 contains-requires c κs =
     let g = c .before .before .before .before in
     let a = g .args in
     held-bit (a .priorities .now) (a .q) (a .s) (a .held) (a .regions) (a .entries) (a .v) (a .work .now) (g .pre)
 
--- src/promote.rt:76:9
 set-region-requires : tie.Need-set-region-requires
 set-region-requires c κs = search needs
 
--- src/promote.rt:77:9
 same-length : tie.Need-same-length
 same-length c = search needs
 
--- src/promote.rt:77:9
 returns : tie.Need-returns
 returns c =
     let d = c .before .before .before .before .before in
@@ -54,27 +40,21 @@ returns c =
     promoted-in (a .priorities .now) (a .q) (a .s) (a .held) (a .regions) (a .entries) (a .v) (a .work .now) (g .pre)
     (sym (d .contains .ensures) ∙ c .before .before .before .before .if1 .taken) (c .before .before .set-region .ensures)
 
--- src/promote.rt:79:23
 add-region : tie.Need-add-region
 add-region c = search needs
 
--- src/promote.rt:79:18
 mul-region : tie.Need-mul-region
 mul-region c = search needs
 
--- src/promote.rt:79:18
 slice-read-region : tie.Need-slice-read-region
 slice-read-region c = search needs
 
--- src/promote.rt:81:9
 reset-requires : tie.Need-reset-requires
 reset-requires c κs = search needs
 
--- src/promote.rt:62:1
 same-length-2 : tie.Need-same-length-2
 same-length-2 c = search needs
 
--- src/promote.rt:62:1
 returns-2 : tie.Need-returns-2
 returns-2 c =
     let d = c .before .before .before .before .before .before .before in
@@ -84,11 +64,9 @@ returns-2 c =
     (sym (d .contains .ensures) ∙ c .before .before .before .before .before .before .if1 .left)
     (c .before .before .before .before .if2 .taken) (c .before .before .reset .ensures)
 
--- src/promote.rt:62:1
 same-length-3 : tie.Need-same-length-3
 same-length-3 c = search needs
 
--- src/promote.rt:62:1
 returns-3 : tie.Need-returns-3
 returns-3 c =
     let d = c .before .before .before in

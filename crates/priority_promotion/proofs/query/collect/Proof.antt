@@ -13,11 +13,6 @@ use Rattle.priority_promotion.specs.Sorting.{Bare, Apart, pairAt, Sorts,
 use borrow.Author.Needs.{needs}
 use Rattle.priority_promotion.proofs.query.collect.Statement.{statement}
 use Rattle.priority_promotion.proofs.query.collect.Tie as tie
-use Rattle.priority_promotion.proofs.query.collect.Reads as reads
-use Rattle.priority_promotion.proofs.query.collect.Lts as lts
-use Rattle.priority_promotion.proofs.query.sort.Reads as sort-reads
-use Rattle.sets.proofs.members.Members.new.Reads as new-reads
-use Rattle.sets.proofs.members.Members.next.Reads as next-reads
 
 abbrev Inv-loop : tie.InvT-loop
 Inv-loop n p s work₀ unsolved lower held regions walk₀ work walk =
@@ -61,79 +56,61 @@ walkable g =
 small : (c : tie.After-next2 Inv-loop μ-loop) → vertex c < start-of (turn c) .args .n
 small c = walked-small (walkable (start-of (turn c))) (turn c .loop .inv) (after c) (moved c)
 
--- src/query.rt:28:49
 add-new : tie.Need-add-new Inv-loop μ-loop
 add-new c = search needs
 
--- src/query.rt:28:33
 mul-new : tie.Need-mul-new Inv-loop μ-loop
 mul-new c = search needs
 
--- src/query.rt:28:33
 sub-new : tie.Need-sub-new Inv-loop μ-loop
 sub-new c = search needs
 
--- src/query.rt:28:33
 part-new-start : tie.Need-part-new-start Inv-loop μ-loop
 part-new-start c = search needs
 
--- src/query.rt:28:33
 part-new-end : tie.Need-part-new-end Inv-loop μ-loop
 part-new-end c = search needs
 
--- src/query.rt:28:9
 new-requires : tie.Need-new-requires Inv-loop μ-loop
 new-requires c κs = search needs
 
--- src/query.rt:29:5
 loop-holds : tie.Need-loop-holds Inv-loop μ-loop
 loop-holds c = let g = c .before .before .before .before in walked-none (walkable g) (g .pre .bare) (c .new .result) (c .new .ensures)
 
--- src/query.rt:30:46
 add-next : tie.Need-add-next Inv-loop μ-loop
 add-next c = search needs
 
--- src/query.rt:30:30
 mul-next : tie.Need-mul-next Inv-loop μ-loop
 mul-next c = search needs
 
--- src/query.rt:30:30
 sub-next : tie.Need-sub-next Inv-loop μ-loop
 sub-next c = search needs
 
--- src/query.rt:30:30
 part-next-start : tie.Need-part-next-start Inv-loop μ-loop
 part-next-start c = search needs
 
--- src/query.rt:30:30
 part-next-end : tie.Need-part-next-end Inv-loop μ-loop
 part-next-end c = search needs
 
--- src/query.rt:30:13
 next-requires : tie.Need-next-requires Inv-loop μ-loop
 next-requires c κs =
     let d = c .before .before in walked-few (walkable (start-of d)) (d .loop .inv)
 
--- src/query.rt:31:26
 enum-known-next : tie.Need-enum-known-next Inv-loop μ-loop
 enum-known-next c = search needs
 
--- src/query.rt:32:13
 enum-told : tie.Need-enum-told Inv-loop μ-loop
 enum-told c = search needs
 
--- src/query.rt:32:13
 same-length : tie.Need-same-length Inv-loop μ-loop
 same-length c = search needs
 
--- src/query.rt:32:13
 returns : tie.Need-returns Inv-loop μ-loop
 returns c =
     let d = c .before .before .before .before .before in
     walked-all (walkable (start-of d)) (d .loop .inv)
     (subst (Walks (part d) (d .loop .walk)) (c .enum-told .given .1) (c .before .before .next .ensures))
 
--- src/query.rt:34:9
 sort-requires : tie.Need-sort-requires Inv-loop μ-loop
 sort-requires c κs =
     let d = c .before .before in
@@ -142,13 +119,11 @@ sort-requires c κs =
     sort-ready (a .n) (a .s) (a .p) (a .unsolved) (a .lower) (a .held) (a .regions) (a .work .now) (g .pre) (turn d .loop .work)
     (turn d .loop .inv .keeps) (vertex d) (small d)
 
--- src/query.rt:29:5
 loop-less : tie.Need-loop-less Inv-loop μ-loop
 loop-less c =
     let d = c .before .before .before .before .before in
     walked-shorter (walkable (start-of (turn d))) (turn d .loop .inv) (after d) (moved d)
 
--- src/query.rt:29:5
 loop-again : tie.Need-loop-again Inv-loop μ-loop
 loop-again c =
     let d = c .before .before .before .before .before in

@@ -8,9 +8,6 @@ use Rattle.priority_promotion.specs.Edges.{NoneBefore, none-first, none-
 use borrow.Author.Needs.{needs}
 use Rattle.priority_promotion.proofs.query.inside_edge.Statement.{statement}
 use Rattle.priority_promotion.proofs.query.inside_edge.Tie as tie
-use Rattle.priority_promotion.proofs.query.inside_edge.Reads as reads
-use Rattle.priority_promotion.proofs.query.inside_edge.Lts as lts
-use Rattle.sets.proofs.contains.Reads as contains-reads
 
 abbrev Inv-loop : tie.InvT-loop
 Inv-loop offsets targets v set e₀ e-end e =
@@ -19,60 +16,47 @@ Inv-loop offsets targets v set e₀ e-end e =
 abbrev μ-loop : tie.MeasureT-loop
 μ-loop offsets targets v set e₀ e-end e = e-end - e
 
--- src/query.rt:44:14
 mul-e : tie.Need-mul-e Inv-loop μ-loop
 mul-e c = search needs
 
--- src/query.rt:44:14
 shared-slice-read-e : tie.Need-shared-slice-read-e Inv-loop μ-loop
 shared-slice-read-e c = search needs
 
--- src/query.rt:44:14
 cast-e : tie.Need-cast-e Inv-loop μ-loop
 cast-e c = search needs
 
--- src/query.rt:44:43
 add-e-end : tie.Need-add-e-end Inv-loop μ-loop
 add-e-end c = search needs
 
--- src/query.rt:44:35
 mul-e-end : tie.Need-mul-e-end Inv-loop μ-loop
 mul-e-end c = search needs
 
--- src/query.rt:44:35
 shared-slice-read-e-end : tie.Need-shared-slice-read-e-end Inv-loop μ-loop
 shared-slice-read-e-end c = search needs
 
--- src/query.rt:44:35
 cast-e-end : tie.Need-cast-e-end Inv-loop μ-loop
 cast-e-end c = search needs
 
--- src/query.rt:44:5
 loop-holds : tie.Need-loop-holds Inv-loop μ-loop
 loop-holds c =
     let g = c .before .before .before .before .before in
     (search needs, g .pre .rising, none-first (g .args .offsets .now) (g .args .targets .now) (g .args .v) (setOf (g .args .set .now)))
 
--- src/query.rt:45:17
 mul-w : tie.Need-mul-w Inv-loop μ-loop
 mul-w c = search needs
 
--- src/query.rt:45:17
 shared-slice-read-w : tie.Need-shared-slice-read-w Inv-loop μ-loop
 shared-slice-read-w c = search needs
 
--- src/query.rt:45:17
 cast-w : tie.Need-cast-w Inv-loop μ-loop
 cast-w c = omega (arith, c .shared-slice-known6 .given (c .before .before .loop .e))
 
--- src/query.rt:46:12
 contains-requires : tie.Need-contains-requires Inv-loop μ-loop
 contains-requires c κs =
     let d = c .before in
     let g = d .before .before .before .before .before .before .before in
     g .pre .bits (d .before .loop .e) (omega (arith, g .pre .top, d .loop-test .taken))
 
--- src/query.rt:47:13
 returns : tie.Need-returns Inv-loop μ-loop
 returns c =
     let l = c .before .before .before .before in
@@ -81,15 +65,12 @@ returns c =
     found-in (a .offsets .now) (a .targets .now) (a .v) (a .set .now) (g .pre) (l .loop .e) (l .loop .inv .0)
     (c .before .before .before .loop-test .taken) (sym (c .before .contains .ensures) ∙ c .if1 .taken)
 
--- src/query.rt:44:9
 add-e : tie.Need-add-e Inv-loop μ-loop
 add-e c = search needs
 
--- src/query.rt:44:5
 loop-less : tie.Need-loop-less Inv-loop μ-loop
 loop-less c = search needs
 
--- src/query.rt:44:5
 loop-again : tie.Need-loop-again Inv-loop μ-loop
 loop-again c =
     let l = c .before .before .before .before in
@@ -101,7 +82,6 @@ loop-again c =
           (sym (c .before .contains .ensures) ∙ c .if1 .left),
     )
 
--- src/query.rt:40:1
 returns-2 : tie.Need-returns-2 Inv-loop μ-loop
 returns-2 c =
     let l = c .before in

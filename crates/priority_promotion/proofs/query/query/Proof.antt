@@ -3,66 +3,47 @@ use Rattle.priority_promotion.specs.Query.{collect-ready, attract-ready,
 use borrow.Author.Needs.{needs}
 use Rattle.priority_promotion.proofs.query.query.Statement.{statement}
 use Rattle.priority_promotion.proofs.query.query.Tie as tie
-use Rattle.priority_promotion.proofs.query.query.Reads as reads
-use Rattle.priority_promotion.proofs.query.query.Lts as lts
-use Rattle.attractor.proofs.attract.Reads as attract-reads
-use Rattle.priority_promotion.proofs.query.assign_missing_strategies.Reads as assign-missing-strategies-reads
-use Rattle.priority_promotion.proofs.query.collect.Reads as collect-reads
-use Rattle.sets.proofs.clear.Reads as clear-reads
 
 -- where the function begins
 abbrev first : tie.After-clear → tie.Start
 first c = c .before .before .before .before .before .before
 
--- src/query.rt:133:19
 add-entries : tie.Need-add-entries
 add-entries c = search needs
 
--- src/query.rt:133:19
 add-entries-2 : tie.Need-add-entries-2
 add-entries-2 c = search needs
 
--- src/query.rt:133:19
 add-entries-3 : tie.Need-add-entries-3
 add-entries-3 c = search needs
 
--- src/query.rt:133:19
 add-entries-4 : tie.Need-add-entries-4
 add-entries-4 c = search needs
 
--- src/query.rt:134:20
 add-unsolved : tie.Need-add-unsolved
 add-unsolved c = search needs
 
--- src/query.rt:135:17
 add-lower : tie.Need-add-lower
 add-lower c = search needs
 
--- src/query.rt:136:16
 add-held : tie.Need-add-held
 add-held c = search needs
 
--- src/query.rt:137:26
 mul-regions : tie.Need-mul-regions
 mul-regions c = search needs
 
--- src/query.rt:137:19
 add-regions : tie.Need-add-regions
 add-regions c = search needs
 
--- src/query.rt:138:17
 cast-alpha : tie.Need-cast-alpha
 cast-alpha c = search needs
 
--- src/query.rt:139:30
 mul-clear : tie.Need-mul-clear
 mul-clear c = search needs
 
--- src/query.rt:139:5
 clear-requires : tie.Need-clear-requires
 clear-requires c κs = search needs
 
--- src/query.rt:140:5
 collect-requires : tie.Need-collect-requires
 collect-requires c κs =
     let d = c .before .before .before in
@@ -71,7 +52,6 @@ collect-requires c κs =
     collect-ready (a .owners .now) (g .pre .priorities) (a .offsets .now) (a .targets .now) (g .pre .accepted) (a .s) (a .p) (a .work .now) (g .pre .ready)
     (g .pre .small) (d .clear .ensures)
 
--- src/query.rt:141:5
 attract-requires : tie.Need-attract-requires
 attract-requires c κs =
     let e = c .before .before .before in
@@ -81,7 +61,6 @@ attract-requires c κs =
     attract-ready (a .owners .now) (g .pre .priorities) (a .offsets .now) (a .targets .now) (g .pre .accepted) (a .s) (a .p) (a .work .now) (g .pre .ready)
     (g .pre .small) (d .clear .ensures) (e .collect .ensures)
 
--- src/query.rt:142:5
 assign-missing-strategies-requires : tie.Need-assign-missing-strategies-requires
 assign-missing-strategies-requires c κs =
     let f = c .before .before .before in
@@ -92,11 +71,9 @@ assign-missing-strategies-requires c κs =
     settle-ready (a .owners .now) (g .pre .priorities) (a .offsets .now) (a .targets .now) (g .pre .accepted) (a .s) (a .p) (a .work .now) (g .pre .ready)
     (g .pre .small) (d .clear .ensures) (e .collect .ensures) (f .attract .ensures (g .pre .priorities) (g .pre .accepted))
 
--- src/query.rt:122:1
 same-length : tie.Need-same-length
 same-length c = search needs
 
--- src/query.rt:122:1
 returns : tie.Need-returns
 returns c priorities ok =
     let h = c .before .before in

@@ -3,52 +3,37 @@ use Rattle.priority_promotion.specs.Settling.{search-ready, settled-kept
 use borrow.Author.Needs.{needs}
 use Rattle.priority_promotion.proofs.query.settle.Statement.{statement}
 use Rattle.priority_promotion.proofs.query.settle.Tie as tie
-use Rattle.priority_promotion.proofs.query.settle.Reads as reads
-use Rattle.priority_promotion.proofs.query.settle.Lts as lts
-use Rattle.priority_promotion.proofs.query.inside_edge.Reads as inside-edge-reads
-use Rattle.priority_promotion.proofs.regions.set_region.Reads as set-region-reads
 
--- src/query.rt:77:5
 set-region-requires : tie.Need-set-region-requires
 set-region-requires c κs = search needs
 
--- src/query.rt:78:8
 shared-slice-read-if1 : tie.Need-shared-slice-read-if1
 shared-slice-read-if1 c = search needs
 
--- src/query.rt:79:17
 add-if2 : tie.Need-add-if2
 add-if2 c = search needs
 
--- src/query.rt:79:12
 mul-if2 : tie.Need-mul-if2
 mul-if2 c = search needs
 
--- src/query.rt:79:12
 slice-read-if2 : tie.Need-slice-read-if2
 slice-read-if2 c = search needs
 
--- src/query.rt:80:66
 add-inside-edge : tie.Need-add-inside-edge
 add-inside-edge c = search needs
 
--- src/query.rt:80:54
 mul-inside-edge : tie.Need-mul-inside-edge
 mul-inside-edge c = search needs
 
--- src/query.rt:80:54
 sub-inside-edge : tie.Need-sub-inside-edge
 sub-inside-edge c = search needs
 
--- src/query.rt:80:54
 part-inside-edge-start : tie.Need-part-inside-edge-start
 part-inside-edge-start c = search needs
 
--- src/query.rt:80:54
 part-inside-edge-end : tie.Need-part-inside-edge-end
 part-inside-edge-end c = search needs
 
--- src/query.rt:80:17
 inside-edge-requires : tie.Need-inside-edge-requires
 inside-edge-requires c κs =
     let d = c .before .before .before .before .before .before .before .before in
@@ -57,23 +42,18 @@ inside-edge-requires c κs =
     search-ready (a .owners .now) (a .offsets .now) (a .targets .now) (a .alpha) (a .p) (a .s) (a .held) (a .regions) (a .entries) (a .v) (a .work .now)
     (g .pre) (d .set-region .ensures)
 
--- src/query.rt:81:18
 add-work : tie.Need-add-work
 add-work c = search needs
 
--- src/query.rt:81:13
 mul-work : tie.Need-mul-work
 mul-work c = search needs
 
--- src/query.rt:81:13
 slice-write-work : tie.Need-slice-write-work
 slice-write-work c = search needs
 
--- src/query.rt:57:1
 same-length : tie.Need-same-length
 same-length c = search needs
 
--- src/query.rt:57:1
 returns : tie.Need-returns
 returns c =
     let d = c .before .before .before .before .before .before .before .before .before in
@@ -83,11 +63,9 @@ returns c =
     (g .pre) (d .set-region .ensures) (c .before .before .before .before .before .if1 .taken) (c .before .before .before .if2 .taken)
     (c .inside-edge .ensures)
 
--- src/query.rt:57:1
 same-length-2 : tie.Need-same-length-2
 same-length-2 c = search needs
 
--- src/query.rt:57:1
 returns-2 : tie.Need-returns-2
 returns-2 c =
     let d = c .before .before .before .before .before .before in
@@ -96,11 +74,9 @@ returns-2 c =
     settled-kept (a .owners .now) (a .offsets .now) (a .targets .now) (a .alpha) (a .p) (a .s) (a .held) (a .regions) (a .entries) (a .v) (a .work .now)
     (g .pre) (d .set-region .ensures) (λ own none. c .if2 .left none)
 
--- src/query.rt:57:1
 same-length-3 : tie.Need-same-length-3
 same-length-3 c = search needs
 
--- src/query.rt:57:1
 returns-3 : tie.Need-returns-3
 returns-3 c =
     let d = c .before .before .before .before in

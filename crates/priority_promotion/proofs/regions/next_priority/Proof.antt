@@ -6,8 +6,6 @@ use native.Mathlib.Omega.{arith}
 use Rattle.priority_promotion.specs.Regions.{NoneFrom, none-further, found-highest, none-highest}
 use Rattle.priority_promotion.proofs.regions.next_priority.Statement.{statement}
 use Rattle.priority_promotion.proofs.regions.next_priority.Tie as tie
-use Rattle.priority_promotion.proofs.regions.next_priority.Reads as reads
-use Rattle.priority_promotion.proofs.regions.next_priority.Lts as lts
 
 abbrev Inv-loop : tie.InvT-loop
 Inv-loop n work regions under q₀ q = (q ≤ under) × NoneFrom n regions under work q
@@ -15,31 +13,24 @@ Inv-loop n work regions under q₀ q = (q ≤ under) × NoneFrom n regions under
 abbrev μ-loop : tie.MeasureT-loop
 μ-loop n work regions under q₀ q = q
 
--- src/regions.rt:42:5
 loop-holds : tie.Need-loop-holds Inv-loop μ-loop
 loop-holds c = (search needs, λ v l below. below)
 
--- src/regions.rt:43:9
 sub-q : tie.Need-sub-q Inv-loop μ-loop
 sub-q c = search needs
 
--- src/regions.rt:44:17
 add-if1 : tie.Need-add-if1 Inv-loop μ-loop
 add-if1 c = search needs
 
--- src/regions.rt:44:17
 add-if1-2 : tie.Need-add-if1-2 Inv-loop μ-loop
 add-if1-2 c = search needs
 
--- src/regions.rt:44:12
 mul-if1 : tie.Need-mul-if1 Inv-loop μ-loop
 mul-if1 c = search needs
 
--- src/regions.rt:44:12
 shared-slice-read-if1 : tie.Need-shared-slice-read-if1 Inv-loop μ-loop
 shared-slice-read-if1 c = search needs
 
--- src/regions.rt:45:13
 returns : tie.Need-returns Inv-loop μ-loop
 returns c =
     let d = c .before .before .before in
@@ -48,11 +39,9 @@ returns c =
     found-highest (a .n) (a .regions) (a .under) (a .work .now) (g .pre .0) (g .pre .1) (d .loop .q - 1) (omega arith)
     (λ v l below. let less = d .loop .inv .1 v l below in omega arith) (c .if1 .taken)
 
--- src/regions.rt:42:5
 loop-less : tie.Need-loop-less Inv-loop μ-loop
 loop-less c = search needs
 
--- src/regions.rt:42:5
 loop-again : tie.Need-loop-again Inv-loop μ-loop
 loop-again c =
     let d = c .before .before .before in
@@ -63,7 +52,6 @@ loop-again c =
           (λ v l below. let less = d .loop .inv .1 v l below in omega arith) (c .if1 .left),
     )
 
--- src/regions.rt:37:1
 returns-2 : tie.Need-returns-2 Inv-loop μ-loop
 returns-2 c =
     let g = c .before .before in

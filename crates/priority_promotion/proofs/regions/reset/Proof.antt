@@ -4,43 +4,31 @@ use Rattle.priority_promotion.specs.Cells.{changes-both}
 use borrow.Author.Needs.{needs}
 use Rattle.priority_promotion.proofs.regions.reset.Statement.{statement}
 use Rattle.priority_promotion.proofs.regions.reset.Tie as tie
-use Rattle.priority_promotion.proofs.regions.reset.Reads as reads
-use Rattle.priority_promotion.proofs.regions.reset.Lts as lts
-use Rattle.priority_promotion.proofs.regions.set_region.Reads as set-region-reads
 
--- src/regions.rt:31:13
 mul-p : tie.Need-mul-p
 mul-p c = search needs
 
--- src/regions.rt:31:13
 shared-slice-read-p : tie.Need-shared-slice-read-p
 shared-slice-read-p c = search needs
 
--- src/regions.rt:31:13
 cast-p : tie.Need-cast-p
 cast-p c = search needs
 
--- src/regions.rt:32:5
 set-region-requires : tie.Need-set-region-requires
 set-region-requires c κs = search needs
 
--- src/regions.rt:33:10
 add-work : tie.Need-add-work
 add-work c = search needs
 
--- src/regions.rt:33:5
 mul-work : tie.Need-mul-work
 mul-work c = search needs
 
--- src/regions.rt:33:5
 slice-write-work : tie.Need-slice-write-work
 slice-write-work c = search needs
 
--- src/regions.rt:23:1
 same-length : tie.Need-same-length
 same-length c = search needs
 
--- src/regions.rt:23:1
 returns : tie.Need-returns
 returns c =
     let g = c .before .before .before .before .before .before .before in

@@ -5,90 +5,68 @@ use Rattle.priority_promotion.specs.Regions.{old-counted, taken-few, reg
 use borrow.Author.Needs.{needs}
 use Rattle.priority_promotion.proofs.regions.set_region.Statement.{statement}
 use Rattle.priority_promotion.proofs.regions.set_region.Tie as tie
-use Rattle.priority_promotion.proofs.regions.set_region.Reads as reads
-use Rattle.priority_promotion.proofs.regions.set_region.Lts as lts
 
--- src/regions.rt:16:20
 add-old : tie.Need-add-old
 add-old c = search needs
 
--- src/regions.rt:16:15
 mul-old : tie.Need-mul-old
 mul-old c = search needs
 
--- src/regions.rt:16:15
 slice-read-old : tie.Need-slice-read-old
 slice-read-old c = search needs
 
--- src/regions.rt:17:10
 add-work : tie.Need-add-work
 add-work c = search needs
 
--- src/regions.rt:17:10
 add-work-2 : tie.Need-add-work-2
 add-work-2 c = omega (arith, c .before .pre .tallied .high (c .before .args .v) (c .before .pre .small))
 
--- src/regions.rt:17:5
 mul-work : tie.Need-mul-work
 mul-work c = omega (arith, c .before .pre .tallied .high (c .before .args .v) (c .before .pre .small))
 
--- src/regions.rt:17:5
 slice-read-work : tie.Need-slice-read-work
 slice-read-work c = omega (arith, c .before .before .pre .tallied .high (c .before .before .args .v) (c .before .before .pre .small))
 
--- src/regions.rt:17:5
 sub-work : tie.Need-sub-work
 sub-work c =
     let g = c .before .before in
     old-counted (g .args .n) (g .args .regions) (g .args .v) (g .args .region .0) (g .args .work .now) (g .pre)
 
--- src/regions.rt:17:5
 slice-write-work : tie.Need-slice-write-work
 slice-write-work c = omega (arith, c .before .before .pre .tallied .high (c .before .before .args .v) (c .before .before .pre .small))
 
--- src/regions.rt:18:10
 add-work-3 : tie.Need-add-work-3
 add-work-3 c = search needs
 
--- src/regions.rt:18:10
 add-work-4 : tie.Need-add-work-4
 add-work-4 c = search needs
 
--- src/regions.rt:18:5
 mul-work-2 : tie.Need-mul-work-2
 mul-work-2 c = search needs
 
--- src/regions.rt:18:5
 slice-read-work-2 : tie.Need-slice-read-work-2
 slice-read-work-2 c = simp length-set (omega arith)
 
--- src/regions.rt:18:5
 add-work-5 : tie.Need-add-work-5
 add-work-5 c =
     let g = c .before .before .before in
     omega (arith, taken-few (g .args .n) (g .args .regions) (g .args .v) (g .args .region .0) (g .args .work .now) (g .pre) (g .args .region .0) (g .pre .most))
 
--- src/regions.rt:18:5
 slice-write-work-2 : tie.Need-slice-write-work-2
 slice-write-work-2 c = simp length-set (omega arith)
 
--- src/regions.rt:19:10
 add-work-6 : tie.Need-add-work-6
 add-work-6 c = search needs
 
--- src/regions.rt:19:5
 mul-work-3 : tie.Need-mul-work-3
 mul-work-3 c = search needs
 
--- src/regions.rt:19:5
 slice-write-work-3 : tie.Need-slice-write-work-3
 slice-write-work-3 c = simp length-set (omega arith)
 
--- src/regions.rt:11:1
 same-length : tie.Need-same-length
 same-length c = search needs
 
--- src/regions.rt:11:1
 returns : tie.Need-returns
 returns c =
     let g = c .before .before .before in

@@ -1,27 +1,13 @@
 -- `round` meets its contract: each call finds what it asks for, and the three ways out are the three kinds of round.
 use mathlib.Core.Logic.{inr}
 use mathlib.Core.Path.{refl, sym, _∙_}
-use native.Mathlib.Nat.{le-refl}
 use native.Mathlib.Omega.{arith}
-use lib.Dec.{eqb}
-use lib.ListN.{length}
-use Rattle.theory.specs.Basics.{count-le}
-use Rattle.priority_promotion.specs.Layout.{regionsAt}
-use Rattle.priority_promotion.specs.Regions.{regionAt}
 use Rattle.priority_promotion.specs.Query.{Queried}
 use Rattle.priority_promotion.specs.Round.{current-small, round-query, escapes, open-told, round-opens, round-promote-ready, promoted-same}
-use Rattle.priority_promotion.specs.Round.{round-promotes, round-dominion-ready, left-counted, round-solves}
+use Rattle.priority_promotion.specs.Round.{round-promotes, round-dominion-ready, left-few, left-counted, round-solves}
 use borrow.Author.Needs.{needs}
 use Rattle.priority_promotion.proofs.round.round.Statement.{statement}
 use Rattle.priority_promotion.proofs.round.round.Tie as tie
-use Rattle.priority_promotion.proofs.round.round.Reads as reads
-use Rattle.priority_promotion.proofs.round.round.Lts as lts
-use Rattle.priority_promotion.proofs.dominion.solve_dominion.Reads as solve-dominion-reads
-use Rattle.priority_promotion.proofs.open.is_open.Reads as is-open-reads
-use Rattle.priority_promotion.proofs.promote.apply_priority_promotion.Reads as apply-priority-promotion-reads
-use Rattle.priority_promotion.proofs.promote.best_escape.Reads as best-escape-reads
-use Rattle.priority_promotion.proofs.query.query.Reads as query-reads
-use Rattle.priority_promotion.proofs.regions.next_priority.Reads as next-priority-reads
 
 -- where the function begins
 abbrev first : tie.After-query → tie.Start
@@ -37,51 +23,39 @@ queried :
     Queried (a .owners .now) (a .priorities .now) (a .offsets .now) (a .targets .now) (a .s) (a .state .current .0) (a .work .now) (c .query .last .1 .1 .1 .1 .1 .0)
 queried c = let g = first c in c .query .ensures (g .args .priorities .now) (g .pre .accepted)
 
--- src/round.rt:39:19
 add-entries : tie.Need-add-entries
 add-entries c = search needs
 
--- src/round.rt:39:19
 add-entries-2 : tie.Need-add-entries-2
 add-entries-2 c = search needs
 
--- src/round.rt:39:19
 add-entries-3 : tie.Need-add-entries-3
 add-entries-3 c = search needs
 
--- src/round.rt:39:19
 add-entries-4 : tie.Need-add-entries-4
 add-entries-4 c = search needs
 
--- src/round.rt:40:20
 add-unsolved : tie.Need-add-unsolved
 add-unsolved c = search needs
 
--- src/round.rt:41:16
 add-held : tie.Need-add-held
 add-held c = search needs
 
--- src/round.rt:41:16
 add-held-2 : tie.Need-add-held-2
 add-held-2 c = search needs
 
--- src/round.rt:42:26
 mul-regions : tie.Need-mul-regions
 mul-regions c = search needs
 
--- src/round.rt:42:19
 add-regions : tie.Need-add-regions
 add-regions c = search needs
 
--- src/round.rt:44:17
 cast-alpha : tie.Need-cast-alpha
 cast-alpha c = search needs
 
--- src/round.rt:45:18
 add-rounds : tie.Need-add-rounds
 add-rounds c = search needs
 
--- src/round.rt:46:5
 query-requires : tie.Need-query-requires
 query-requires c κs =
     let g = c .before .before .before .before .before .before .before in
@@ -89,7 +63,6 @@ query-requires c κs =
     round-query (a .owners .now) (a .priorities .now) (a .offsets .now) (a .targets .now) (g .pre .accepted) (a .s) (g .pre .made)
     (a .state .current .0) (a .state .unsolved) (a .work .now) (g .pre .shows)
 
--- src/round.rt:47:8
 is-open-requires : tie.Need-is-open-requires
 is-open-requires c κs =
     let q = c .before .before .before in
@@ -97,7 +70,6 @@ is-open-requires c κs =
     let a = g .args in
     escapes (a .owners .now) (a .priorities .now) (a .offsets .now) (a .targets .now) (g .pre .accepted) (a .s) (g .pre .made) (a .state .current .0) (a .state .unsolved) (a .work .now) (g .pre .shows) (queried q)
 
--- src/round.rt:48:13
 next-priority-requires : tie.Need-next-priority-requires
 next-priority-requires c κs =
     let q = asked (c .before .before) in
@@ -107,11 +79,9 @@ next-priority-requires c κs =
     (a .state .current .0) (a .state .unsolved) (a .work .now) (g .pre .shows) in
     (queried q .ready .tallied, omega arith)
 
--- src/round.rt:49:9
 same-length : tie.Need-same-length
 same-length c = search needs
 
--- src/round.rt:49:9
 returns : tie.Need-returns
 returns c =
     let d = c .before .before .before in
@@ -128,7 +98,6 @@ returns c =
       rest = λ i l. queried q .rest i (omega arith) (inr l);
     }
 
--- src/round.rt:51:9
 best-escape-requires : tie.Need-best-escape-requires
 best-escape-requires c κs =
     let q = asked (c .before .before) in
@@ -136,7 +105,6 @@ best-escape-requires c κs =
     let a = g .args in
     escapes (a .owners .now) (a .priorities .now) (a .offsets .now) (a .targets .now) (g .pre .accepted) (a .s) (g .pre .made) (a .state .current .0) (a .state .unsolved) (a .work .now) (g .pre .shows) (queried q)
 
--- src/round.rt:53:9
 apply-priority-promotion-requires : tie.Need-apply-priority-promotion-requires
 apply-priority-promotion-requires c κs =
     let b = c .before .before in
@@ -147,11 +115,9 @@ apply-priority-promotion-requires c κs =
     round-promote-ready (a .owners .now) (a .priorities .now) (a .offsets .now) (a .targets .now) (g .pre .accepted) (a .s) (g .pre .made) (a .state .current .0) (a .state .unsolved) (a .work .now) (g .pre .shows) (queried q)
     (sym (open-told (a .owners .now) (a .priorities .now) (a .offsets .now) (a .targets .now) (g .pre .accepted) (a .s) (g .pre .made) (a .state .current .0) (a .state .unsolved) (a .work .now) (g .pre .shows) (queried q) (d .is-open .ensures)) ∙ b .before .before .if1 .left) (b .best-escape .ensures)
 
--- src/round.rt:54:9
 same-length-2 : tie.Need-same-length-2
 same-length-2 c = search needs
 
--- src/round.rt:54:9
 returns-2 : tie.Need-returns-2
 returns-2 c =
     let e = c .before .before in
@@ -175,7 +141,6 @@ returns-2 c =
       rest = λ i l. same .1 i l ∙ queried q .rest i (omega arith) (inr l);
     }
 
--- src/round.rt:56:5
 solve-dominion-requires : tie.Need-solve-dominion-requires
 solve-dominion-requires c κs =
     let b = c .before .before in
@@ -186,52 +151,45 @@ solve-dominion-requires c κs =
     round-dominion-ready (a .owners .now) (a .priorities .now) (a .offsets .now) (a .targets .now) (g .pre .accepted) (a .s) (g .pre .made) (a .state .current .0) (a .state .unsolved) (a .work .now) (g .pre .shows) (queried q)
     (sym (open-told (a .owners .now) (a .priorities .now) (a .offsets .now) (a .targets .now) (g .pre .accepted) (a .s) (g .pre .made) (a .state .current .0) (a .state .unsolved) (a .work .now) (g .pre .shows) (queried q) (d .is-open .ensures)) ∙ b .before .before .if1 .left) (b .best-escape .ensures)
 
--- src/round.rt:57:25
-add-left : tie.Need-add-left
-add-left c =
+add-size : tie.Need-add-size
+add-size c =
     let e = c .before .before in
     let q = asked (e .before .before .before .before .before .before) in
     omega (arith, e .solve-dominion .ensures .ready .tallied .room, e .solve-dominion .ensures .long, queried q .long, first q .good)
 
--- src/round.rt:57:25
-add-left-2 : tie.Need-add-left-2
-add-left-2 c =
-    let e = c .before .before in
-    let q = asked (e .before .before .before .before .before .before) in
-    omega (arith, e .solve-dominion .ensures .ready .tallied .room, e .solve-dominion .ensures .long, queried q .long, first q .good)
+mul-size : tie.Need-mul-size
+mul-size c = search needs
 
--- src/round.rt:57:20
-mul-left : tie.Need-mul-left
-mul-left c =
-    let e = c .before .before in
-    let q = asked (e .before .before .before .before .before .before) in
-    omega (arith, e .solve-dominion .ensures .ready .tallied .room, e .solve-dominion .ensures .long, queried q .long, first q .good)
+sub-size : tie.Need-sub-size
+sub-size c = search needs
 
--- src/round.rt:57:20
-slice-read-left : tie.Need-slice-read-left
-slice-read-left c = search needs
+part-size-start : tie.Need-part-size-start
+part-size-start c = search needs
 
--- src/round.rt:57:16
-sub-left : tie.Need-sub-left
-sub-left c =
-    let e = c .before .before .before in
-    let a = first (asked (e .before .before .before .before .before .before)) .args in
-    let n = length (a .owners .now) in
-    let counted = e .solve-dominion .ensures .ready .tallied .counts 256 (le-refl 256) in
-    omega (arith, count-le n (λ v. eqb (regionAt (regionsAt n (length (a .targets .now)) (a .s)) (e .solve-dominion .last .1 .1 .1 .1 .1 .1 .0) v) 256))
+part-size-end : tie.Need-part-size-end
+part-size-end c = search needs
 
--- src/round.rt:58:9
+size-requires : tie.Need-size-requires
+size-requires c κs =
+    let e = c .before .before .before .before in
+    let b = e .before .before .before in
+    let d = b .before .before .before in
+    let q = asked d in
+    let g = first q in
+    let a = g .args in
+    left-few (a .owners .now) (a .priorities .now) (a .offsets .now) (a .targets .now) (g .pre .accepted) (a .s) (g .pre .made) (a .state .current .0) (a .state .unsolved) (a .work .now) (g .pre .shows) (queried q)
+    (sym (open-told (a .owners .now) (a .priorities .now) (a .offsets .now) (a .targets .now) (g .pre .accepted) (a .s) (g .pre .made) (a .state .current .0) (a .state .unsolved) (a .work .now) (g .pre .shows) (queried q) (d .is-open .ensures)) ∙ b .before .before .if1 .left) (b .best-escape .ensures)
+    (e .before .before .if2 .left) (e .solve-dominion .ensures)
+
 next-priority-requires-2 : tie.Need-next-priority-requires-2
 next-priority-requires-2 c κs = search needs
 
--- src/round.rt:19:1
 same-length-3 : tie.Need-same-length-3
 same-length-3 c = search needs
 
--- src/round.rt:19:1
 returns-3 : tie.Need-returns-3
 returns-3 c =
-    let e = c .before .before .before .before .before in
+    let e = c .before .before .before .before .before .before .before in
     let b = e .before .before .before in
     let d = b .before .before .before in
     let q = asked d in
@@ -247,7 +205,7 @@ returns-3 c =
           round-solves (a .owners .now) (a .priorities .now) (a .offsets .now) (a .targets .now) (g .pre .accepted) (a .s) k (a .state .current .0) (a .state .unsolved) (a .work .now) sh (queried q)
           closed (b .best-escape .ensures) more (e .solve-dominion .ensures) (c .next-priority2 .ensures)
           (left-counted (a .owners .now) (a .priorities .now) (a .offsets .now) (a .targets .now) (g .pre .accepted) (a .s) k (a .state .current .0) (a .state .unsolved) (a .work .now) sh (queried q)
-          closed (b .best-escape .ensures) more (e .solve-dominion .ensures) refl);
+          closed (b .best-escape .ensures) more (e .solve-dominion .ensures) (c .before .before .size .ensures));
       rest = λ i l. e .solve-dominion .ensures .rest i l ∙ queried q .rest i (omega arith) (inr l);
     }
 
@@ -276,11 +234,12 @@ round-spec =
     same-length-2
     returns-2
     solve-dominion-requires
-    add-left
-    add-left-2
-    mul-left
-    slice-read-left
-    sub-left
+    add-size
+    mul-size
+    sub-size
+    part-size-start
+    part-size-end
+    size-requires
     next-priority-requires-2
     same-length-3
     returns-3)

@@ -9,9 +9,6 @@ use Rattle.solitaire_game.specs.Gathering.{Gathered, gathered-none, gath
 use borrow.Author.Needs.{needs}
 use Rattle.solitaire_game.proofs.marking.gather.Statement.{statement}
 use Rattle.solitaire_game.proofs.marking.gather.Tie as tie
-use Rattle.solitaire_game.proofs.marking.gather.Reads as reads
-use Rattle.solitaire_game.proofs.marking.gather.Lts as lts
-use Rattle.sets.proofs.insert.Reads as insert-reads
 
 abbrev Inv-loop : tie.InvT-loop
 Inv-loop work₀ n s row set v₀ work v = (v ≤ n) × (length work ≡ length work₀) × Gathered n row set v work₀ work

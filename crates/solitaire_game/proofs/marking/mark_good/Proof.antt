@@ -7,11 +7,6 @@ use native.Mathlib.Omega.{arith}
 use borrow.Author.Needs.{needs}
 use Rattle.solitaire_game.proofs.marking.mark_good.Statement.{statement}
 use Rattle.solitaire_game.proofs.marking.mark_good.Tie as tie
-use Rattle.solitaire_game.proofs.marking.mark_good.Reads as reads
-use Rattle.solitaire_game.proofs.marking.mark_good.Lts as lts
-use Rattle.parts.proofs.clear.Reads as clear-reads
-use Rattle.parts.proofs.mark_parity.Reads as mark-parity-reads
-use Rattle.predecessors.proofs.build.Reads as build-reads
 
 -- the tables as lent
 abbrev tables : tie.Start → Tables

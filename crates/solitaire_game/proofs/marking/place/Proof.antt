@@ -3,11 +3,6 @@ use Rattle.solitaire_game.specs.Gathering.{fill-fits, gather-ready, both
 use borrow.Author.Needs.{needs}
 use Rattle.solitaire_game.proofs.marking.place.Statement.{statement}
 use Rattle.solitaire_game.proofs.marking.place.Tie as tie
-use Rattle.solitaire_game.proofs.marking.place.Reads as reads
-use Rattle.solitaire_game.proofs.marking.place.Lts as lts
-use Rattle.sets.proofs.clear.Reads as clear-reads
-use Rattle.sets.proofs.fill.Reads as fill-reads
-use Rattle.solitaire_game.proofs.marking.gather.Reads as gather-reads
 
 add-clear : tie.Need-add-clear
 add-clear c = search needs
