@@ -12,37 +12,25 @@
  * vertex or RECKONBOUGH_NONE. The work area is W words or more; reckonbough_work_words gives W. It may hold anything.
  *
  * Every slice is a pointer and the number of its elements (not bytes). The pointer is aligned for its type and good for
- * that many elements; a null pointer with length 0 is an empty slice. What a function writes to (place and count too)
- * overlaps nothing else that it is lent in that call. Apart from that every content and every length is answered.
- * Nothing of it is kept after the call.
+ * that many elements; a null pointer with length 0 is an empty slice. place and count are not null. What a function writes
+ * to (place and count too) overlaps nothing else that it is lent in that call. Apart from that every content and every
+ * length is answered.
  *
- * Each function returns a number and writes a place and a count. Of 1 to 24 it is the first that applies, else 0:
- *   number                                                                              place
- *    0  answered, the checker's yes included                                            0
- *    1  n above 4096                                                                    0
- *    2  priorities not n or offsets not n + 1 long                                      0
- *    3  m above 16384                                                                   0
- *    4  an owner that is not 0 or 1                                                     lowest vertex
- *    5  a priority above 255                                                            lowest vertex
- *    6  the first offset is not 0; or one is above the next; or the last is not m       0; lowest index; n
- *    7  a target not below n                                                            lowest edge
- *    8  a vertex without an edge                                                        lowest vertex
- *    9  a set not s words, a strategy or a table of new priorities not n entries long   0
- *   10  a work area shorter than W                                                      0
- *   11  solitaire: two owners differ                                                    0
- *   12  attractor: a bit at n or above, or a bit of target that is not in within        lowest such bit
- *   13  more calls or rounds are needed than the budget                                 0
- *   21  checker: a vertex in both sets or in neither, or a bit at n or above            lowest bit
- *   22  checker: an entry where the vertex's owner does not win it, or one that is no
- *       target of the vertex's edges where the owner does                               lowest vertex
- *   23  checker: the entry's edge at a vertex whose owner wins it, or any edge at
- *       another vertex, ends outside the winner's set                                   lowest vertex
- *   24  checker: a cycle of those edges inside a set, whose highest priority has the
- *       other player's parity                                                           lowest vertex on one
- * The count of an answer is what the function says below. With 13 it is the budget, with every other number 0.
+ * Nothing of it is kept after the call, and no state is kept between calls: several threads may call at the same time, each
+ * with a place, a count, a work area and outputs of its own. What is only read may be shared.
+ *
+ * Each function returns a number, named below, and writes a place and a count. The count of an answer is what the function
+ * says below. With 13 it is the budget, with every other number 0.
  *
  * Numbers 1 to 12 write nothing but place and count. With 13 the sets and the strategy stay as they were. With 0, 13 and
  * 21 to 24 the first W words of the work area are zero afterwards; words beyond W never change.
+ *
+ * The budget is the most calls of reckonbough_zielonka, or rounds of reckonbough_priority_promotion. Let d be the number of
+ * different priorities. 2 * (C(n,0) + C(n,1) + ... + C(n,d)) - 1 calls and n * (n + 2)^d rounds are always enough; both are
+ * proved. UINT64_MAX asks for an answer however long it takes.
+ *
+ * Stack, on x86-64: reckonbough_zielonka nests at most n + 1 calls of itself, 384 bytes each; a thread with 2 MiB of stack is
+ * enough for every game. Every other function needs less than 2 KiB.
  */
 #ifndef RECKONBOUGH_H
 #define RECKONBOUGH_H
@@ -57,6 +45,35 @@
 #define RECKONBOUGH_MAX_VERTICES 4096
 #define RECKONBOUGH_MAX_EDGES 16384
 #define RECKONBOUGH_MAX_PRIORITY 255
+
+/*
+ * The numbers. Of 1 to 24 it is the first that applies, else 0. The place is 0 where the line says none. Later versions may
+ * have more numbers; none of them is an answer.
+ */
+#define RECKONBOUGH_ANSWERED 0          /* an answer, the checker's yes included */
+#define RECKONBOUGH_TOO_MANY_VERTICES 1 /* n above 4096 */
+#define RECKONBOUGH_BAD_TABLE_LENGTHS 2 /* priorities not n or offsets not n + 1 long */
+#define RECKONBOUGH_TOO_MANY_EDGES 3    /* m above 16384 */
+#define RECKONBOUGH_BAD_OWNER 4         /* an owner that is not 0 or 1; place: lowest vertex */
+#define RECKONBOUGH_BAD_PRIORITY 5      /* a priority above 255; place: lowest vertex */
+#define RECKONBOUGH_BAD_OFFSET 6        /* the first offset is not 0, or one is above the next, or the last is not m;
+                                           place: 0, or lowest index, or n */
+#define RECKONBOUGH_BAD_TARGET 7        /* a target not below n; place: lowest edge */
+#define RECKONBOUGH_NO_EDGE 8           /* a vertex without an edge; place: lowest vertex */
+#define RECKONBOUGH_BAD_SIZE 9          /* a set not s words, a strategy or a table of new priorities not n entries long */
+#define RECKONBOUGH_SHORT_WORK_AREA 10  /* a work area shorter than W */
+#define RECKONBOUGH_OWNERS_DIFFER 11    /* solitaire: two owners differ */
+#define RECKONBOUGH_BAD_BIT 12          /* attractor: a bit at n or above, or a bit of target that is not in within;
+                                           place: lowest such bit */
+#define RECKONBOUGH_OVER_BUDGET 13      /* more calls or rounds are needed than the budget */
+#define RECKONBOUGH_NOT_ONE_WINNER 21   /* checker: a vertex in both sets or in neither, or a bit at n or above;
+                                           place: lowest bit */
+#define RECKONBOUGH_BAD_ENTRY 22        /* checker: an entry where the vertex's owner does not win it, or one that is no
+                                           target of the vertex's edges where the owner does; place: lowest vertex */
+#define RECKONBOUGH_LEAVES_SET 23       /* checker: the entry's edge at a vertex whose owner wins it, or any edge at another
+                                           vertex, ends outside the winner's set; place: lowest vertex */
+#define RECKONBOUGH_LOST_CYCLE 24       /* checker: a cycle of those edges inside a set, whose highest priority has the
+                                           other player's parity; place: lowest vertex on one */
 
 #ifdef __cplusplus
 extern "C" {

@@ -1,6 +1,6 @@
 /*
- * What only C can pass: null pointers for empty slices, and players and flags other than 0 and 1; and the largest game. Every
- * function is called.
+ * The names of the numbers; what only C can pass: null pointers for empty slices, and players and flags other than 0 and 1;
+ * and the largest game. Every function is called.
  * Each line is what was asked and the number, the place and the count given; tests/doors compares them.
  */
 #include <inttypes.h>
@@ -15,6 +15,35 @@ static void print(const char *asked, uint64_t number)
 {
     printf("%s: %" PRIu64 " %" PRIu64 " %" PRIu64 "\n", asked, number, place, count);
     place = count = UINT64_MAX;
+}
+
+/* The header's names for the numbers, in order. */
+static void names(void)
+{
+    static const int numbers[] = {
+        RECKONBOUGH_ANSWERED,
+        RECKONBOUGH_TOO_MANY_VERTICES,
+        RECKONBOUGH_BAD_TABLE_LENGTHS,
+        RECKONBOUGH_TOO_MANY_EDGES,
+        RECKONBOUGH_BAD_OWNER,
+        RECKONBOUGH_BAD_PRIORITY,
+        RECKONBOUGH_BAD_OFFSET,
+        RECKONBOUGH_BAD_TARGET,
+        RECKONBOUGH_NO_EDGE,
+        RECKONBOUGH_BAD_SIZE,
+        RECKONBOUGH_SHORT_WORK_AREA,
+        RECKONBOUGH_OWNERS_DIFFER,
+        RECKONBOUGH_BAD_BIT,
+        RECKONBOUGH_OVER_BUDGET,
+        RECKONBOUGH_NOT_ONE_WINNER,
+        RECKONBOUGH_BAD_ENTRY,
+        RECKONBOUGH_LEAVES_SET,
+        RECKONBOUGH_LOST_CYCLE,
+    };
+    printf("numbers:");
+    for (size_t i = 0; i < sizeof numbers / sizeof *numbers; i++)
+        printf(" %d", numbers[i]);
+    printf("\n");
 }
 
 /* C1, with a null pointer wherever the length is 0. */
@@ -94,6 +123,7 @@ static void most_vertices(void)
 
 int main(void)
 {
+    names();
     no_vertices();
     players_and_flags();
     most_vertices();

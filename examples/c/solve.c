@@ -9,7 +9,7 @@
 #include "reckonbough.h"
 
 /* Vertex 0 is Even's, with priority 2 and an edge to 1; vertex 1 is Odd's, with priority 0 and edges to 0 and 1. */
-enum { N = 2, M = 3, S = 1 };
+enum { N = 2, M = 3, S = (N + 63) / 64 };
 static const uint8_t owners[N] = {0, 1};
 static const uint16_t priorities[N] = {2, 0};
 static const uint16_t offsets[N + 1] = {0, 1, 3};
@@ -36,7 +36,7 @@ static void print_checked(void)
         printf("\n");
     }
     uint64_t number = reckonbough_check(TABLES, even, S, odd, S, strategy, N, work, work_length, &place, &count);
-    if (number == 0)
+    if (number == RECKONBOUGH_ANSWERED)
         printf("checked: yes\n");
     else
         printf("checked: %" PRIu64 " at %" PRIu64 "\n", number, place);
@@ -45,7 +45,7 @@ static void print_checked(void)
 /* Ends the program where a solver refused. */
 static void answered(uint64_t number)
 {
-    if (number != 0) {
+    if (number != RECKONBOUGH_ANSWERED) {
         fprintf(stderr, "refused: %" PRIu64 " at %" PRIu64 "\n", number, place);
         exit(1);
     }
