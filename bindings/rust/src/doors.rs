@@ -1,36 +1,23 @@
 //! The library's functions, on slices. include/reckonbough.h says of each what it reads, writes and gives. Every content and
-//! every length is answered, so each is safe. This is the one module with unsafe code: it calls the C functions.
+//! every length is answered, so each is safe; none of them panics, allocates or keeps anything. This is the one module with
+//! unsafe code: it calls the C functions.
+//!
+//! A set is [`set_words`] words, vertex v at bit v % 64 of word v / 64. A strategy is n entries, and so are new priorities.
+//! A work area is [`work_words`] words or more. For [`zielonka`] 2 MiB of stack are enough on x86-64, the size that
+//! `std::thread` gives.
 
-/// The four tables of a game, not yet checked.
-#[derive(Clone, Copy, Debug, PartialEq, Eq)]
-pub struct Tables<'a> {
-    /// 0 Even, 1 Odd.
-    pub owners: &'a [u8],
-    /// At most 255 each.
-    pub priorities: &'a [u16],
-    /// The edges of vertex v stand from `offsets[v]` up to `offsets[v + 1]`.
-    pub offsets: &'a [u16],
-    /// Where each edge ends.
-    pub targets: &'a [u16],
-}
-
-/// What every function gives.
-#[derive(Clone, Copy, Debug, PartialEq, Eq)]
-pub struct Answer {
-    /// 0 for an answer; otherwise the number of the refusal, or of the checker's finding.
-    pub number: u64,
-    /// Where the refusal or the finding lies; 0 with an answer.
-    pub place: u64,
-    /// Calls, rounds or looks of an answer, the budget with number 13, else 0.
-    pub count: u64,
-}
+use crate::{Answer, Tables};
 
 /// s: the words of a set of n vertices.
 pub fn set_words(n: usize) -> usize {
     n / 64 + usize::from(n % 64 != 0)
 }
 
-/// W: the fewest words of the work area for n vertices and m edges within the limits.
+/// W: the fewest words of the work area for n vertices and m edges within the limits; 2,147,600 for the largest game, 17 MB.
+///
+/// # Panics
+///
+/// In a debug build, with an n so far beyond the limits that W is no `usize`.
 pub fn work_words(n: usize, m: usize) -> usize {
     8 * (n + 2) * set_words(n) + 4 * n + 2 * m + 272
 }

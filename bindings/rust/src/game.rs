@@ -1,19 +1,45 @@
 //! A game that was checked, with the solvers as its methods.
 #![forbid(unsafe_code)]
 
-use crate::doors::{self, set_words, work_words, Answer, Tables};
-use crate::{Refusal, NONE};
+use crate::doors::{self, set_words, work_words};
+use crate::{Answer, Refusal, NONE};
 
-/// Even or Odd.
-#[derive(Clone, Copy, Debug, PartialEq, Eq)]
+/// Even or Odd; `player as u8` is the number in the tables.
+#[derive(Clone, Copy, Debug, PartialEq, Eq, Hash)]
 pub enum Player {
     /// Wins where the highest priority on a cycle is even; 0 in the tables.
-    Even,
+    Even = 0,
     /// Wins where it is odd; 1 in the tables.
-    Odd,
+    Odd = 1,
 }
 
-/// The tables of a game; they were checked when it was made, so no method gives the numbers 1 to 8.
+impl Player {
+    /// The other player.
+    pub fn opponent(self) -> Player {
+        match self {
+            Player::Even => Player::Odd,
+            Player::Odd => Player::Even,
+        }
+    }
+}
+
+/// The four tables of a game, not yet checked.
+#[derive(Clone, Copy, Debug, PartialEq, Eq)]
+pub struct Tables<'a> {
+    /// 0 Even, 1 Odd.
+    pub owners: &'a [u8],
+    /// At most 255 each.
+    pub priorities: &'a [u16],
+    /// The edges of vertex v stand from `offsets[v]` up to `offsets[v + 1]`.
+    pub offsets: &'a [u16],
+    /// Where each edge ends.
+    pub targets: &'a [u16],
+}
+
+/// The tables of a game. They were checked when it was made, so no method refuses them; each says what else it refuses.
+///
+/// Each call of a solver, of [`attractor`](Game::attractor) and of [`check`](Game::check) allocates a work area of its own,
+/// up to 17 MB for the largest game. [`doors`] has the same functions on buffers that can be used again.
 #[derive(Clone, Debug, PartialEq, Eq)]
 pub struct Game {
     owners: Vec<u8>,
@@ -37,6 +63,10 @@ pub struct Solved {
 
 impl Solved {
     /// Who wins the vertex.
+    ///
+    /// # Panics
+    ///
+    /// Where there is no such vertex.
     pub fn winner(&self, vertex: usize) -> Player {
         if self.odd[vertex] {
             Player::Odd
@@ -53,12 +83,15 @@ pub struct Attracted {
     pub set: Vec<bool>,
     /// The chosen target for each vertex of the player that was drawn in.
     pub strategy: Vec<Option<usize>>,
-    /// How many predecessor entries were met.
+    /// How many predecessor entries were met: the edges that end in the set.
     pub looks: u64,
 }
 
 impl Game {
     /// From the vertices in order: owner, priority and where its edges go.
+    ///
+    /// Refuses by [`Refusal::TooManyVertices`], [`TooManyEdges`](Refusal::TooManyEdges), [`Priority`](Refusal::Priority),
+    /// [`Target`](Refusal::Target) and [`NoEdge`](Refusal::NoEdge).
     pub fn new(vertices: &[(Player, u16, &[u16])]) -> Result<Game, Refusal> {
         let mut offsets = vec![0];
         let mut targets = Vec::new();
@@ -73,6 +106,8 @@ impl Game {
     }
 
     /// From the four tables.
+    ///
+    /// Refuses by the numbers 1 to 8, [`Refusal::TooManyVertices`] to [`Refusal::NoEdge`].
     pub fn from_tables(
         owners: Vec<u8>,
         priorities: Vec<u16>,
@@ -100,6 +135,10 @@ impl Game {
     }
 
     /// Who owns the vertex.
+    ///
+    /// # Panics
+    ///
+    /// Where there is no such vertex.
     pub fn owner(&self, vertex: usize) -> Player {
         if self.owners[vertex] == 0 {
             Player::Even
@@ -109,21 +148,36 @@ impl Game {
     }
 
     /// The vertex's priority.
+    ///
+    /// # Panics
+    ///
+    /// Where there is no such vertex.
     pub fn priority(&self, vertex: usize) -> u16 {
         self.priorities[vertex]
     }
 
-    /// Where the vertex's edges go.
+    /// Where the vertex's edges go, one or more targets in the table's order.
+    ///
+    /// # Panics
+    ///
+    /// Where there is no such vertex.
     pub fn successors(&self, vertex: usize) -> &[u16] {
         &self.targets[usize::from(self.offsets[vertex])..usize::from(self.offsets[vertex + 1])]
     }
 
     /// Solves by Zielonka's recursion, in at most `budget` calls. Without `compute_strategy` no entry is chosen.
+    ///
+    /// Refuses by [`Refusal::Budget`] alone. With n vertices and d different priorities 2·(C(n,0)+C(n,1)+...+C(n,d))−1 calls
+    /// are always enough; `u64::MAX` asks for an answer however long it takes. It nests at most n + 1 calls: on x86-64 2 MiB
+    /// of stack are enough, the size that `std::thread` gives.
     pub fn solve_zielonka(&self, compute_strategy: bool, budget: u64) -> Result<Solved, Refusal> {
         self.solve(doors::zielonka, compute_strategy, budget)
     }
 
     /// Solves by priority promotion, in at most `budget` rounds. Without `compute_strategy` no entry is chosen.
+    ///
+    /// Refuses by [`Refusal::Budget`] alone. With n vertices and d different priorities n·(n+2)^d rounds are always enough;
+    /// `u64::MAX` asks for an answer however long it takes.
     pub fn solve_priority_promotion(&self, compute_strategy: bool, budget: u64) -> Result<Solved, Refusal> {
         self.solve(doors::priority_promotion, compute_strategy, budget)
     }
@@ -137,6 +191,8 @@ impl Game {
     }
 
     /// The vertices that the owner of all vertices wins, for each vertex whether it is one.
+    ///
+    /// Refuses by [`Refusal::OwnersDiffer`].
     pub fn solve_solitaire_game(&self) -> Result<Vec<bool>, Refusal> {
         let mut set = self.set();
         doors::solitaire(self.tables(), &mut set, &mut self.work()).result()?;
@@ -144,6 +200,9 @@ impl Game {
     }
 
     /// The attractor of `target` in `within` for the player.
+    ///
+    /// Refuses by [`Refusal::Size`] where `within` or `target` has not one entry a vertex, and by [`Refusal::Bit`] at the
+    /// lowest vertex of `target` that is not in `within`.
     pub fn attractor(&self, player: Player, within: &[bool], target: &[bool]) -> Result<Attracted, Refusal> {
         let (mut set, mut strategy) = (self.set(), self.strategy());
         let (within, target) = (self.words(within)?, self.words(target)?);
@@ -154,6 +213,11 @@ impl Game {
     }
 
     /// Whether Even wins from `even` and Odd from `odd` by the strategy: yes, or the first thing that is wrong.
+    ///
+    /// Refuses by [`Refusal::Size`] where one of them has not one entry a vertex. What is wrong is one of
+    /// [`NotOneWinner`](Refusal::NotOneWinner), [`Entry`](Refusal::Entry), [`Leaves`](Refusal::Leaves) and
+    /// [`LostCycle`](Refusal::LostCycle). A run without `compute_strategy` leaves nothing to check by, and gets `Entry` where
+    /// an owner wins.
     pub fn check(&self, even: &[bool], odd: &[bool], strategy: &[Option<usize>]) -> Result<(), Refusal> {
         let entries: Vec<u16> = strategy.iter().map(|choice| entry(*choice)).collect();
         let (even, odd) = (self.words(even)?, self.words(odd)?);
@@ -161,7 +225,14 @@ impl Game {
         Ok(())
     }
 
-    /// The new priorities: small, in the same order, of the same parity, with the same winners.
+    /// The new priorities: small, in the same order, of the same parity, with the same winners. It refuses nothing.
+    ///
+    /// ```
+    /// # use reckonbough::{Game, Player::*};
+    /// let game = Game::new(&[(Even, 3, &[0]), (Odd, 7, &[0, 1]), (Even, 4, &[2, 1])])?;
+    /// assert_eq!(game.compact()?, [1, 3, 2]);
+    /// # Ok::<(), reckonbough::Refusal>(())
+    /// ```
     pub fn compact(&self) -> Result<Vec<u16>, Refusal> {
         let mut new_priorities = vec![0; self.vertices()];
         doors::compact(self.tables(), &mut new_priorities).result()?;

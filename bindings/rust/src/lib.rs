@@ -17,16 +17,13 @@
 #![deny(unsafe_code)]
 #![warn(missing_docs)]
 
+mod answer;
 #[allow(unsafe_code)]
 pub mod doors;
 mod game;
-mod refusal;
 
-pub use doors::{
-    attractor, check, check_tables, compact, priority_promotion, set_words, solitaire, work_words, zielonka, Answer, Tables,
-};
-pub use game::{Attracted, Game, Player, Solved};
-pub use refusal::Refusal;
+pub use answer::{Answer, Refusal};
+pub use game::{Attracted, Game, Player, Solved, Tables};
 
 /// A strategy entry that chooses nothing.
 pub const NONE: u16 = 65_535;

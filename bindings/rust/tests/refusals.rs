@@ -1,8 +1,9 @@
 //! Every refusal once, its place, and what it leaves of the lent slices.
 #![forbid(unsafe_code)]
 
+use reckonbough::doors::{self, set_words, work_words};
 use reckonbough::Player::{Even, Odd};
-use reckonbough::{set_words, work_words, Answer, Game, Refusal, Tables, MAX_EDGES, MAX_VERTICES, NONE};
+use reckonbough::{Answer, Game, Refusal, Tables, MAX_EDGES, MAX_VERTICES, NONE};
 
 fn refused(owners: &[u8], priorities: &[u16], offsets: &[u16], targets: &[u16]) -> Refusal {
     Game::from_tables(owners.to_vec(), priorities.to_vec(), offsets.to_vec(), targets.to_vec()).unwrap_err()
@@ -67,9 +68,43 @@ fn every_number_goes_both_ways() {
     for number in (1..=13).chain(21..=24) {
         let refusal = Answer { number, place: 0, count: 0 }.result().unwrap_err();
         assert_eq!(refusal.number_and_place(), (number, 0));
-        assert!(refusal.to_string().starts_with(&format!("{} at 0: ", number)));
     }
     assert_eq!(Answer { number: 0, place: 0, count: 7 }.result(), Ok(7));
+    let unknown = Answer { number: 99, place: 5, count: 0 }.result().unwrap_err();
+    assert_eq!(unknown, Refusal::Unknown { number: 99, place: 5 });
+    assert_eq!(unknown.number_and_place(), (99, 5));
+}
+
+#[test]
+fn a_refusal_says_its_place_where_it_has_one() {
+    let said = |number| Answer { number, place: 3, count: 0 }.result().unwrap_err().to_string();
+    for number in [1, 2, 3, 9, 10, 11, 13] {
+        assert!(said(number).starts_with(&format!("{}: ", number)), "{}", said(number));
+    }
+    for (number, what) in [
+        (4, "vertex"),
+        (5, "vertex"),
+        (6, "index"),
+        (7, "edge"),
+        (8, "vertex"),
+        (12, "bit"),
+        (21, "bit"),
+        (22, "vertex"),
+        (23, "vertex"),
+        (24, "vertex"),
+        (99, "place"),
+    ] {
+        assert!(said(number).starts_with(&format!("{} at {} 3: ", number, what)), "{}", said(number));
+    }
+    assert_eq!(Refusal::Owner(1).to_string(), "4 at vertex 1: the owner is neither 0 nor 1");
+    assert_eq!(Refusal::Budget.to_string(), "13: the budget is too small");
+}
+
+#[test]
+fn a_run_without_a_strategy_is_refused_by_the_checker() {
+    let game = Game::new(&[(Even, 1, &[0]), (Even, 2, &[1])]).unwrap();
+    let solved = game.solve_zielonka(false, u64::MAX).unwrap();
+    assert_eq!(game.check(&solved.even, &solved.odd, &solved.strategy), Err(Refusal::Entry(1)));
 }
 
 /// C6, with junk in everything that is lent: two words of work area more than needed.
@@ -115,7 +150,7 @@ fn sizes_are_those_of_document_01() {
 
 #[test]
 fn a_word_too_few_gets_10_and_writes_nothing() {
-    for solver in [reckonbough::zielonka as Solver, reckonbough::priority_promotion] {
+    for solver in [doors::zielonka as Solver, doors::priority_promotion] {
         let mut lent = Lent::junk();
         assert_eq!(lent.solve(solver, u64::MAX, W - 1), Answer { number: 10, place: 0, count: 0 });
         assert!(lent.outputs_kept() && lent.work == [JUNK; W + 2]);
@@ -124,17 +159,17 @@ fn a_word_too_few_gets_10_and_writes_nothing() {
     }
     let ten = Answer { number: 10, place: 0, count: 0 };
     let solitaire = Tables { owners: &[0, 0], ..C6 };
-    assert_eq!(reckonbough::solitaire(solitaire, &mut [0], &mut [0; W - 1]), ten);
-    assert_eq!(reckonbough::check(C6, &[0], &[3], &[NONE, 1], &mut [0; W - 1]), ten);
-    assert_eq!(reckonbough::attractor(C6, 0, &[3], &[1], &mut [0], &mut [0; 2], &mut [0; W - 1]), ten);
+    assert_eq!(doors::solitaire(solitaire, &mut [0], &mut [0; W - 1]), ten);
+    assert_eq!(doors::check(C6, &[0], &[3], &[NONE, 1], &mut [0; W - 1]), ten);
+    assert_eq!(doors::attractor(C6, 0, &[3], &[1], &mut [0], &mut [0; 2], &mut [0; W - 1]), ten);
 }
 
 #[test]
 fn budget_3_on_c6_gets_13_and_4_answers() {
     let mut lent = Lent::junk();
-    assert_eq!(lent.solve(reckonbough::zielonka, 3, W + 2), Answer { number: 13, place: 0, count: 3 });
+    assert_eq!(lent.solve(doors::zielonka, 3, W + 2), Answer { number: 13, place: 0, count: 3 });
     assert!(lent.outputs_kept() && lent.work_zeroed());
-    assert_eq!(lent.solve(reckonbough::zielonka, 4, W + 2), Answer { number: 0, place: 0, count: 4 });
+    assert_eq!(lent.solve(doors::zielonka, 4, W + 2), Answer { number: 0, place: 0, count: 4 });
     assert!(lent.work_zeroed());
     assert_eq!((lent.even, lent.odd, lent.strategy), (vec![0], vec![3], vec![NONE, 1]));
 }
@@ -142,20 +177,20 @@ fn budget_3_on_c6_gets_13_and_4_answers() {
 #[test]
 fn a_set_or_a_table_of_another_length_gets_9() {
     let nine = Answer { number: 9, place: 0, count: 0 };
-    for solver in [reckonbough::zielonka as Solver, reckonbough::priority_promotion] {
+    for solver in [doors::zielonka as Solver, doors::priority_promotion] {
         assert_eq!(solver(C6, true, 9, &mut [0; 2], &mut [0], &mut [0; 2], &mut [0; W]), nine);
         assert_eq!(solver(C6, true, 9, &mut [0], &mut [], &mut [0; 2], &mut [0; W]), nine);
         assert_eq!(solver(C6, true, 9, &mut [0], &mut [0], &mut [0; 3], &mut [0; W - 1]), nine);
     }
-    assert_eq!(reckonbough::compact(C6, &mut [0; 3]), nine);
-    assert_eq!(reckonbough::solitaire(C6, &mut [], &mut [0; W]), nine);
-    assert_eq!(reckonbough::check(C6, &[0], &[3; 2], &[NONE, 1], &mut [0; W]), nine);
-    assert_eq!(reckonbough::attractor(C6, 0, &[3], &[], &mut [0], &mut [0; 2], &mut [0; W]), nine);
+    assert_eq!(doors::compact(C6, &mut [0; 3]), nine);
+    assert_eq!(doors::solitaire(C6, &mut [], &mut [0; W]), nine);
+    assert_eq!(doors::check(C6, &[0], &[3; 2], &[NONE, 1], &mut [0; W]), nine);
+    assert_eq!(doors::attractor(C6, 0, &[3], &[], &mut [0], &mut [0; 2], &mut [0; W]), nine);
 }
 
 #[test]
 fn a_bit_at_n_or_above_gets_12_or_21() {
     let number = |number, place| Answer { number, place, count: 0 };
-    assert_eq!(reckonbough::attractor(C6, 0, &[0b111], &[0], &mut [0], &mut [0; 2], &mut [0; W]), number(12, 2));
-    assert_eq!(reckonbough::check(C6, &[1 << 63], &[3], &[NONE, 1], &mut [0; W]), number(21, 63));
+    assert_eq!(doors::attractor(C6, 0, &[0b111], &[0], &mut [0], &mut [0; 2], &mut [0; W]), number(12, 2));
+    assert_eq!(doors::check(C6, &[1 << 63], &[3], &[NONE, 1], &mut [0; W]), number(21, 63));
 }

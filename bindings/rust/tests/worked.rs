@@ -153,3 +153,32 @@ fn sets_of_two_words() {
     let attracted = game(&ring).attractor(Even, &thirds, &[false; 100]).unwrap();
     assert_eq!((attracted.set, attracted.looks), (vec![false; 100], 0));
 }
+
+/// The largest chain, 2,048 pairs: E2 to the pair's other, E1 to itself and to the next pair. It nests 2,049 calls.
+fn chain() -> Game {
+    let targets: Vec<Vec<u16>> =
+        (0..4096).map(|v| if v % 2 == 1 && v < 4095 { vec![v, v + 1] } else { vec![v | 1] }).collect();
+    let vertices: Vec<(Player, u16, &[u16])> =
+        targets.iter().enumerate().map(|(v, row)| (Even, if v % 2 == 0 { 2 } else { 1 }, &row[..])).collect();
+    game(&vertices)
+}
+
+#[test]
+fn the_largest_chain_in_two_threads_of_2_mib() {
+    let chain = std::sync::Arc::new(chain());
+    let solve = || {
+        let chain = chain.clone();
+        let thread = std::thread::Builder::new().stack_size(2 << 20);
+        thread.spawn(move || chain.solve_zielonka(true, ANY).unwrap()).unwrap()
+    };
+    let (one, other) = (solve(), solve());
+    let (one, other) = (one.join().unwrap(), other.join().unwrap());
+    assert_eq!(one, other);
+    expect(&chain, one, &[Odd; 4096], 6145);
+}
+
+#[test]
+fn players() {
+    assert_eq!((Even as u8, Odd as u8), (0, 1));
+    assert_eq!((Even.opponent(), Odd.opponent()), (Odd, Even));
+}

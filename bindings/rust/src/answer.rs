@@ -1,10 +1,22 @@
-//! Why there is no answer.
+//! What a function gives back, and why there is no answer.
 #![forbid(unsafe_code)]
 
-use crate::doors::Answer;
 use std::fmt;
 
-/// The numbers that are no answer, each with its place where it has one.
+/// What every function of [`doors`](crate::doors) gives.
+#[must_use = "the outputs hold an answer only if the number is 0"]
+#[derive(Clone, Copy, Debug, PartialEq, Eq)]
+pub struct Answer {
+    /// 0 for an answer; otherwise the number of the refusal, or of the checker's finding.
+    pub number: u64,
+    /// Where the refusal or the finding lies; 0 with an answer.
+    pub place: u64,
+    /// Calls, rounds or looks of an answer, the budget with number 13, else 0.
+    pub count: u64,
+}
+
+/// The numbers that are no answer, each with its place where it has one. Later versions may have more.
+#[non_exhaustive]
 #[derive(Clone, Copy, Debug, PartialEq, Eq)]
 pub enum Refusal {
     /// 1: more than 4,096 vertices.
@@ -29,7 +41,7 @@ pub enum Refusal {
     WorkArea,
     /// 11: two owners differ in a solitaire game.
     OwnersDiffer,
-    /// 12: a bit at n or above, or a bit of the target that is not in V, the lowest.
+    /// 12: a bit at n or above, or a bit of the target that is not in `within`, the lowest.
     Bit(usize),
     /// 13: more calls or rounds are needed than the budget.
     Budget,
@@ -41,10 +53,17 @@ pub enum Refusal {
     Leaves(usize),
     /// 24: on a cycle that the other player wins, the lowest vertex.
     LostCycle(usize),
+    /// A number that this crate does not know. The library that it is made for gives none.
+    Unknown {
+        /// The number.
+        number: u64,
+        /// The place that came with it.
+        place: usize,
+    },
 }
 
 impl Refusal {
-    /// The number and the place, as the library gives them.
+    /// The number and the place, as the library gives them; the place is 0 where the number has none.
     pub fn number_and_place(self) -> (u64, usize) {
         match self {
             Refusal::TooManyVertices => (1, 0),
@@ -64,12 +83,13 @@ impl Refusal {
             Refusal::Entry(vertex) => (22, vertex),
             Refusal::Leaves(vertex) => (23, vertex),
             Refusal::LostCycle(vertex) => (24, vertex),
+            Refusal::Unknown { number, place } => (number, place),
         }
     }
 }
 
 impl Answer {
-    /// The count of an answer, or the refusal.
+    /// The count of an answer, or the refusal; a number that this crate does not know is [`Refusal::Unknown`].
     pub fn result(self) -> Result<u64, Refusal> {
         let place = self.place as usize;
         Err(match self.number {
@@ -91,34 +111,39 @@ impl Answer {
             22 => Refusal::Entry(place),
             23 => Refusal::Leaves(place),
             24 => Refusal::LostCycle(place),
-            number => panic!("the library gave {}, a number that it does not have", number),
+            number => Refusal::Unknown { number, place },
         })
     }
 }
 
 impl fmt::Display for Refusal {
+    /// The number, its place where it has one, and what it means: `4 at vertex 1: the owner is neither 0 nor 1`.
     fn fmt(&self, f: &mut fmt::Formatter<'_>) -> fmt::Result {
-        let said = match self {
-            Refusal::TooManyVertices => "more than 4096 vertices",
-            Refusal::TableLengths => "the tables' lengths do not agree",
-            Refusal::TooManyEdges => "more than 16384 edges",
-            Refusal::Owner(_) => "the owner is neither 0 nor 1",
-            Refusal::Priority(_) => "the priority is above 255",
-            Refusal::Offset(_) => "the offsets do not cut the edges into rows",
-            Refusal::Target(_) => "the edge ends at no vertex",
-            Refusal::NoEdge(_) => "the vertex has no edge",
-            Refusal::Size => "a set, a strategy or a table has the wrong length",
-            Refusal::WorkArea => "the work area is too short",
-            Refusal::OwnersDiffer => "two owners differ",
-            Refusal::Bit(_) => "the bit must not be set",
-            Refusal::Budget => "the budget is too small",
-            Refusal::NotOneWinner(_) => "not exactly one winner",
-            Refusal::Entry(_) => "the strategy's entry is not lawful",
-            Refusal::Leaves(_) => "an edge leaves the winner's set",
-            Refusal::LostCycle(_) => "on a cycle that the other player wins",
+        let (at, said) = match self {
+            Refusal::TooManyVertices => (None, "more than 4096 vertices"),
+            Refusal::TableLengths => (None, "the tables' lengths do not agree"),
+            Refusal::TooManyEdges => (None, "more than 16384 edges"),
+            Refusal::Owner(_) => (Some("vertex"), "the owner is neither 0 nor 1"),
+            Refusal::Priority(_) => (Some("vertex"), "the priority is above 255"),
+            Refusal::Offset(_) => (Some("index"), "the offsets do not cut the edges into rows"),
+            Refusal::Target(_) => (Some("edge"), "the edge ends at no vertex"),
+            Refusal::NoEdge(_) => (Some("vertex"), "the vertex has no edge"),
+            Refusal::Size => (None, "a set, a strategy or a table has the wrong length"),
+            Refusal::WorkArea => (None, "the work area is too short"),
+            Refusal::OwnersDiffer => (None, "two owners differ"),
+            Refusal::Bit(_) => (Some("bit"), "the bit must not be set"),
+            Refusal::Budget => (None, "the budget is too small"),
+            Refusal::NotOneWinner(_) => (Some("bit"), "not exactly one winner"),
+            Refusal::Entry(_) => (Some("vertex"), "the strategy's entry is not lawful"),
+            Refusal::Leaves(_) => (Some("vertex"), "an edge leaves the winner's set"),
+            Refusal::LostCycle(_) => (Some("vertex"), "on a cycle that the other player wins"),
+            Refusal::Unknown { .. } => (Some("place"), "a number that this crate does not know"),
         };
         let (number, place) = self.number_and_place();
-        write!(f, "{} at {}: {}", number, place, said)
+        match at {
+            Some(what) => write!(f, "{} at {} {}: {}", number, what, place, said),
+            None => write!(f, "{}: {}", number, said),
+        }
     }
 }
 
