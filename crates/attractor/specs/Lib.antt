@@ -10,6 +10,7 @@ pub mod View
 pub mod Views
 pub mod SetsAt
 pub mod Walking
+pub mod Walked
 pub mod TakeLoop
 pub mod Counters
 pub mod Filled

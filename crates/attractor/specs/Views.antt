@@ -12,6 +12,7 @@ use borrow.Author.Tests.{eq-eqb, ne-eqb, lt-ltb, le-ltb}
 use lib.Dec.{eqb}
 use lib.ListN.{length, getD, take, drop, set, length-set, length-append, length-take, length-drop, List·getD-append}
 use lib.Seq.{ext-getD, getD-take, getD-drop, getD-set-same, getD-set-other, getD-append-add, take-at, drop-at, length-take-le}
+use Rattle.rules.specs.Counting.{Set}
 use Rattle.rules.specs.Tables.{words}
 use Rattle.rules.specs.Words.{setOf}
 use Rattle.theory.specs.Basics.{lt-or-ge}
@@ -167,6 +168,37 @@ module _ (a s : ℕ) (xs ys : List ℕ) (fits : a + s ≤ length xs) (as-long : 
       ap (take s) (drop-at (take a xs) (ys ++ drop ((a + s) - a) (drop a xs)) a front) ∙
       take-at ys (drop ((a + s) - a) (drop a xs)) s as-long
 
+-- a set that was lent and comes back with v in it
+
+module _ (n s base v : ℕ) (work ys : List ℕ) (size : s ≡ words n) (high : base + words n ≤ length work)
+    (put : Put v 1 (take ((base + s) - base) (drop base work)) ys)
+  where
+    fits : base + s ≤ length work
+    fits = omega arith
+
+    as-long : length ys ≡ s
+    as-long = put .long ∙ ap length (part-is base s work) ∙ part-length base s work fits
+
+    pub inserted-long : length (back base s work ys) ≡ length work
+    inserted-long = back-long base s work ys fits as-long
+
+    pub inserted-rest : (i : ℕ) → (i < base) ⊎ (base + words n ≤ i) → getD (back base s work ys) i 0 ≡ getD work i 0
+    inserted-rest i (inl l) = back-front base s work ys fits as-long i l
+    inserted-rest i (inr l) = back-behind base s work ys fits as-long i (omega arith)
+
+    pub inserted-set : (u : ℕ) → setAt n base (back base s work ys) u ≡ cond (eqb u v) true (setAt n base work u)
+    inserted-set u =
+        ap (λ (k : ℕ). setOf (take k (drop base (back base s work ys))) u) (sym size) ∙
+        ap (λ (l : List ℕ). setOf l u) (back-part base s work ys fits as-long) ∙
+        put-set v 1 (take ((base + s) - base) (drop base work)) ys put u ∙
+        ap (λ (S : Set). cond (eqb u v) true (S u)) (part-set n s base work size)
+
+    -- a set elsewhere stays
+    pub inserted-other : (other : ℕ) → (other + words n ≤ base) ⊎ (base + words n ≤ other) → setAt n other (back base s work ys) ≡ setAt n other work
+    inserted-other other apart =
+        set-alike n other work (back base s work ys) inserted-long
+        (λ i l. inserted-rest (other + i) (⊎-elim (λ h. inl (omega arith)) (λ h. inr (omega arith)) apart))
+
 -- ---- what stays
 
 pub kept-none : (n m base : ℕ) (work : List ℕ) → Kept n m base work work
@@ -286,50 +318,30 @@ module _ (n m base : ℕ) (work : List ℕ) (room : Room n m base work) (s v tai
     (next : tail < n)
     (new : Put v 1 (take ((base + s) - base) (drop base work)) ys)
   where
-    fits : base + s ≤ length work
-    fits = omega (arith, room .high)
-
-    as-long : length ys ≡ s
-    as-long = new .long ∙ ap length (part-is base s work) ∙ part-length base s work fits
-
     abbrev between : List ℕ
     between = back base s work ys
 
     abbrev joining : List ℕ
     joining = set between (queue n m + tail) v
 
+    between-long : length between ≡ length work
+    between-long = inserted-long n s base v work ys size (room .high) new
+
+    between-rest : (i : ℕ) → (i < base) ⊎ (base + words n ≤ i) → getD between i 0 ≡ getD work i 0
+    between-rest = inserted-rest n s base v work ys size (room .high) new
+
     between-cells : (b : ℕ) → b + n ≤ free n m → cells n b between ≡ cells n b work
-    between-cells b h =
-        cells-alike n b work between (λ u l. back-front base s work ys fits as-long (b + u) (omega (arith, room .low)))
+    between-cells b h = cells-alike n b work between (λ u l. between-rest (b + u) (inl (omega (arith, room .low))))
 
     between-room : Room n m base between
-    between-room = record { low = room .low; high = omega (arith, room .high, back-long base s work ys fits as-long) }
+    between-room = record { low = room .low; high = omega (arith, room .high, between-long) }
 
     between-kept : Kept n m base work between
     between-kept =
-        record {
-          long = back-long base s work ys fits as-long;
-          rest =
-              λ i o.
-              ⊎-elim
-              (λ l. back-front base s work ys fits as-long i (omega (arith, room .low)))
-              (λ l.
-              ⊎-elim
-              (λ h. back-front base s work ys fits as-long i h)
-              (λ h. back-behind base s work ys fits as-long i (omega arith))
-              (l .1))
-              o;
-        }
+        record { long = between-long; rest = λ i o. between-rest i (⊎-elim (λ l. inl (omega (arith, room .low))) (λ l. l .1) o) }
 
     between-set : setAt n base between ≡ (λ u. cond (eqb u v) true (setAt n base work u))
-    between-set =
-        fun-ext
-        (λ u.
-        ap (λ (k : ℕ). setOf (take k (drop base between)) u) (sym size) ∙
-        ap (λ (l : List ℕ). setOf l u) (back-part base s work ys fits as-long) ∙
-        put-set v 1 (take ((base + s) - base) (drop base work)) ys new u ∙
-        ap (λ (l : List ℕ). cond (eqb u v) true (setOf l u)) (part-is base s work) ∙
-        ap (λ (k : ℕ). cond (eqb u v) true (setOf (take k (drop base work)) u)) size)
+    between-set = fun-ext (inserted-set n s base v work ys size (room .high) new)
 
     pub state-joined : Becomes n m base (joined v) work joining tail (tail + 1)
     unfolding joined

@@ -14,8 +14,8 @@ use Rattle.rules.specs.Counting.{count}
 use Rattle.rules.specs.Words.{noEntry}
 use Rattle.sets.specs.After.{Cleared}
 use Rattle.attractor.specs.Area.{entries}
+use Rattle.attractor.specs.Walked.{Keeps, keeps-none, keeps-then}
 use Rattle.priority_promotion.specs.Regions.{regionAt, Tallied, highestUnder}
-use Rattle.priority_promotion.specs.Walking.{Keeps, keeps-none, keeps-then}
 use Rattle.priority_promotion.specs.Cells.{Aside, Placed, Becomes}
 use Rattle.priority_promotion.specs.Layout.{lowerAt, regionsAt}
 

@@ -2,7 +2,7 @@
 use mathlib.Core.List.{List}
 use mathlib.Core.Logic.{_⊎_, inl, inr, ⊎-elim}
 use mathlib.Core.Bool.{true}
-use mathlib.Core.Path.{_≡_, refl, sym, ap, ap₂, subst, _∙_}
+use mathlib.Core.Path.{_≡_, sym, ap, ap₂, subst, _∙_}
 use Prim.Native.Nat.{ℕ, _+_, _≤_, _<_}
 use native.Mathlib.Omega.{arith}
 use lib.Dec.{eqb}
@@ -12,7 +12,7 @@ use Rattle.rules.specs.Counting.{count}
 use Rattle.rules.specs.Tables.{words}
 use Rattle.attractor.specs.Area.{wordsAt, setAt}
 use Rattle.attractor.specs.Views.{words-alike}
-use Rattle.priority_promotion.specs.Walking.{Keeps, keeps-none, Turn, Walkable}
+use Rattle.attractor.specs.Walked.{Keeps, Turn, Walkable}
 use Rattle.theory.specs.Basics.{count-cong}
 use Rattle.priority_promotion.specs.Regions.{Tallied, regionAt, Moved}
 
@@ -123,14 +123,6 @@ changes-turn {n} {regions} {entries} {v} {region} {entry} {before} {after} {Does
           does;
       there = λ u l d. ap₂ (λ (x y : ℕ). (x, y)) (ch .region-there u l d) (ch .entry-there u l d);
     }
-
--- none changes
-pub same-turn :
-    {n regions entries v : ℕ} {work : List ℕ} {Does : ℕ → ℕ × ℕ → ℕ × ℕ → Type 0} →
-    Tallied n regions work →
-    Does v (cellAt regions entries work v) (cellAt regions entries work v) →
-    Turn n (Aside n regions entries) (Tallied n regions) (cellAt regions entries) Does v work work
-same-turn tallied does = record { keeps = keeps-none tallied; here = does; there = λ u l d. refl }
 
 -- a set that stands between the entries and the regions
 pub record Between (n regions entries base : ℕ) : Type 0 where

@@ -13,9 +13,8 @@ use Rattle.theory.specs.Tables.{never-falls}
 use Rattle.predecessors.specs.Table.{SoundEdges}
 use Rattle.sets.specs.declared.members.Members.{Members}
 use Rattle.attractor.specs.Area.{setAt}
+use Rattle.attractor.specs.Walked.{Walkable, Always, Turn, same-turn, WalkedTo}
 use Rattle.priority_promotion.specs.Regions.{regionAt}
-use Rattle.priority_promotion.specs.Walking.{Walkable, keeps-none, Turn, WalkedTo}
-use Rattle.priority_promotion.specs.Sorting.{Always}
 use Rattle.priority_promotion.specs.Edges.{target-place, place-target}
 
 -- ---- a walk that changes nothing
@@ -31,7 +30,7 @@ abbrev pub Passed : ℕ → ℕ → (ℕ → Type 0) → List ℕ → Members �
 Passed n base P work walk = WalkedTo n base anything Always nothing (λ u c c'. P u) work walk work
 
 pub passes : {n v : ℕ} {P : ℕ → Type 0} {work : List ℕ} → P v → Turn n anything Always nothing (λ u c c'. P u) v work work
-passes p = record { keeps = keeps-none tt; here = p; there = λ u l d. refl }
+passes p = same-turn tt p
 
 -- what holds of the members passed may be weakened
 pub passed-weaker :

@@ -1,6 +1,5 @@
 -- Where the promotion's tables stand in the work area, what each function asks for and leaves behind, and what a reader may conclude.
 pub mod Regions
-pub mod Walking
 pub mod Cells
 pub mod Edges
 pub mod Sorting

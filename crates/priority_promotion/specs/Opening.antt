@@ -10,10 +10,9 @@ use Rattle.rules.specs.Counting.{Set, some, someOf}
 use Rattle.rules.specs.Tables.{targetsOf}
 use Rattle.theory.specs.Basics.{bool-cases, some-intro, false-some, and-intro}
 use Rattle.attractor.specs.Area.{setAt}
+use Rattle.attractor.specs.Walked.{Always, Walked}
 use Rattle.priority_promotion.specs.Regions.{regionAt}
 use Rattle.priority_promotion.specs.Escapes.{anything, nothing}
-use Rattle.priority_promotion.specs.Sorting.{Always}
-use Rattle.priority_promotion.specs.Walking.{Walked}
 
 -- a vertex of R makes it open: an own one has no target of region p, or another's has one below
 abbrev pub opensAt : List ℕ → List ℕ → List ℕ → ℕ → ℕ → ℕ → List ℕ → Set

@@ -13,9 +13,9 @@ use Rattle.rules.specs.Tables.{words}
 use Rattle.rules.specs.Words.{noEntry, setOf}
 use Rattle.attractor.specs.Area.{setAt}
 use Rattle.attractor.specs.Views.{bit-fits, part-set}
+use Rattle.attractor.specs.Walked.{Walkable, Keeps, Turn, same-turn, Walked}
 use Rattle.priority_promotion.specs.Regions.{regionAt, Tallied, Moved, Movable}
-use Rattle.priority_promotion.specs.Walking.{Walkable, Keeps, Turn, Walked}
-use Rattle.priority_promotion.specs.Cells.{Aside, Room, Placed, Becomes, cellAt, changes-region, changes-turn, same-turn, Between, between-words}
+use Rattle.priority_promotion.specs.Cells.{Aside, Room, Placed, Becomes, cellAt, changes-region, changes-turn, Between, between-words}
 use Rattle.priority_promotion.specs.Cells.{between-walkable, keeps-room}
 
 -- what a vertex gets, with S for R

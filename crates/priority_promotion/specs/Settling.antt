@@ -17,7 +17,7 @@ use Rattle.attractor.specs.Counters.{EdgesOf}
 use Rattle.attractor.specs.Views.{words-alike, words-enough, part-length}
 use Rattle.priority_promotion.specs.Regions.{Tallied, Moved, Movable}
 use Rattle.attractor.specs.Walking.{lent-part}
-use Rattle.priority_promotion.specs.Walking.{Walkable, Keeps, Turn, Walked}
+use Rattle.attractor.specs.Walked.{Walkable, Keeps, Turn, Walked}
 use Rattle.priority_promotion.specs.Edges.{FoundIn}
 use Rattle.priority_promotion.specs.Cells.{Aside, Room, cellAt, changes-region, changes-both, changes-turn, Between, between-words}
 use Rattle.priority_promotion.specs.Cells.{between-walkable, keeps-room}

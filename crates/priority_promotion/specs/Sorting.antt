@@ -1,8 +1,8 @@
 -- X and R at first: the unsolved vertices of region at most p, and those of region p.
 use mathlib.Core.Bool.{Bool, true, false, cond}
 use mathlib.Core.List.{List}
-use mathlib.Core.Logic.{_⊎_, inl, inr, ⊎-elim}
-use mathlib.Core.Path.{_≡_, refl, sym, ap, ap₂, subst, _∙_}
+use mathlib.Core.Logic.{_⊎_, inl, inr}
+use mathlib.Core.Path.{_≡_, refl, ap, ap₂, subst, _∙_}
 use Prim.Native.Nat.{ℕ, _+_, _-_, _≤_, _<_}
 use native.Mathlib.Omega.{arith}
 use borrow.Author.Tests.{eq-eqb, ne-eqb, le-leb, lt-leb}
@@ -10,17 +10,11 @@ use lib.Dec.{eqb, leb}
 use lib.ListN.{length, getD, take, drop}
 use Rattle.rules.specs.Counting.{Set}
 use Rattle.rules.specs.Tables.{words}
-use Rattle.rules.specs.Words.{setOf}
 use Rattle.sets.specs.After.{Put}
-use Rattle.sets.specs.Laws.{put-set}
 use Rattle.attractor.specs.Area.{setAt}
-use Rattle.attractor.specs.Views.{back, back-long, back-front, back-behind, back-part, part-is, part-length, part-set, set-alike}
+use Rattle.attractor.specs.Views.{back, inserted-long, inserted-rest, inserted-set, inserted-other}
+use Rattle.attractor.specs.Walked.{Walkable, Keeps, Turn, same-turn, Walked}
 use Rattle.priority_promotion.specs.Regions.{regionAt}
-use Rattle.priority_promotion.specs.Walking.{Walkable, Keeps, keeps-none, Turn, Walked}
-
--- nothing more is asked of the work area
-abbrev pub Always : List ℕ → Type 0
-Always work = Unit {0}
 
 -- a word of neither set
 abbrev pub Apart : ℕ → ℕ → ℕ → ℕ → Type 0
@@ -67,37 +61,6 @@ abbrev pub Collected : ℕ → ℕ → ℕ → ℕ → ℕ → ℕ → List ℕ 
 Collected n p unsolved lower held regions before after =
     Walked n unsolved (Apart n lower held) (Bare n lower held) (pairAt n lower held) (Sorts p (regionAt regions before)) before after
 
--- ---- a set that was lent and comes back with v in it
-
-module _ (n s base v : ℕ) (work ys : List ℕ) (size : s ≡ words n) (high : base + words n ≤ length work)
-    (put : Put v 1 (take ((base + s) - base) (drop base work)) ys)
-  where
-    fits : base + s ≤ length work
-    fits = omega arith
-
-    as-long : length ys ≡ s
-    as-long = put .long ∙ ap length (part-is base s work) ∙ part-length base s work fits
-
-    pub inserted-long : length (back base s work ys) ≡ length work
-    inserted-long = back-long base s work ys fits as-long
-
-    pub inserted-rest : (i : ℕ) → (i < base) ⊎ (base + words n ≤ i) → getD (back base s work ys) i 0 ≡ getD work i 0
-    inserted-rest i (inl l) = back-front base s work ys fits as-long i l
-    inserted-rest i (inr l) = back-behind base s work ys fits as-long i (omega arith)
-
-    pub inserted-set : (u : ℕ) → setAt n base (back base s work ys) u ≡ cond (eqb u v) true (setAt n base work u)
-    inserted-set u =
-        ap (λ (k : ℕ). setOf (take k (drop base (back base s work ys))) u) (sym size) ∙
-        ap (λ (l : List ℕ). setOf l u) (back-part base s work ys fits as-long) ∙
-        put-set v 1 (take ((base + s) - base) (drop base work)) ys put u ∙
-        ap (λ (S : Set). cond (eqb u v) true (S u)) (part-set n s base work size)
-
-    -- a set elsewhere stays
-    pub inserted-other : (other : ℕ) → (other + words n ≤ base) ⊎ (base + words n ≤ other) → setAt n other (back base s work ys) ≡ setAt n other work
-    inserted-other other apart =
-        set-alike n other work (back base s work ys) inserted-long
-        (λ i l. inserted-rest (other + i) (⊎-elim (λ h. inl (omega arith)) (λ h. inr (omega arith)) apart))
-
 -- ---- the ends of `sort`
 
 chosen-here : (u v : ℕ) (b : Bool) → u ≡ v → cond (eqb u v) true b ≡ true
@@ -110,11 +73,8 @@ module _ (n s p lower held regions v : ℕ) (work : List ℕ) (given : Sortable 
   -- the region is above p
   pub sorted-above : p < regionAt regions work v → Sorted n p lower held regions v work work
   sorted-above l =
-      record {
-        keeps = keeps-none (given .bare);
-        here = (rw (lt-leb (regionAt regions work v) p l), rw (ne-eqb (regionAt regions work v) p (λ e. omega arith)));
-        there = λ u k d. refl;
-      }
+      same-turn (given .bare)
+      (rw (lt-leb (regionAt regions work v) p l), rw (ne-eqb (regionAt regions work v) p (λ e. omega arith)))
 
   pub lower-fits : lower + words n ≤ length work
   lower-fits = omega (arith, given .lower-held, given .held-regions, given .room)

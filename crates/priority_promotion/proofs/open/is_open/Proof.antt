@@ -8,7 +8,6 @@ use lib.ListN.{take, drop}
 use Rattle.theory.specs.Basics.{clash}
 use Rattle.sets.specs.declared.members.Members.{Members}
 use Rattle.attractor.specs.Area.{setAt}
-use Rattle.priority_promotion.specs.Walking.{walked-none, walked-few, walked-all, walked-small, walked-member, walked-shorter, walked-more}
 use Rattle.priority_promotion.specs.Escapes.{Looks, looks-ready, escape-walkable, passes}
 use Rattle.priority_promotion.specs.Edges.{none-first, none-more, none-at-all, some-at}
 use Rattle.priority_promotion.specs.Opening.{open-found, open-none, shut-own, shut-other, open-own, open-other}
@@ -21,6 +20,7 @@ use lib.Dec.{eqb, ltb}
 use lib.ListN.{length, getD}
 use Rattle.sets.specs.Walk.{left, Walks}
 use Rattle.attractor.specs.Area.{wordsAt}
+use Rattle.attractor.specs.Walked.{walked-none, walked-few, walked-all, walked-small, walked-member, walked-shorter, walked-more}
 use Rattle.priority_promotion.specs.Regions.{regionAt}
 use Rattle.priority_promotion.specs.Escapes.{Passed}
 use Rattle.priority_promotion.specs.Edges.{NoneBefore}

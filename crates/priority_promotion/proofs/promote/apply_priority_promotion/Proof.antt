@@ -7,9 +7,9 @@ use lib.ListN.{length, take, drop}
 use Rattle.sets.specs.declared.members.Members.{Members}
 use Rattle.sets.specs.Walk.{left, Walks}
 use Rattle.attractor.specs.Area.{wordsAt, setAt}
+use Rattle.attractor.specs.Walked.{Walkable, WalkedTo, walked-none, walked-few, walked-all, walked-small, walked-shorter, walked-more}
 use Rattle.priority_promotion.specs.Regions.{Tallied}
 use Rattle.priority_promotion.specs.Cells.{Aside, cellAt}
-use Rattle.priority_promotion.specs.Walking.{Walkable, WalkedTo, walked-none, walked-few, walked-all, walked-small, walked-shorter, walked-more}
 use borrow.Author.Needs.{needs}
 use Rattle.priority_promotion.proofs.promote.apply_priority_promotion.Statement.{statement}
 use Rattle.priority_promotion.proofs.promote.apply_priority_promotion.Tie as tie

@@ -9,7 +9,7 @@ use lib.ListN.{length, take, drop}
 use Rattle.sets.specs.declared.members.Members.{Members}
 use Rattle.sets.specs.Walk.{left, Walks}
 use Rattle.attractor.specs.Area.{wordsAt, setAt}
-use Rattle.priority_promotion.specs.Walking.{walked-none, walked-few, walked-all, walked-small, walked-member, walked-shorter, walked-more}
+use Rattle.attractor.specs.Walked.{walked-none, walked-few, walked-all, walked-small, walked-member, walked-shorter, walked-more}
 use Rattle.priority_promotion.specs.Escapes.{looks-ready, escape-walkable, passes, LowestSoFar, lowest-further}
 use borrow.Author.Needs.{needs}
 use Rattle.priority_promotion.proofs.promote.best_escape.Statement.{statement}

@@ -1,14 +1,13 @@
 use mathlib.Core.List.{List, _∷_}
 use mathlib.Core.Path.{_≡_, subst}
 use Prim.Native.Nat.{ℕ, _+_, _-_, _≤_, _<_}
-use Rattle.priority_promotion.specs.Walking.{Walkable}
 -- `collect` meets its contract: the members that the walk has passed are sorted.
 use lib.ListN.{length, take, drop}
 use Rattle.sets.specs.declared.members.Members.{Members}
 use Rattle.sets.specs.Walk.{left, Walks}
 use Rattle.attractor.specs.Area.{wordsAt}
+use Rattle.attractor.specs.Walked.{Walkable, WalkedTo, walked-none, walked-few, walked-all, walked-small, walked-shorter, walked-more}
 use Rattle.priority_promotion.specs.Regions.{regionAt}
-use Rattle.priority_promotion.specs.Walking.{WalkedTo, walked-none, walked-few, walked-all, walked-small, walked-shorter, walked-more}
 use Rattle.priority_promotion.specs.Sorting.{Bare, Apart, pairAt, Sorts, collect-walkable, sort-ready, sort-turn}
 use borrow.Author.Needs.{needs}
 use Rattle.priority_promotion.proofs.query.collect.Statement.{statement}

@@ -7,16 +7,17 @@ use mathlib.Core.Path.{_≡_, refl, sym, ap, subst, _∙_}
 use Prim.Native.Nat.{ℕ, _+_, _-_, _≤_, _<_}
 use native.Mathlib.Decide.{ℕ-discrete}
 use native.Mathlib.Omega.{arith}
-use lib.ListN.{length, getD, take, drop, length-take}
+use lib.ListN.{length, getD, take, drop, set, length-take, length-set}
+use lib.Seq.{getD-set-same, getD-set-other}
 use Rattle.rules.specs.Counting.{times}
 use Rattle.rules.specs.Tables.{words}
 use Rattle.theory.specs.Basics.{clash}
 use Rattle.sets.specs.Laws.{member-bit, times-members}
 use Rattle.sets.specs.Walk.{members, left}
 use Rattle.sets.specs.declared.members.Members.{Members}
 use Rattle.attractor.specs.Area.{wordsAt, setAt}
 use Rattle.attractor.specs.Views.{words-alike, words-few}
 use Rattle.attractor.specs.Walking.{lent-part, times-gone, Walking, walking-start, counted, next-member, next-once, next-other, walking-next, next-shorter}
 
 -- the set at a base can be walked: s words of vertices below n, in words that no change touches
 pub record Walkable (n s base : ℕ) (Out : ℕ → Type 0) (work : List ℕ) : Type 0 where
@@ -44,6 +45,42 @@ pub record Turn {C : Type 0} (n : ℕ) (Out : ℕ → Type 0) (Good : List ℕ �
   pub keeps : Keeps Out Good before after
   pub here : Does v (view before v) (view after v)
   pub there : (u : ℕ) → u < n → (u ≡ v → ⊥) → view after u ≡ view before u
+
+-- nothing more is asked of the work area
+abbrev pub Always : List ℕ → Type 0
+Always work = Unit {0}
+
+-- a word outside the k words at a place
+abbrev pub Beside : ℕ → ℕ → ℕ → Type 0
+Beside k place i = (i < place) ⊎ (place + k ≤ i)
+
+-- the word of a vertex, of those at a place
+abbrev pub wordOf : ℕ → List ℕ → ℕ → ℕ
+wordOf place work u = getD work (place + u) 0
+
+module _ {C : Type 0} {n v : ℕ} {Out : ℕ → Type 0} {Good : List ℕ → Type 0} {view : List ℕ → ℕ → C} {Does : ℕ → C → C → Type 0} {work : List ℕ} where
+  -- the vertex stays as it is
+  pub same-turn : Good work → Does v (view work v) (view work v) → Turn n Out Good view Does v work work
+  same-turn good does = record { keeps = keeps-none good; here = does; there = λ u l d. refl }
+
+-- its word is stored
+pub store-turn :
+    {n v : ℕ} (place x : ℕ) {Does : ℕ → ℕ → ℕ → Type 0} {work : List ℕ} →
+    v < n →
+    place + n ≤ length work →
+    Does v (wordOf place work v) x →
+    Turn n (Beside n place) Always (wordOf place) Does v work (set work (place + v) x)
+store-turn {n} {v} place x {Does} {work} small fits does =
+    record {
+      keeps =
+          record {
+            long = length-set work (place + v) x;
+            rest = λ i o. getD-set-other work (place + v) i x 0 (λ e. ⊎-elim (λ l. omega arith) (λ l. omega arith) o);
+            good = tt;
+          };
+      here = rw (getD-set-same work (place + v) x 0 (omega arith)) does;
+      there = λ u l d. getD-set-other work (place + v) (place + u) x 0 (λ e. d (omega arith));
+    }
 
 -- the walk has come to `walk`
 pub record WalkedTo {C : Type 0} (n base : ℕ) (Out : ℕ → Type 0) (Good : List ℕ → Type 0) (view : List ℕ → ℕ → C) (Does : ℕ → C → C → Type 0)
