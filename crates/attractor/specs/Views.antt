@@ -193,6 +193,12 @@ module _ (n s base v : ℕ) (work ys : List ℕ) (size : s ≡ words n) (high : 
         put-set v 1 (take ((base + s) - base) (drop base work)) ys put u ∙
         ap (λ (S : Set). cond (eqb u v) true (S u)) (part-set n s base work size)
 
+    pub inserted-here : setAt n base (back base s work ys) v ≡ true
+    inserted-here = inserted-set v ∙ rw (eq-eqb v v refl)
+
+    pub inserted-there : (u : ℕ) → (u ≡ v → ⊥) → setAt n base (back base s work ys) u ≡ setAt n base work u
+    inserted-there u d = inserted-set u ∙ rw (ne-eqb u v d)
+
     -- a set elsewhere stays
     pub inserted-other : (other : ℕ) → (other + words n ≤ base) ⊎ (base + words n ≤ other) → setAt n other (back base s work ys) ≡ setAt n other work
     inserted-other other apart =

@@ -12,7 +12,7 @@ use Rattle.rules.specs.Counting.{Set}
 use Rattle.rules.specs.Tables.{words}
 use Rattle.sets.specs.After.{Put}
 use Rattle.attractor.specs.Area.{setAt}
-use Rattle.attractor.specs.Views.{back, inserted-long, inserted-rest, inserted-set, inserted-other}
+use Rattle.attractor.specs.Views.{back, inserted-long, inserted-rest, inserted-here, inserted-there, inserted-other}
 use Rattle.attractor.specs.Walked.{Walkable, Keeps, Turn, same-turn, Walked}
 use Rattle.priority_promotion.specs.Regions.{regionAt}
 
@@ -63,12 +63,6 @@ Collected n p unsolved lower held regions before after =
 
 -- ---- the ends of `sort`
 
-chosen-here : (u v : ℕ) (b : Bool) → u ≡ v → cond (eqb u v) true b ≡ true
-chosen-here u v b e = rw (eq-eqb u v e)
-
-chosen-there : (u v : ℕ) (b : Bool) → (u ≡ v → ⊥) → cond (eqb u v) true b ≡ b
-chosen-there u v b d = rw (ne-eqb u v d)
-
 module _ (n s p lower held regions v : ℕ) (work : List ℕ) (given : Sortable n s lower held regions v work) where
   -- the region is above p
   pub sorted-above : p < regionAt regions work v → Sorted n p lower held regions v work work
@@ -83,8 +77,11 @@ module _ (n s p lower held regions v : ℕ) (work : List ℕ) (given : Sortable 
     abbrev between : List ℕ
     between = back lower s work ys
 
-    lower-set : (u : ℕ) → setAt n lower between u ≡ cond (eqb u v) true (setAt n lower work u)
-    lower-set = inserted-set n s lower v work ys (given .size) lower-fits put
+    lower-here : setAt n lower between v ≡ true
+    lower-here = inserted-here n s lower v work ys (given .size) lower-fits put
+
+    lower-there : (u : ℕ) → (u ≡ v → ⊥) → setAt n lower between u ≡ setAt n lower work u
+    lower-there = inserted-there n s lower v work ys (given .size) lower-fits put
 
     held-same : setAt n held between ≡ setAt n held work
     held-same = inserted-other n s lower v work ys (given .size) lower-fits put held (inr (given .lower-held))
@@ -96,7 +93,7 @@ module _ (n s p lower held regions v : ℕ) (work : List ℕ) (given : Sortable 
     lower-rest = inserted-rest n s lower v work ys (given .size) lower-fits put
 
     lower-bare : (u : ℕ) → n ≤ u → setAt n lower between u ≡ false
-    lower-bare u l = lower-set u ∙ chosen-there u v (setAt n lower work u) (λ e. omega (arith, given .small)) ∙ given .bare u l .0
+    lower-bare u l = lower-there u (λ e. omega (arith, given .small)) ∙ given .bare u l .0
 
     -- the region is below p
     pub sorted-below :
@@ -110,12 +107,12 @@ module _ (n s p lower held regions v : ℕ) (work : List ℕ) (given : Sortable 
                 good = λ u l. (lower-bare u l, ap (λ (S : Set). S u) held-same ∙ given .bare u l .1);
               };
           here = (
-            lower-set v ∙ chosen-here v v (setAt n lower work v) refl ∙ rw (le-leb (regionAt regions work v) p l),
+            lower-here ∙ rw (le-leb (regionAt regions work v) p l),
             ap (λ (S : Set). S v) held-same ∙ rw (ne-eqb (regionAt regions work v) p d),
           );
           there =
               λ u k e.
-              ap₂ (λ (x y : Bool). (x, y)) (lower-set u ∙ chosen-there u v (setAt n lower work u) e) (ap (λ (S : Set). S u) held-same);
+              ap₂ (λ (x y : Bool). (x, y)) (lower-there u e) (ap (λ (S : Set). S u) held-same);
         }
 
     pub held-fits : held + words n ≤ length (back lower s work ys)
@@ -123,8 +120,8 @@ module _ (n s p lower held regions v : ℕ) (work : List ℕ) (given : Sortable 
 
     -- and it is p
     module _ (zs : List ℕ) (put' : Put v 1 (take ((held + s) - held) (drop held between)) zs) where
-      held-set : (u : ℕ) → setAt n held (back held s between zs) u ≡ cond (eqb u v) true (setAt n held between u)
-      held-set = inserted-set n s held v between zs (given .size) held-fits put'
+      held-there : (u : ℕ) → (u ≡ v → ⊥) → setAt n held (back held s between zs) u ≡ setAt n held between u
+      held-there = inserted-there n s held v between zs (given .size) held-fits put'
 
       lower-same : setAt n lower (back held s between zs) ≡ setAt n lower between
       lower-same = inserted-other n s held v between zs (given .size) held-fits put' lower (inl (given .lower-held))
@@ -138,20 +135,20 @@ module _ (n s p lower held regions v : ℕ) (work : List ℕ) (given : Sortable 
                   rest = λ i o. inserted-rest n s held v between zs (given .size) held-fits put' i (o .1) ∙ lower-rest i (o .0);
                   good = λ u l. (
                     ap (λ (S : Set). S u) lower-same ∙ lower-bare u l,
-                    held-set u ∙ chosen-there u v (setAt n held between u) (λ e. omega (arith, given .small)) ∙ ap (λ (S : Set). S u) held-same ∙
+                    held-there u (λ e. omega (arith, given .small)) ∙ ap (λ (S : Set). S u) held-same ∙
                         given .bare u l .1,
                   );
                 };
             here = (
-              ap (λ (S : Set). S v) lower-same ∙ lower-set v ∙ chosen-here v v (setAt n lower work v) refl ∙
+              ap (λ (S : Set). S v) lower-same ∙ lower-here ∙
                   rw (le-leb (regionAt regions work v) p (omega arith)),
-              held-set v ∙ chosen-here v v (setAt n held between v) refl ∙ rw (eq-eqb (regionAt regions work v) p e),
+              inserted-here n s held v between zs (given .size) held-fits put' ∙ rw (eq-eqb (regionAt regions work v) p e),
             );
             there =
                 λ u k d.
                 ap₂ (λ (x y : Bool). (x, y))
-                (ap (λ (S : Set). S u) lower-same ∙ lower-set u ∙ chosen-there u v (setAt n lower work u) d)
-                (held-set u ∙ chosen-there u v (setAt n held between u) d ∙ ap (λ (S : Set). S u) held-same);
+                (ap (λ (S : Set). S u) lower-same ∙ lower-there u d)
+                (held-there u d ∙ ap (λ (S : Set). S u) held-same);
           }
 
 -- ---- the walk of `collect`

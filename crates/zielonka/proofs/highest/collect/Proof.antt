@@ -4,11 +4,12 @@ use mathlib.Core.List.{List, _∷_}
 use mathlib.Core.Path.{_≡_, subst}
 use native.Mathlib.Omega.{arith}
 use lib.ListN.{length, take, drop}
+use Rattle.rules.specs.Tables.{words}
 use Rattle.sets.specs.declared.members.Members.{Members}
 use Rattle.sets.specs.Walk.{left, Walks}
 use Rattle.attractor.specs.Area.{wordsAt}
-use Rattle.zielonka.specs.Collecting.{CollectingTo, collecting-none, collecting-all, collecting-one, collecting-other, collecting-shorter}
-use Rattle.zielonka.specs.Collecting.{next-small, lent-few, insert-fits}
+use Rattle.attractor.specs.Walked.{Walkable, Beside, walked-none, walked-few, walked-all, walked-small, walked-shorter, walked-more}
+use Rattle.zielonka.specs.Collecting.{CollectingTo, collect-walkable, collecting-all, collecting-one, collecting-other, insert-fits}
 use borrow.Author.Needs.{needs}
 use Rattle.zielonka.proofs.highest.collect.Statement.{statement}
 use Rattle.zielonka.proofs.highest.collect.Tie as tie
@@ -45,21 +46,22 @@ moved :
 moved c =
     subst (Walks (part (turn c)) (turn c .loop .walk)) (c .before .next2 .given .1) (c .before .before .before .next .ensures)
 
-small : (c : tie.After-known-told Inv-loop μ-loop) → vertex c < length (start-of (turn c) .args .priorities .now)
-small c =
-    let g = start-of (turn c) in
+walkable :
+    (g : tie.Start Inv-loop μ-loop) →
     let a = g .args in
-    next-small (a .priorities .now) (a .p) (a .within) (a .into) (a .s) (a .work .now) (g .pre) (turn c .loop .inv) (after c) (moved c)
+    let n = length (a .priorities .now) in
+    Walkable n (a .s) (a .within) (Beside (words n) (a .into)) (a .work .now)
+walkable g = collect-walkable (g .args .priorities .now) (g .pre)
+
+small : (c : tie.After-known-told Inv-loop μ-loop) → vertex c < length (start-of (turn c) .args .priorities .now)
+small c = walked-small (walkable (start-of (turn c))) (turn c .loop .inv) (after c) (moved c)
 
 shorter :
     (c : tie.After-known-told Inv-loop μ-loop) →
     let a = start-of (turn c) .args in
     let xs = wordsAt (length (a .priorities .now)) (a .within) (a .work .now) in
     length (left xs (after c)) < length (left xs (turn c .loop .walk))
-shorter c =
-    let g = start-of (turn c) in
-    let a = g .args in
-    collecting-shorter (a .priorities .now) (a .p) (a .within) (a .into) (a .s) (a .work .now) (g .pre) (turn c .loop .inv) (after c) (moved c)
+shorter c = walked-shorter (walkable (start-of (turn c))) (turn c .loop .inv) (after c) (moved c)
 
 add-new : tie.Need-add-new Inv-loop μ-loop
 add-new c = search needs
@@ -82,8 +84,7 @@ new-requires c κs = search needs
 loop-holds : tie.Need-loop-holds Inv-loop μ-loop
 loop-holds c =
     let g = c .before .before .before .before .before in
-    let a = g .args in
-    collecting-none (a .priorities .now) (a .p) (a .within) (a .into) (a .s) (a .work .now) (g .pre) (c .new .result) (c .new .ensures)
+    walked-none (walkable g) (λ u l. g .pre .nothing u) (c .new .result) (c .new .ensures)
 
 add-next : tie.Need-add-next Inv-loop μ-loop
 add-next c = search needs
@@ -102,10 +103,7 @@ part-next-end c = search needs
 
 next-requires : tie.Need-next-requires Inv-loop μ-loop
 next-requires c κs =
-    let d = c .before .before in
-    let g = start-of d in
-    let a = g .args in
-    (lent-few (a .priorities .now) (a .p) (a .within) (a .into) (a .s) (a .work .now) (g .pre) (d .loop .inv), d .loop .inv .walking .at)
+    let d = c .before .before in walked-few (walkable (start-of d)) (d .loop .inv)
 
 enum-known-next : tie.Need-enum-known-next Inv-loop μ-loop
 enum-known-next c = search needs
@@ -120,9 +118,9 @@ returns : tie.Need-returns Inv-loop μ-loop
 returns c =
     let d = c .before .before .before .before .before in
     let g = start-of d in
-    let a = g .args in
-    collecting-all (a .priorities .now) (a .p) (a .within) (a .into) (a .s) (a .work .now) (g .pre) (d .loop .inv)
-    (subst (Walks (part d) (d .loop .walk)) (c .enum-told .given .1) (c .before .before .next .ensures))
+    collecting-all (g .args .priorities .now) (g .pre)
+    (walked-all (walkable g) (d .loop .inv)
+    (subst (Walks (part d) (d .loop .walk)) (c .enum-told .given .1) (c .before .before .next .ensures)))
 
 mul-if1 : tie.Need-mul-if1 Inv-loop μ-loop
 mul-if1 c = omega (arith, small c, start-of (turn c) .good)
@@ -151,9 +149,7 @@ part-insert-end c = search needs
 insert-requires : tie.Need-insert-requires Inv-loop μ-loop
 insert-requires c κs =
     let d = c .before .before .before in
-    let g = start-of (turn d) in
-    let a = g .args in
-    insert-fits (a .priorities .now) (a .p) (a .within) (a .into) (a .s) (a .work .now) (g .pre) (turn d .loop .inv) (after d) (moved d)
+    let g = start-of (turn d) in insert-fits (g .args .priorities .now) (g .pre) (turn d .loop .inv .keeps) (small d)
 
 loop-less : tie.Need-loop-less Inv-loop μ-loop
 loop-less c = shorter (c .before .before .before .before .before .before)
@@ -162,9 +158,10 @@ loop-again : tie.Need-loop-again Inv-loop μ-loop
 loop-again c =
     let d = c .before .before .before .before .before .before in
     let g = start-of (turn d) in
-    let a = g .args in
-    collecting-one (a .priorities .now) (a .p) (a .within) (a .into) (a .s) (a .work .now) (g .pre) (turn d .loop .inv) (after d) (moved d)
-    (c .before .before .before .before .if1 .taken) (c .before .before .insert .last .0) (c .before .before .insert .kept .0) (c .before .before .insert .ensures)
+    walked-more (walkable g) (turn d .loop .inv) (after d) (moved d)
+    (collecting-one (g .args .priorities .now) (g .pre) (turn d .loop .inv .keeps) (small d)
+    (c .before .before .before .before .if1 .taken)
+    (c .before .before .insert .ensures))
 
 loop-less-2 : tie.Need-loop-less-2 Inv-loop μ-loop
 loop-less-2 c = shorter (c .before .before)
@@ -173,9 +170,8 @@ loop-again-2 : tie.Need-loop-again-2 Inv-loop μ-loop
 loop-again-2 c =
     let d = c .before .before in
     let g = start-of (turn d) in
-    let a = g .args in
-    collecting-other (a .priorities .now) (a .p) (a .within) (a .into) (a .s) (a .work .now) (g .pre) (turn d .loop .inv) (after d) (moved d)
-    (c .if1 .left)
+    walked-more (walkable g) (turn d .loop .inv) (after d) (moved d)
+    (collecting-other (g .args .priorities .now) (g .pre) (turn d .loop .inv .keeps) (c .if1 .left))
 
 pub collect-spec : {M : Type 1} → statement M
 collect-spec =
