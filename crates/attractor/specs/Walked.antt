@@ -39,6 +39,16 @@ keeps-none g = record { long = refl; rest = λ i o. refl; good = g }
 pub keeps-then : {Out : ℕ → Type 0} {Good : List ℕ → Type 0} {x y z : List ℕ} → Keeps Out Good x y → Keeps Out Good y z → Keeps Out Good x z
 keeps-then a b = record { long = b .long ∙ a .long; rest = λ i o. b .rest i o ∙ a .rest i o; good = b .good }
 
+-- the words of the set, as the code lends them, are as they were
+pub kept-lent :
+    {n s base : ℕ} {Out : ℕ → Type 0} {Good : List ℕ → Type 0} {before work : List ℕ} →
+    Walkable n s base Out before →
+    Keeps Out Good before work →
+    take ((base + s) - base) (drop base work) ≡ wordsAt n base before
+kept-lent {n} {s} {base} {Out} {Good} {before} {work} given kept =
+    lent-part n s base work (given .size) ∙
+    words-alike n base before work (kept .long) (λ i l. kept .rest (base + i) (given .out (base + i) (omega arith) (omega arith)))
+
 -- one vertex is changed
 pub record Turn {C : Type 0} (n : ℕ) (Out : ℕ → Type 0) (Good : List ℕ → Type 0) (view : List ℕ → ℕ → C) (Does : ℕ → C → C → Type 0) (v : ℕ)
     (before after : List ℕ) : Type 0 where
@@ -131,24 +141,15 @@ module _ {C : Type 0} {n s base : ℕ} {Out : ℕ → Type 0} {Good : List ℕ �
         begins = rw (lent-part n s base before (given .size)) at (first .0)
 
     module _ {walk : Members} {work : List ℕ} (c : WalkedTo n base Out Good view Does before walk work) where
-      -- the words of the set are as they were
-      pub walked-words : wordsAt n base work ≡ wordsAt n base before
-      walked-words =
-          words-alike n base before work (c .keeps .long)
-          (λ i l. c .keeps .rest (base + i) (given .out (base + i) (omega arith) (omega arith)))
-
-      pub walked-lent : take ((base + s) - base) (drop base work) ≡ wordsAt n base before
-      walked-lent = lent-part n s base work (given .size) ∙ walked-words
+      lent : take ((base + s) - base) (drop base work) ≡ wordsAt n base before
+      lent = kept-lent given (c .keeps)
 
       -- as a step of the walk asks
       pub walked-few : (length (take ((base + s) - base) (drop base work)) ≤ 64) × (walk .at ≤ 64)
       walked-few = (
-        rw walked-lent (let few = words-few n (given .few) in omega (arith, length-take (words n) (drop base before))),
+        rw lent (let few = words-few n (given .few) in omega (arith, length-take (words n) (drop base before))),
         c .walking .at,
       )
-
-      pub walked-fits : base + s ≤ length work
-      walked-fits = omega (arith, given .size, given .high, c .keeps .long)
 
       -- the walk is over
       pub walked-all : left (take ((base + s) - base) (drop base work)) walk ≡ [] → Walked n base Out Good view Does before work
@@ -156,7 +157,7 @@ module _ {C : Type 0} {n s base : ℕ} {Out : ℕ → Type 0} {Good : List ℕ �
           record { keeps = c .keeps; inside = λ u m. c .seen u m (gone u); outside = λ u l m. c .unseen u l (inl m) }
         where
           gone : (u : ℕ) → times u (left (wordsAt n base before) walk) ≡ 0
-          gone u = ap (λ (xs : List ℕ). times u (left xs walk)) (sym walked-lent) ∙ ap (times u) e ∙ times-gone u
+          gone u = ap (λ (xs : List ℕ). times u (left xs walk)) (sym lent) ∙ ap (times u) e ∙ times-gone u
 
       module _ (rest : Members) {v : ℕ}
           (moved :
@@ -164,7 +165,7 @@ module _ {C : Type 0} {n s base : ℕ} {Out : ℕ → Type 0} {Good : List ℕ �
           (rest .at ≤ 64))
         where
           next : left (wordsAt n base before) walk ≡ v ∷ left (wordsAt n base before) rest
-          next = rw walked-lent at (moved .0)
+          next = rw lent at (moved .0)
 
           pub walked-member : setAt n base before v ≡ true
           walked-member = next-member rest (c .walking) next

@@ -1,14 +1,16 @@
 -- `extend_arbitrary` meets its contract: the vertices of priority p that the walk has passed have an edge inside V, where p's player owns them.
 use Prim.Native.Nat.{ℕ, _+_, _-_, _≤_, _<_}
+use mathlib.Core.Bool.{true}
 use mathlib.Core.List.{List, _∷_}
 use mathlib.Core.Path.{_≡_, subst}
 use native.Mathlib.Omega.{arith}
 use lib.ListN.{length, take, drop}
 use Rattle.sets.specs.declared.members.Members.{Members}
 use Rattle.sets.specs.Walk.{left, Walks}
-use Rattle.attractor.specs.Area.{entries, wordsAt}
-use Rattle.zielonka.specs.Extending.{ExtendingTo, extending-none, extending-all, extending-one, extending-other, extend-shorter}
-use Rattle.zielonka.specs.Extending.{extend-small, extend-few, extend-inside, entry-fits, priorities-as-many, chooses, other-priority, other-owner}
+use Rattle.attractor.specs.Area.{entries, setAt, wordsAt}
+use Rattle.attractor.specs.Walked.{Walkable, walked-none, walked-few, walked-all, walked-member, walked-shorter, walked-more}
+use Rattle.zielonka.specs.Extending.{Elsewhere, ExtendingTo, extend-walkable, extending-all, extending-one, extend-inside}
+use Rattle.zielonka.specs.Extending.{priorities-as-many, other-priority, other-owner}
 use borrow.Author.Needs.{needs}
 use Rattle.zielonka.proofs.highest.extend_arbitrary.Statement.{statement}
 use Rattle.zielonka.proofs.highest.extend_arbitrary.Tie as tie
@@ -46,37 +48,37 @@ moved :
 moved c =
     subst (Walks (part (turn c)) (turn c .loop .walk)) (c .before .next2 .given .1) (c .before .before .before .next .ensures)
 
-small : (c : tie.After-known-told Inv-loop μ-loop) → vertex c < length (start-of (turn c) .args .owners .now)
-small c =
-    let g = start-of (turn c) in
+walkable :
+    (g : tie.Start Inv-loop μ-loop) →
     let a = g .args in
-    extend-small (tablesOf (a .owners .now) (a .priorities .now) (a .offsets .now) (a .targets .now)) (a .p) (a .s) (a .base) (a .work .now) (g .pre) (turn c .loop .inv) (after c) (moved c)
+    Walkable (length (a .owners .now)) (a .s) (a .base)
+    (Elsewhere (tablesOf (a .owners .now) (a .priorities .now) (a .offsets .now) (a .targets .now)))
+    (a .work .now)
+walkable g = extend-walkable (g .pre)
+
+member :
+    (c : tie.After-known-told Inv-loop μ-loop) →
+    let a = start-of (turn c) .args in
+    setAt (length (a .owners .now)) (a .base) (a .work .now) (vertex c) ≡ true
+member c = walked-member (walkable (start-of (turn c))) (turn c .loop .inv) (after c) (moved c)
+
+small : (c : tie.After-known-told Inv-loop μ-loop) → vertex c < length (start-of (turn c) .args .owners .now)
+small c = start-of (turn c) .pre .below (vertex c) (member c)
 
 shorter :
     (c : tie.After-known-told Inv-loop μ-loop) →
     let a = start-of (turn c) .args in
     let xs = wordsAt (length (a .owners .now)) (a .base) (a .work .now) in
     length (left xs (after c)) < length (left xs (turn c .loop .walk))
-shorter c =
-    let g = start-of (turn c) in
-    let a = g .args in
-    extend-shorter (tablesOf (a .owners .now) (a .priorities .now) (a .offsets .now) (a .targets .now)) (a .p) (a .s) (a .base) (a .work .now) (g .pre) (turn c .loop .inv) (after c) (moved c)
+shorter c = walked-shorter (walkable (start-of (turn c))) (turn c .loop .inv) (after c) (moved c)
 
--- it has a priority, and its entry a place in the work area
-priority-small : (c : tie.After-known-told Inv-loop μ-loop) → vertex c < length (start-of (turn c) .args .priorities .now)
-priority-small c =
-    let g = start-of (turn c) in
-    let a = g .args in
-    omega (arith, small c, priorities-as-many (tablesOf (a .owners .now) (a .priorities .now) (a .offsets .now) (a .targets .now)) (a .p) (a .s) (a .base) (a .work .now) (g .pre))
-
+-- its entry has a place in the work area
 entry-place :
     (c : tie.After-known-told Inv-loop μ-loop) →
     let a = start-of (turn c) .args in
     entries (length (a .owners .now)) (length (a .targets .now)) + vertex c < length (turn c .loop .work)
 entry-place c =
-    let g = start-of (turn c) in
-    let a = g .args in
-    entry-fits (tablesOf (a .owners .now) (a .priorities .now) (a .offsets .now) (a .targets .now)) (a .p) (a .s) (a .base) (a .work .now) (g .pre) (turn c .loop .inv) (after c) (moved c)
+    let g = start-of (turn c) in omega (arith, small c, turn c .loop .inv .keeps .long, g .pre .low, g .pre .high)
 
 add-new : tie.Need-add-new Inv-loop μ-loop
 add-new c = search needs
@@ -99,8 +101,7 @@ new-requires c κs = search needs
 loop-holds : tie.Need-loop-holds Inv-loop μ-loop
 loop-holds c =
     let g = c .before .before .before .before .before .before .before .before in
-    let a = g .args in
-    extending-none (tablesOf (a .owners .now) (a .priorities .now) (a .offsets .now) (a .targets .now)) (a .p) (a .s) (a .base) (a .work .now) (g .pre) (c .new .result) (c .new .ensures)
+    walked-none (walkable g) tt (c .new .result) (c .new .ensures)
 
 add-next : tie.Need-add-next Inv-loop μ-loop
 add-next c = search needs
@@ -119,10 +120,7 @@ part-next-end c = search needs
 
 next-requires : tie.Need-next-requires Inv-loop μ-loop
 next-requires c κs =
-    let d = c .before .before in
-    let g = start-of d in
-    let a = g .args in
-    (extend-few (tablesOf (a .owners .now) (a .priorities .now) (a .offsets .now) (a .targets .now)) (a .p) (a .s) (a .base) (a .work .now) (g .pre) (d .loop .inv), d .loop .inv .walking .at)
+    let d = c .before .before in walked-few (walkable (start-of d)) (d .loop .inv)
 
 enum-known-next : tie.Need-enum-known-next Inv-loop μ-loop
 enum-known-next c = search needs
@@ -137,15 +135,16 @@ returns : tie.Need-returns Inv-loop μ-loop
 returns c =
     let d = c .before .before .before .before .before in
     let g = start-of d in
-    let a = g .args in
-    extending-all (tablesOf (a .owners .now) (a .priorities .now) (a .offsets .now) (a .targets .now)) (a .p) (a .s) (a .base) (a .work .now) (g .pre) (d .loop .inv)
-    (subst (Walks (part d) (d .loop .walk)) (c .enum-told .given .1) (c .before .before .next .ensures))
+    extending-all (g .pre)
+    (walked-all (walkable g) (d .loop .inv)
+    (subst (Walks (part d) (d .loop .walk)) (c .enum-told .given .1) (c .before .before .next .ensures)))
 
 mul-if1 : tie.Need-mul-if1 Inv-loop μ-loop
 mul-if1 c = omega (arith, small c, start-of (turn c) .good)
 
 shared-slice-read-if1 : tie.Need-shared-slice-read-if1 Inv-loop μ-loop
-shared-slice-read-if1 c = priority-small (c .before)
+shared-slice-read-if1 c =
+    let d = c .before in omega (arith, small d, priorities-as-many (start-of (turn d) .pre))
 
 cast-if1 : tie.Need-cast-if1 Inv-loop μ-loop
 cast-if1 c = omega (arith, c .shared-slice-known5 .given (vertex (c .before)))
@@ -174,9 +173,7 @@ part-first-inside-end c = search needs
 first-inside-requires : tie.Need-first-inside-requires Inv-loop μ-loop
 first-inside-requires c κs =
     let d = c .before .before .before .before .before .before in
-    let g = start-of (turn d) in
-    let a = g .args in
-    extend-inside (tablesOf (a .owners .now) (a .priorities .now) (a .offsets .now) (a .targets .now)) (a .p) (a .s) (a .base) (a .work .now) (g .pre) (turn d .loop .inv) (after d) (moved d)
+    extend-inside (start-of (turn d) .pre) (member d) (turn d .loop .inv .keeps)
 
 cast-work : tie.Need-cast-work Inv-loop μ-loop
 cast-work c = search needs
@@ -194,10 +191,14 @@ add-work-4 : tie.Need-add-work-4 Inv-loop μ-loop
 add-work-4 c = search needs
 
 add-work-5 : tie.Need-add-work-5 Inv-loop μ-loop
-add-work-5 c = omega (arith, entry-place (c .before .before .before .before .before .before .before), turn (c .before .before .before .before .before .before .before) .loop .inv .long, start-of (turn (c .before .before .before .before .before .before .before)) .good)
+add-work-5 c =
+    let d = c .before .before .before .before .before .before .before in
+    omega (arith, entry-place d, turn d .loop .inv .keeps .long, start-of (turn d) .good)
 
 mul-work : tie.Need-mul-work Inv-loop μ-loop
-mul-work c = omega (arith, entry-place (c .before .before .before .before .before .before .before), turn (c .before .before .before .before .before .before .before) .loop .inv .long, start-of (turn (c .before .before .before .before .before .before .before)) .good)
+mul-work c =
+    let d = c .before .before .before .before .before .before .before in
+    omega (arith, entry-place d, turn d .loop .inv .keeps .long, start-of (turn d) .good)
 
 slice-write-work : tie.Need-slice-write-work Inv-loop μ-loop
 slice-write-work c = entry-place (c .before .before .before .before .before .before .before)
@@ -209,10 +210,10 @@ loop-again : tie.Need-loop-again Inv-loop μ-loop
 loop-again c =
     let d = c .before .before .before .before .before .before .before in
     let g = start-of (turn d) in
-    let a = g .args in
-    extending-one (tablesOf (a .owners .now) (a .priorities .now) (a .offsets .now) (a .targets .now)) (a .p) (a .s) (a .base) (a .work .now) (g .pre) (turn d .loop .inv) (after d) (moved d)
-    (chooses (tablesOf (a .owners .now) (a .priorities .now) (a .offsets .now) (a .targets .now)) (a .p) (a .s) (a .base) (a .work .now) (g .pre) (turn d .loop .inv) (after d) (moved d) (c .before .before .before .before .before .if1 .taken) (c .before .before .before .if2 .taken))
-    (c .first-inside .result) (c .first-inside .ensures)
+    walked-more (walkable g) (turn d .loop .inv) (after d) (moved d)
+    (extending-one (g .pre) (member d) (turn d .loop .inv .keeps) (c .before .before .before .before .before .if1 .taken)
+    (c .before .before .before .if2 .taken)
+    (c .first-inside .ensures))
 
 loop-less-2 : tie.Need-loop-less-2 Inv-loop μ-loop
 loop-less-2 c = shorter (c .before .before .before .before)
@@ -221,9 +222,8 @@ loop-again-2 : tie.Need-loop-again-2 Inv-loop μ-loop
 loop-again-2 c =
     let d = c .before .before .before .before in
     let g = start-of (turn d) in
-    let a = g .args in
-    extending-other (tablesOf (a .owners .now) (a .priorities .now) (a .offsets .now) (a .targets .now)) (a .p) (a .s) (a .base) (a .work .now) (g .pre) (turn d .loop .inv) (after d) (moved d)
-    (other-owner (tablesOf (a .owners .now) (a .priorities .now) (a .offsets .now) (a .targets .now)) (a .p) (a .s) (a .base) (a .work .now) (g .pre) (turn d .loop .inv) (after d) (moved d) (c .if2 .left))
+    walked-more (walkable g) (turn d .loop .inv) (after d) (moved d)
+    (other-owner (g .pre) (member d) (c .if2 .left))
 
 loop-less-3 : tie.Need-loop-less-3 Inv-loop μ-loop
 loop-less-3 c = shorter (c .before .before)
@@ -232,9 +232,8 @@ loop-again-3 : tie.Need-loop-again-3 Inv-loop μ-loop
 loop-again-3 c =
     let d = c .before .before in
     let g = start-of (turn d) in
-    let a = g .args in
-    extending-other (tablesOf (a .owners .now) (a .priorities .now) (a .offsets .now) (a .targets .now)) (a .p) (a .s) (a .base) (a .work .now) (g .pre) (turn d .loop .inv) (after d) (moved d)
-    (other-priority (tablesOf (a .owners .now) (a .priorities .now) (a .offsets .now) (a .targets .now)) (a .p) (a .s) (a .base) (a .work .now) (g .pre) (turn d .loop .inv) (after d) (moved d) (c .if1 .left))
+    walked-more (walkable g) (turn d .loop .inv) (after d) (moved d)
+    (other-priority (g .pre) (member d) (c .if1 .left))
 
 pub extend-arbitrary-spec : {M : Type 1} → statement M
 extend-arbitrary-spec =
