@@ -2,19 +2,17 @@
 use mathlib.Core.Bool.{true, false}
 use mathlib.Core.List.{List, List·Memᴰ}
 use mathlib.Core.Logic.{inl}
-use mathlib.Core.Path.{_≡_, refl, sym, subst, _∙_}
+use mathlib.Core.Path.{_≡_, refl, sym, ap, subst, _∙_}
 use Prim.Native.Nat.{ℕ, _+_, _-_, _≤_, _<_}
-use native.Mathlib.Nat.{le-refl}
 use native.Mathlib.Omega.{arith}
 use lib.ListN.{length, getD, take, drop, set}
 use Rattle.rules.specs.Counting.{Set, someOf}
 use Rattle.rules.specs.Tables.{words, targetsOf}
 use Rattle.rules.specs.Words.{noEntry, setOf}
-use Rattle.theory.specs.Tables.{never-falls}
 use Rattle.predecessors.specs.Table.{SoundEdges}
 use Rattle.attractor.specs.Area.{setAt, wordsAt}
-use Rattle.attractor.specs.Counters.{EdgesOf}
-use Rattle.attractor.specs.Views.{words-alike, words-enough, part-length}
+use Rattle.attractor.specs.Counters.{EdgesOf, edges-of}
+use Rattle.attractor.specs.Views.{words-alike, part-length}
 use Rattle.priority_promotion.specs.Regions.{Tallied, Moved, Movable}
 use Rattle.attractor.specs.Walking.{lent-part}
 use Rattle.attractor.specs.Walked.{Walkable, Keeps, Turn, Walked}
@@ -97,18 +95,8 @@ module _ (owners offsets targets : List ℕ) (alpha p s held regions entries v :
       -- the search for an edge may begin
       pub search-ready : EdgesOf offsets targets v (take ((held + s) - held) (drop held mid))
       search-ready =
-          record {
-            each = omega (arith, given .edges .offset-each, given .small);
-            rising = given .edges .offset-next v (given .small);
-            top =
-                let grows =
-                never-falls (λ i. getD offsets i 0) n (given .edges .offset-next) (v + 1) n (omega (arith, given .small)) (le-refl n) in
-                omega (arith, given .edges .offset-last);
-            bits =
-                λ e l.
-                rw (held-words, part-length held (words n) work (omega (arith, given .between .high, given .room .tallied .room)))
-                (words-enough n (getD targets e 0) (given .edges .target-below e l));
-          }
+          edges-of (given .edges) (given .small)
+          (ap length held-words ∙ part-length held (words n) work (omega (arith, given .between .high, given .room .tallied .room)))
 
       -- the vertex is own and has no entry
       pub settled-found :

@@ -9,8 +9,8 @@ use lib.ListN.{length, take, drop}
 use Rattle.sets.specs.declared.members.Members.{Members}
 use Rattle.sets.specs.Walk.{left, Walks}
 use Rattle.attractor.specs.Area.{wordsAt}
-use Rattle.attractor.specs.Counters.{CountingTo, counting-none, counting-all, counting-own, counting-other, edges-ready, part-short}
-use Rattle.attractor.specs.Counters.{walk-shorter, vertex-small}
+use Rattle.attractor.specs.Counters.{Elsewhere, CountingTo, count-walkable, counting-own, counting-other, edges-ready}
+use Rattle.attractor.specs.Walked.{Walkable, walked-none, walked-few, walked-all, walked-small, walked-shorter, walked-more}
 use Rattle.attractor.proofs.counters.initialize_attractor_counters.Statement.{statement}
 use Rattle.attractor.proofs.counters.initialize_attractor_counters.Tie as tie
 
@@ -48,25 +48,21 @@ moved :
 moved c =
     subst (Walks (part (turn c)) (turn c .loop .walk)) (c .before .before .next2 .given .1) (c .before .before .before .before .next .ensures)
 
-small : (c : tie.After-shared-slice-known4 Inv-loop μ-loop) → vertex c < length (start-of (turn c) .args .owners .now)
-small c =
-    let g = start-of (turn c) in
+walkable :
+    (g : tie.Start Inv-loop μ-loop) →
     let a = g .args in
-    let l = turn c .loop in
-    vertex-small (a .owners .now) (a .offsets .now) (a .targets .now) (a .s) (a .alpha) (a .within) (a .work .now) (g .pre) (l .walk) (l .work) (l .inv)
-    (vertex c) (after c) (moved c)
+    Walkable (length (a .owners .now)) (a .s) (a .within) (Elsewhere (a .owners .now) (a .targets .now)) (a .work .now)
+walkable g = count-walkable (g .pre)
+
+small : (c : tie.After-shared-slice-known4 Inv-loop μ-loop) → vertex c < length (start-of (turn c) .args .owners .now)
+small c = walked-small (walkable (start-of (turn c))) (turn c .loop .inv) (after c) (moved c)
 
 shorter :
     (c : tie.After-shared-slice-known4 Inv-loop μ-loop) →
     let a = start-of (turn c) .args in
     let xs = wordsAt (length (a .owners .now)) (a .within) (a .work .now) in
     length (left xs (after c)) < length (left xs (turn c .loop .walk))
-shorter c =
-    let g = start-of (turn c) in
-    let a = g .args in
-    let l = turn c .loop in
-    walk-shorter (a .owners .now) (a .offsets .now) (a .targets .now) (a .s) (a .alpha) (a .within) (a .work .now) (g .pre) (l .walk) (l .work) (l .inv)
-    (vertex c) (after c) (moved c)
+shorter c = walked-shorter (walkable (start-of (turn c))) (turn c .loop .inv) (after c) (moved c)
 
 -- the counter's place is in the work area
 counter-fits :
@@ -75,7 +71,7 @@ counter-fits :
     length (a .owners .now) + 1 + length (a .targets .now) + vertex c < length (turn c .loop .work)
 counter-fits c =
     let g = start-of (turn c) in
-    omega (arith, g .pre .low, g .pre .high, turn c .loop .inv .long, small c)
+    omega (arith, g .pre .low, g .pre .high, turn c .loop .inv .keeps .long, small c)
 
 add-new : tie.Need-add-new Inv-loop μ-loop
 add-new c = search needs
@@ -98,9 +94,7 @@ new-requires c κs = search needs
 loop-holds : tie.Need-loop-holds Inv-loop μ-loop
 loop-holds c =
     let g = c .before .before .before .before .before .before .before in
-    let a = g .args in
-    counting-none (a .owners .now) (a .offsets .now) (a .targets .now) (a .s) (a .alpha) (a .within) (a .work .now) (g .pre) (c .new .result)
-    (c .new .ensures)
+    walked-none (walkable g) tt (c .new .result) (c .new .ensures)
 
 add-next : tie.Need-add-next Inv-loop μ-loop
 add-next c = search needs
@@ -119,13 +113,7 @@ part-next-end c = search needs
 
 next-requires : tie.Need-next-requires Inv-loop μ-loop
 next-requires c κs =
-    let d = c .before .before in
-    let g = start-of d in
-    let a = g .args in (
-      part-short (a .owners .now) (a .offsets .now) (a .targets .now) (a .s) (a .alpha) (a .within) (a .work .now) (g .pre) (d .loop .walk)
-          (d .loop .work) (d .loop .inv),
-      d .loop .inv .at,
-    )
+    let d = c .before .before in walked-few (walkable (start-of d)) (d .loop .inv)
 
 enum-known-next : tie.Need-enum-known-next Inv-loop μ-loop
 enum-known-next c = search needs
@@ -139,11 +127,10 @@ same-length c = search needs
 returns : tie.Need-returns Inv-loop μ-loop
 returns c =
     let d = c .before .before .before .before .before in
-    let g = start-of d in
-    let a = g .args in
-    counting-all (a .owners .now) (a .offsets .now) (a .targets .now) (a .s) (a .alpha) (a .within) (a .work .now) (g .pre) (d .loop .walk)
-    (d .loop .work) (d .loop .inv)
-    (subst (Walks (part d) (d .loop .walk)) (c .enum-told .given .1) (c .before .before .next .ensures))
+    let all =
+    walked-all (walkable (start-of d)) (d .loop .inv)
+    (subst (Walks (part d) (d .loop .walk)) (c .enum-told .given .1) (c .before .before .next .ensures)) in
+    record { long = all .keeps .long; rest = all .keeps .rest; counts = all .inside }
 
 shared-slice-read-if1 : tie.Need-shared-slice-read-if1 Inv-loop μ-loop
 shared-slice-read-if1 c = small c
@@ -166,11 +153,7 @@ part-inside-edges-end c = search needs
 inside-edges-requires : tie.Need-inside-edges-requires Inv-loop μ-loop
 inside-edges-requires c κs =
     let d = c .before .before .before in
-    let g = start-of (turn d) in
-    let a = g .args in
-    let l = turn d .loop in
-    edges-ready (a .owners .now) (a .offsets .now) (a .targets .now) (a .s) (a .alpha) (a .within) (a .work .now) (g .pre) (l .walk) (l .work) (l .inv)
-    (vertex d) (after d) (moved d)
+    edges-ready (start-of (turn d) .pre) (small d) (turn d .loop .inv .keeps)
 
 add-work : tie.Need-add-work Inv-loop μ-loop
 add-work c = search needs
@@ -181,12 +164,12 @@ add-work-2 c = search needs
 add-work-3 : tie.Need-add-work-3 Inv-loop μ-loop
 add-work-3 c =
     let d = c .before .before .before .before in
-    omega (arith, counter-fits d, turn d .loop .inv .long, start-of (turn d) .good)
+    omega (arith, counter-fits d, turn d .loop .inv .keeps .long, start-of (turn d) .good)
 
 mul-work : tie.Need-mul-work Inv-loop μ-loop
 mul-work c =
     let d = c .before .before .before .before in
-    omega (arith, counter-fits d, turn d .loop .inv .long, start-of (turn d) .good)
+    omega (arith, counter-fits d, turn d .loop .inv .keeps .long, start-of (turn d) .good)
 
 slice-write-work : tie.Need-slice-write-work Inv-loop μ-loop
 slice-write-work c = counter-fits (c .before .before .before .before)
@@ -198,10 +181,8 @@ loop-again : tie.Need-loop-again Inv-loop μ-loop
 loop-again c =
     let d = c .before .before .before .before in
     let g = start-of (turn d) in
-    let a = g .args in
-    let l = turn d .loop in
-    counting-other (a .owners .now) (a .offsets .now) (a .targets .now) (a .s) (a .alpha) (a .within) (a .work .now) (g .pre) (l .walk) (l .work) (l .inv)
-    (vertex d) (after d) (moved d) (c .inside-edges .result) (c .inside-edges .ensures)
+    walked-more (walkable g) (turn d .loop .inv) (after d) (moved d)
+    (counting-other (g .pre) (small d) (turn d .loop .inv .keeps) (g .args .alpha) (c .inside-edges .ensures))
 
 loop-less-2 : tie.Need-loop-less-2 Inv-loop μ-loop
 loop-less-2 c = shorter (c .before)
@@ -210,10 +191,8 @@ loop-again-2 : tie.Need-loop-again-2 Inv-loop μ-loop
 loop-again-2 c =
     let d = c .before in
     let g = start-of (turn d) in
-    let a = g .args in
-    let l = turn d .loop in
-    counting-own (a .owners .now) (a .offsets .now) (a .targets .now) (a .s) (a .alpha) (a .within) (a .work .now) (g .pre) (l .walk) (l .work) (l .inv)
-    (vertex d) (after d) (moved d) (eq-eqb _ _ (c .if1 .left))
+    walked-more (walkable g) (turn d .loop .inv) (after d) (moved d)
+    (counting-own (g .pre) (g .args .alpha) (eq-eqb _ _ (c .if1 .left)))
 
 pub initialize-attractor-counters-spec : {M : Type 1} → statement M
 initialize-attractor-counters-spec =
