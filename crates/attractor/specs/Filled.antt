@@ -8,10 +8,10 @@ use native.Mathlib.Nat.{not-suc-le-zero}
 use native.Mathlib.Numerals.{add-one}
 use native.Mathlib.Omega.{arith}
 use lib.ListN.{length, getD, take, drop, set, length-take, length-drop, length-set}
-use lib.Seq.{ext-getD, drop-cons, getD-take, getD-drop, getD-set-same, getD-set-other}
+use lib.Seq.{drop-cons, getD-set-same, getD-set-other}
 use Rattle.sets.specs.declared.members.Members.{Members}
 use Rattle.sets.specs.Walk.{members, left}
-use Rattle.attractor.specs.Views.{part-is}
+use Rattle.attractor.specs.Views.{part-is, slice-alike}
 
 -- what `fill_queue` asks for: the set lies in the work area, and its members have room before it
 pub record Fillable (queue base s : ℕ) (work : List ℕ) : Type 0 where
@@ -64,13 +64,7 @@ module _ (queue base s : ℕ) (before : List ℕ) (given : Fillable queue base s
     pub part-same : take ((base + s) - base) (drop base after) ≡ xs
     part-same =
         part-is base s after ∙
-        ext-getD 0 (take s (drop base after)) xs (simp (length-take, length-drop, c .long))
-        (λ i l.
-        let less : i < s = omega (arith, length-take s (drop base after)) in
-        getD-take s (drop base after) i 0 less ∙
-        getD-drop base after i 0 ∙
-        c .rest (base + i) (inr (omega (arith, given .room, c .below))) ∙
-        sym (getD-take s (drop base before) i 0 less ∙ getD-drop base before i 0))
+        slice-alike s base before after (c .long) (λ i l. c .rest (base + i) (inr (omega (arith, given .room, c .below))))
 
     pub part-few : length (take ((base + s) - base) (drop base after)) ≤ 64
     part-few = rw part-same (omega (arith, length-take s (drop base before), given .few))
