@@ -14,7 +14,7 @@ use Rattle.parity_game.specs.Laws.{then-none, then-assoc, Numbered, numbered-th
 use Rattle.parity_game.specs.Laws.{check9-set, check9-set-none, check9-table-none, check10-none}
 use Rattle.attractor.specs.Area.{free}
 use Rattle.rules.specs.Solver.{cleared}
-use Rattle.attractor.specs.Attracts.{Lent, attractorChecks, wanted, Leaves, Attracts}
+use Rattle.rules.specs.Attracts.{Lent, attractorChecks, wanted, Leaves, Attracts}
 use Rattle.attractor.specs.Door.{sizeChecks, checksBy, Runnable, Ran}
 use Rattle.attractor.specs.DoorLaws.{within-below, target-part}
 

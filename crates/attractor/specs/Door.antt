@@ -12,7 +12,7 @@ use Rattle.rules.specs.Tables.{Tables, gameOf, vertices, edgesIn, words, tableC
 use Rattle.rules.specs.Words.{setOf, Holds, noEntry}
 use Rattle.rules.specs.Attractor.{looksOf, AttractorEntries, check12}
 use Rattle.attractor.specs.Area.{free}
-use Rattle.attractor.specs.Attracts.{wanted}
+use Rattle.rules.specs.Attracts.{wanted}
 use Rattle.attractor.specs.View.{ownBy}
 
 -- the test of check 12

@@ -22,5 +22,4 @@ pub mod DoorLaws
 pub mod Runs
 pub mod Answered
 pub mod Attracted
-pub mod Attracts
 pub mod Promises

@@ -8,7 +8,7 @@ use Rattle.rules.specs.Game.{Player}
 use Rattle.rules.specs.Outcome.{Outcome, Verdict, none, refused, outcome, answered}
 use Rattle.rules.specs.Tables.{Tables, gameOf}
 use Rattle.sets.specs.Same.{Narrow, holds-same}
-use Rattle.attractor.specs.Attracts.{Lent, attractorChecks, wanted, Answers, Leaves, Attracts}
+use Rattle.rules.specs.Attracts.{Lent, attractorChecks, wanted, Answers, Leaves, Attracts}
 
 -- **Past the checks the count is the rule's looks, and the result and the entries are the rule's.**
 pub attractor-answers :

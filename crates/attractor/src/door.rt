@@ -12,7 +12,7 @@ ghost use Rattle.rules.specs.Outcome.{outcome, answered};
 ghost use Rattle.rules.specs.Attractor.{check12};
 ghost use Rattle.rules.specs.Tables.{words, Accepted, tablesOf};
 ghost use Rattle.parity_game.specs.Said.{said, is};
-ghost use Rattle.attractor.specs.Attracts.{Attracts};
+ghost use Rattle.rules.specs.Attracts.{Attracts};
 ghost use Rattle.attractor.specs.Door.{stray, Bits, sizeChecks, checksBy, Entered, chosen, Enterable, Written, Runnable, Ran};
 
 // alpha's number, 0 or 1.

@@ -1,5 +1,4 @@
--- What the checker promises for every input: the outcome by the refusals 1 to 10 and the kinds 21 to 24, and the work area, which is
--- untouched after a refusal and else cleared.
+-- What the checker's pieces ask for and give, kind by kind, and that together they are the kinds in order.
 use mathlib.Core.Bool.{Bool, true, false, _&&_, not, cond}
 use mathlib.Core.List.{List}
 use mathlib.Core.Logic.{inr, ⊎-elim}
@@ -18,7 +17,7 @@ use Rattle.rules.specs.Tables.{Tables, vertices, edgesIn, words, workWords, gam
 use Rattle.rules.specs.Words.{setOf, entry}
 use Rattle.rules.specs.Zielonka.{highestIn}
 use Rattle.rules.specs.Solver.{cleared}
-use Rattle.rules.specs.Checker.{winnerOf, check21, check22, check23, check24, certificateChecks}
+use Rattle.rules.specs.Checker.{winnerOf, check21, check22, check23, check24, certificateChecks, leftBy, Checks}
 use Rattle.theory.specs.Basics.{lt-or-ge, same-true}
 use Rattle.theory.specs.Checker.{after22}
 use Rattle.theory.specs.Chosen.{chosenPart, check24-chosen, givenAt-cong}
@@ -32,19 +31,6 @@ use Rattle.solver.specs.Checks.{checksBy, checks-passed}
 use Rattle.parts.specs.Area.{behind, Cleared, marked}
 use Rattle.checker.specs.Sides.{Sets, Given, Sided, ownBy, sideOf, wrongEntry, leavesSet, entry-is}
 use Rattle.checker.specs.Cycles.{losingAt, Scannable, MarksReady, CyclesMarked}
-
--- the work area: as it was after a refusal, else cleared
-abbrev pub leftBy : Verdict → Tables → List ℕ → List ℕ
-leftBy none t before = cleared t before
-leftBy (refused k p) t before = before
-
-pub record Checks (t : Tables) (even odd strategy before after : List ℕ) (o : Outcome) : Type 0 where
-  pub gives :
-      o ≡
-      outcome
-      (checksBy t (length even) (length odd) (length strategy) (length before) then certificateChecks (gameOf t) even odd strategy)
-      (answered 0)
-  pub work : after ≡ leftBy (checksBy t (length even) (length odd) (length strategy) (length before)) t before
 
 pub record CyclesReady (t : Tables) (even strategy work : List ℕ) : Type 0 where
   pub accepted : Accepted t

@@ -9,7 +9,7 @@ use lib.ListN.{length}
 use Rattle.rules.specs.Game.{Player, Even, Odd, Game}
 use Rattle.rules.specs.Outcome.{Outcome, Verdict, none, outcome, answered, _then_}
 use Rattle.rules.specs.Tables.{Tables, gameOf}
-use Rattle.rules.specs.Checker.{check21, check22, check23, check24, certificateChecks}
+use Rattle.rules.specs.Checker.{check21, check22, check23, check24, certificateChecks, Checks}
 use Rattle.rules.specs.Counting.{Set}
 use Rattle.rules.specs.Winning.{WinningSets, WinningEntries}
 use Rattle.rules.specs.Words.{Holds}
@@ -17,7 +17,7 @@ use Rattle.theory.specs.Checker.{Certified, accepted-certificate-yes, winning-g
 use Rattle.theory.specs.Tables.{accepted-total}
 use Rattle.parity_game.specs.Laws.{Numbered, numbered-givenAt, numbered-then, then-none, zero-none, outcome-pass}
 use Rattle.solver.specs.Checks.{checksBy, numbered-by, checks-passed}
-use Rattle.checker.specs.Checks.{Checks, numbered21}
+use Rattle.checker.specs.Checks.{numbered21}
 
 numbered-certificate : (g : Game) (even odd strategy : List ℕ) → Numbered (certificateChecks g even odd strategy)
 unfolding certificateChecks check22 check23 check24

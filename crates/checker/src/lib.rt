@@ -5,7 +5,8 @@ mod sides;
 
 use parity_game::Answer;
 ghost use Rattle.parity_game.specs.Said.{said};
-ghost use Rattle.checker.specs.Checks.{Certifiable, Certifies, Checks};
+ghost use Rattle.rules.specs.Checker.{Checks};
+ghost use Rattle.checker.specs.Checks.{Certifiable, Certifies};
 ghost use Rattle.rules.specs.Tables.{tablesOf};
 
 // The kinds 21 to 24 in order.

@@ -5,7 +5,7 @@ use mathlib.Core.Logic.{_↔_}
 use mathlib.Core.Path.{_≡_, refl, sym, ap, _∙_}
 use Prim.Native.Nat.{ℕ}
 use lib.ListN.{length}
-use Rattle.rules.specs.Compaction.{compacted}
+use Rattle.rules.specs.Compaction.{compacted, compactionChecks, newTable, Compacts}
 use Rattle.rules.specs.Counting.{Set}
 use Rattle.rules.specs.Game.{Player}
 use Rattle.rules.specs.Outcome.{Outcome, Verdict, none, refused, outcome, answered}
@@ -13,7 +13,6 @@ use Rattle.rules.specs.Tables.{Tables, vertices, gameOf, tableChecks, check9, A
 use Rattle.rules.specs.Winning.{Wins, WinningSets}
 use Rattle.parity_game.specs.Laws.{Numbered, numbered-then, numbered-tables, numbered-check9, zero-none, then-none}
 use Rattle.theory.specs.Compaction.{withPriorities, compacted-accepted, compaction-keeps-winners, compaction-keeps-winning-sets}
-use Rattle.compaction.specs.Compacts.{Compacts, compactionChecks, newTable}
 
 -- a refusal leaves the new table as it was
 pub refusal-leaves :

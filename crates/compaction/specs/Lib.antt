@@ -1,4 +1,4 @@
--- What compaction promises, and its steps.
-pub mod Compacts
+-- What compaction's steps promise, and what follows from its contract.
+pub mod Marks
 pub mod Steps
 pub mod Laws

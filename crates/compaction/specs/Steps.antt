@@ -15,7 +15,7 @@ use Rattle.rules.specs.Compaction.{Last, last, used, nextNumber, lastBelow, com
 use Rattle.rules.specs.Counting.{Set, some}
 use Rattle.theory.specs.Basics.{bool-cases, clash, or-right, below-suc}
 use Rattle.theory.specs.Compaction.{getD-map-below, entry-used, next-small, last-lowered, last-used, last-unused}
-use Rattle.compaction.specs.Compacts.{Small, marked, Marks, lastGiven, Numbers}
+use Rattle.compaction.specs.Marks.{Small, marked, Marks, lastGiven, Numbers}
 
 -- the marks tell which priorities the first v entries have
 abbrev pub MarksOf : ℕ → List ℕ → List ℕ → Type 0

@@ -5,9 +5,9 @@ ghost use mathlib.Core.List.{map};
 ghost use mathlib.Core.Path.{_≡_};
 ghost use Prim.Native.Nat.{_≤_};
 ghost use lib.ListN.{length, getD};
-ghost use Rattle.rules.specs.Compaction.{nextNumber};
+ghost use Rattle.rules.specs.Compaction.{nextNumber, Compacts};
 ghost use Rattle.parity_game.specs.Said.{said};
-ghost use Rattle.compaction.specs.Compacts.{Small, Marks, Numbers, lastGiven, Compacts};
+ghost use Rattle.compaction.specs.Marks.{Small, Marks, Numbers, lastGiven};
 ghost use Rattle.rules.specs.Tables.{tablesOf};
 
 // Which priorities are used: 1 at each.

@@ -9,8 +9,8 @@ use Rattle.rules.specs.Game.{Player}
 use Rattle.rules.specs.Outcome.{Outcome}
 use Rattle.rules.specs.Solver.{Solves, Lent}
 use Rattle.rules.specs.Tables.{Tables}
-use Rattle.attractor.specs.Attracts as attractor
-use Rattle.attractor.specs.Attracts.{Attracts}
+use Rattle.rules.specs.Attracts as attractor
+use Rattle.rules.specs.Attracts.{Attracts}
 
 abbrev pub told : ℕ → ℕ → ℕ → Outcome
 told number place count = record { number = number; place = place; count = count }

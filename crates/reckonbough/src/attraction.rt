@@ -3,7 +3,7 @@ use crate::answer::tell;
 use parity_game::Player;
 ghost use Rattle.rules.specs.Game.{playerOf};
 ghost use Rattle.rules.specs.Tables.{tablesOf};
-ghost use Rattle.attractor.specs.Attracts.{Attracts};
+ghost use Rattle.rules.specs.Attracts.{Attracts};
 ghost use Rattle.reckonbough.specs.Doors.{told};
 
 #[no_mangle]

@@ -1,7 +1,7 @@
 // The certificate checker.
 use crate::answer::tell;
 ghost use Rattle.rules.specs.Tables.{tablesOf};
-ghost use Rattle.checker.specs.Checks.{Checks};
+ghost use Rattle.rules.specs.Checker.{Checks};
 ghost use Rattle.reckonbough.specs.Doors.{told};
 
 #[no_mangle]

@@ -3,7 +3,7 @@ use crate::answer::tell;
 ghost use mathlib.Core.Path.{_≡_};
 ghost use Rattle.rules.specs.Outcome.{outcome, answered};
 ghost use Rattle.rules.specs.Tables.{tableChecks, tablesOf};
-ghost use Rattle.compaction.specs.Compacts.{Compacts};
+ghost use Rattle.rules.specs.Compaction.{Compacts};
 ghost use Rattle.reckonbough.specs.Doors.{told};
 
 #[no_mangle]

@@ -1,14 +1,17 @@
--- The checker's kinds 21 to 24, on two sets and a strategy, kind by kind in this order.
+-- The checker's kinds 21 to 24, on two sets and a strategy, kind by kind in this order; and what the function gives back and leaves, for
+-- every input.
 use mathlib.Core.Bool.{Bool, _&&_, _||_, not, cond}
 use mathlib.Core.List.{List}
+use mathlib.Core.Path.{_≡_}
 use Prim.Native.Nat.{ℕ, suc, _*_}
 use lib.Dec.{eqb, ltb, leb}
 use Rattle.rules.specs.Counting.{Set, some, someOf, everyOf}
 use Rattle.rules.specs.Game.{Player, Even, Odd, Game, everywhere, parity, same}
-use Rattle.rules.specs.Outcome.{Verdict, givenAt, _then_}
-use Rattle.rules.specs.Tables.{words}
+use Rattle.rules.specs.Outcome.{Outcome, Verdict, none, refused, outcome, answered, givenAt, _then_}
+use Rattle.rules.specs.Tables.{Tables, gameOf, words}
 use Rattle.rules.specs.Words.{setOf, noEntry, entry}
 use Rattle.rules.specs.Zielonka.{highestIn}
+use Rattle.rules.specs.Solver.{cleared, solverChecks}
 use Rattle.rules.specs.Solitaire.{Links, samePart, reached}
 
 -- 21: a vertex in both sets or neither, or a bit at n or above, at the lowest bit
@@ -79,3 +82,17 @@ certificateChecks g even odd strategy =
     check22 g even strategy then
     check23 g even strategy then
     check24 g even strategy
+
+-- 1 to 10 come first, by what is lent
+abbrev pub lentChecks : Tables → List ℕ → List ℕ → List ℕ → List ℕ → Verdict
+lentChecks t even odd strategy work = solverChecks t (record { even = even; odd = odd; strategy = strategy; work = work })
+
+-- the work area: as it was after one of these, else cleared
+abbrev pub leftBy : Verdict → Tables → List ℕ → List ℕ
+leftBy none t before = cleared t before
+leftBy (refused k p) t before = before
+
+-- the public function
+pub record Checks (t : Tables) (even odd strategy before after : List ℕ) (o : Outcome) : Type 0 where
+  pub gives : o ≡ outcome (lentChecks t even odd strategy before then certificateChecks (gameOf t) even odd strategy) (answered 0)
+  pub work : after ≡ leftBy (lentChecks t even odd strategy before) t before

@@ -1,11 +1,14 @@
 -- Compaction: the lowest priority used becomes 0 or 1 by its parity; each next different one becomes the last new number plus 1
--- if parity differs, plus 2 if not.
+-- if parity differs, plus 2 if not. And what the function gives back and leaves, for every input.
 use mathlib.Core.Bool.{cond}
-use mathlib.Core.List.{List}
+use mathlib.Core.List.{List, [], _∷_, map}
+use mathlib.Core.Path.{_≡_}
 use Prim.Native.Nat.{ℕ, zero, suc, _+_, _%_}
 use lib.Dec.{eqb}
 use lib.ListN.{length, getD}
 use Rattle.rules.specs.Counting.{Set, some}
+use Rattle.rules.specs.Outcome.{Outcome, Verdict, none, refused, outcome, answered, _then_}
+use Rattle.rules.specs.Tables.{Tables, vertices, tableChecks, check9}
 
 -- some vertex has this priority
 abbrev pub used : List ℕ → Set
@@ -30,3 +33,17 @@ lastBelow isUsed (suc p) =
 -- the new number of a used priority
 unfoldable pub compacted : List ℕ → ℕ → ℕ
 compacted priorities p = nextNumber (lastBelow (used priorities) p) p
+
+-- 1 to 9, for tables and a new priority table of some length
+abbrev pub compactionChecks : Tables → ℕ → Verdict
+compactionChecks t newLength = tableChecks t then check9 (vertices t) [] (newLength ∷ [])
+
+-- the new table that a verdict leaves: as it was after a refusal, else the rule's
+abbrev pub newTable : Verdict → Tables → List ℕ → List ℕ
+newTable none t before = map (compacted (t .priorities)) (t .priorities)
+newTable (refused k p) t before = before
+
+-- the public function
+pub record Compacts (t : Tables) (before after : List ℕ) (o : Outcome) : Type 0 where
+  pub gives : o ≡ outcome (compactionChecks t (length before)) (answered 0)
+  pub table : after ≡ newTable (compactionChecks t (length before)) t before

@@ -11,6 +11,7 @@ pub mod Zielonka
 pub mod Budget
 pub mod Promotion
 pub mod Solver
+pub mod Attracts
 pub mod Solitaire
 pub mod Checker
 pub mod Compaction

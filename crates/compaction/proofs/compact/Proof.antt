@@ -10,7 +10,8 @@ use Rattle.rules.specs.Tables.{Tables, vertices, tableChecks, check9, Accepted}
 use Rattle.parity_game.specs.Laws.{Sound, accepted-sound, outcome-pass, numbered-tables, numbered-check9, check9-table-none}
 use Rattle.parity_game.proofs.Matched.{went-on, stopped, refusal-not-zero}
 use Rattle.parity_game.specs.Said.{said}
-use Rattle.compaction.specs.Compacts.{Small, compactionChecks}
+use Rattle.rules.specs.Compaction.{compactionChecks}
+use Rattle.compaction.specs.Marks.{Small}
 use Rattle.compaction.specs.Laws.{compacts-refused, compacts-answered}
 use Rattle.compaction.specs.Steps.{numbers-compact}
 use Rattle.compaction.proofs.compact.Statement.{statement}

@@ -9,7 +9,7 @@ use Rattle.rules.specs.Tables.{Tables}
 use Rattle.parity_game.specs.Laws.{accepted-sound}
 use Rattle.parity_game.specs.Said.{is}
 use Rattle.parity_game.proofs.Matched.{went-on, refusal-not-zero}
-use Rattle.attractor.specs.Attracts.{Lent, attractorChecks}
+use Rattle.rules.specs.Attracts.{Lent, attractorChecks}
 use Rattle.attractor.specs.Door.{Ran}
 use Rattle.attractor.specs.Answered.{Passed, numbered-checks, checks-passed, run-ready, work-cleared, attracts-refused, attracts-answered}
 use Rattle.attractor.proofs.door.attractor.Statement.{statement}

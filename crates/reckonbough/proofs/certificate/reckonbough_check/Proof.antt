@@ -1,7 +1,7 @@
 -- `reckonbough_check` meets its contract: what is told and written is what `check` answers and writes.
 use mathlib.Core.Path.{subst}
 use borrow.Author.Needs.{needs}
-use Rattle.checker.specs.Checks.{Checks}
+use Rattle.rules.specs.Checker.{Checks}
 use Rattle.reckonbough.proofs.certificate.reckonbough_check.Statement.{statement}
 use Rattle.reckonbough.proofs.certificate.reckonbough_check.Tie as tie
 

@@ -1,7 +1,7 @@
 -- `reckonbough_compact` meets its contract: what is told and written is what `compact` answers and writes.
 use mathlib.Core.Path.{subst}
 use borrow.Author.Needs.{needs}
-use Rattle.compaction.specs.Compacts.{Compacts}
+use Rattle.rules.specs.Compaction.{Compacts}
 use Rattle.reckonbough.proofs.tables.reckonbough_compact.Statement.{statement}
 use Rattle.reckonbough.proofs.tables.reckonbough_compact.Tie as tie
 
