@@ -22,4 +22,5 @@ pub mod DoorLaws
 pub mod Runs
 pub mod Answered
 pub mod Attracted
+pub mod Alike
 pub mod Promises
