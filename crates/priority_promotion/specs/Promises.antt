@@ -1,6 +1,7 @@
 -- What a reader may conclude of `solve_priority_promotion`, from its contract alone: whenever it answers, its sets are the winning sets of
 -- demand 2 and Zielonka's, each vertex has one winner, the strategy wins and the count is the rules' rounds; it answers whenever nothing is
--- refused and the budget is n · (n + 2) ^ d or more; and any two results that meet the contract are the same but for strategy entries.
+-- refused and the budget is n · (n + 2) ^ d or more; and any two results that meet the contract are the same but for the entries of winners'
+-- own vertices.
 use mathlib.Core.Bool.{Bool, true, false}
 use mathlib.Core.List.{List}
 use mathlib.Core.Logic.{_⊎_, ⊎-elim}
@@ -99,15 +100,15 @@ pub answered-gets-yes :
     certificateChecks (gameOf t) (after .even) (after .odd) (after .strategy) ≡ none
 answered-gets-yes p e = answered-certified p e (rules-sets p e)
 
--- **Any two results that meet the contract are the same but for strategy entries,**
+-- **Any two results that meet the contract are the same but for the entries of winners' own vertices,**
 pub promotion-results-agree :
     {flag : Bool} {budget : ℕ} {t : Tables} {before after after′ : Lent} {o o′ : Outcome} →
     ((c : Player) → Narrow (setFor after c)) →
     ((c : Player) → Narrow (setFor after′ c)) →
     Promise flag budget t before after o →
     Promise flag budget t before after′ o′ →
-    Agree flag after after′ o o′
-promotion-results-agree = results-agree
+    Agree flag t after after′ o o′
+promotion-results-agree n n′ p p′ = results-agree n n′ (rules-sets p) p p′
 
 -- **any two answers count the same rounds, whatever the budgets,**
 pub answers-count-the-same :

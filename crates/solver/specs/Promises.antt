@@ -1,13 +1,14 @@
 -- What a reader may conclude of a solver from its contract alone, whatever it counts: when it has answered, what it then leaves, and that
--- any two results that meet the contract are the same but for strategy entries.
+-- any two results that meet the contract are the same but for the entries of winners' own vertices.
 use mathlib.Core.Bool.{Bool, true, false, cond}
 use mathlib.Core.List.{List}
 use mathlib.Core.Logic.{_⊎_, inl, inr, ⊎-elim}
-use mathlib.Core.Path.{_≡_, refl, sym, ap, _∙_}
+use mathlib.Core.Path.{_≡_, refl, sym, ap, subst, _∙_}
 use Prim.Native.Nat.{ℕ, _≤_, _<_}
 use native.Mathlib.Omega.{arith}
 use borrow.Author.Tests.{le-ltb, ltb-false, eqb-false}
 use lib.Dec.{ltb}
+use lib.ListN.{getD-replicate}
 use Rattle.rules.specs.Checker.{certificateChecks}
 use Rattle.rules.specs.Counting.{Set}
 use Rattle.rules.specs.Game.{Player, Even, Odd}
@@ -15,7 +16,8 @@ use Rattle.rules.specs.Outcome.{Outcome, Verdict, none, refused, outcome, answe
 use Rattle.rules.specs.Solver.{Lent, solverChecks, Entries, Answered, Leaves, Solves}
 use Rattle.rules.specs.Tables.{Tables, gameOf, vertices, tableChecks, Accepted}
 use Rattle.rules.specs.Winning.{WinningSets}
-use Rattle.rules.specs.Words.{setOf, Holds}
+use Rattle.rules.specs.Words.{setOf, Holds, noEntry, entry}
+use Rattle.attractor.specs.Alike.{Alike, alike-same, alike-none, alike-equal}
 use Rattle.parity_game.specs.Laws.{then-none, zero-none}
 use Rattle.sets.specs.Same.{Narrow, holds-same}
 use Rattle.theory.specs.Basics.{clash}
@@ -97,6 +99,33 @@ module _ {flag : Bool} {budget : ℕ} {t : Tables} {needed : ℕ} {won : Player 
           λ a b. both (got Even v small .0 a) (got Odd v small .0 b),
         )
 
+    -- **An entry is none without the flag, and where the vertex is not in its owner's set.**
+    pub answered-absent :
+        o .number ≡ 0 →
+        WinningSets (gameOf t) won →
+        (v : ℕ) →
+        v < vertices t →
+        (flag ≡ true → gotBy after (gameOf t .owner v) v ≡ true → ⊥) →
+        entry (after .strategy) v ≡ noEntry
+    unfolding gameOf
+    answered-absent e wins v small lost = by flag (answer e .entries) lost
+      where
+        by :
+            (f : Bool) →
+            Entries f t won (after .strategy) →
+            (f ≡ true → gotBy after (gameOf t .owner v) v ≡ true → ⊥) →
+            entry (after .strategy) v ≡ noEntry
+        by true entries lost =
+            ⊎-elim (λ w. theirs Even (wins Even v small .1 w)) (λ w. theirs Odd (wins Odd v small .1 w))
+            (determinacy t (answered-accepted e) v small .0)
+          where
+            theirs : (c : Player) → won c v ≡ true → entry (after .strategy) v ≡ noEntry
+            theirs c w =
+                entries .absent c v small w
+                (λ own. lost refl (ap (λ (b : Player). gotBy after b v) own ∙ answered-holds e c .bits v small ∙ w))
+        by false entries lost =
+            ap (λ (s : List ℕ). entry s v) entries ∙ getD-replicate (vertices t) v noEntry noEntry small
+
     -- **It answers whenever nothing is refused and the budget is enough.**
     pub answers-within : solverChecks t before ≡ none → needed ≤ budget → o ≡ answered needed
     answers-within passed enough =
@@ -124,71 +153,108 @@ answered-certified {t = t} {won = won} {after = after} p e wins =
 pub holds-alike : {n : ℕ} {S T : Set} {xs : List ℕ} → ((v : ℕ) → v < n → S v ≡ T v) → Holds n S xs → Holds n T xs
 holds-alike same h = record { long = h .long; bits = λ v l. h .bits v l ∙ same v l; clear = h .clear }
 
--- two results agree in all but strategy entries
-pub record Agree (flag : Bool) (after after′ : Lent) (o o′ : Outcome) : Type 0 where
+-- the entry of v is free: in an answer with the flag, where v is in its owner's set
+pub record Free (flag : Bool) (t : Tables) (after : Lent) (o : Outcome) (v : ℕ) : Type 0 where
+  pub asked : flag ≡ true
+  pub answer : o .number ≡ 0
+  pub own : gotBy after (gameOf t .owner v) v ≡ true
+
+-- two results agree in all but the entries that are free
+pub record Agree (flag : Bool) (t : Tables) (after after′ : Lent) (o o′ : Outcome) : Type 0 where
   pub outcomes : o ≡ o′
   pub even : after .even ≡ after′ .even
   pub odd : after .odd ≡ after′ .odd
-  pub unasked : flag ≡ false → after .strategy ≡ after′ .strategy
+  pub strategy : Alike (Free flag t after o) (after .strategy) (after′ .strategy)
   pub work : after .work ≡ after′ .work
+
+-- where nothing is free they are the same in all
+free-same :
+    {flag : Bool} {t : Tables} {after after′ : Lent} {o o′ : Outcome} →
+    Agree flag t after after′ o o′ →
+    ((v : ℕ) → Free flag t after o v → ⊥) →
+    after ≡ after′
+free-same h f = lent (h .even) (h .odd) (alike-equal f (h .strategy)) (h .work)
+  where
+    lent :
+        {e e′ d d′ s s′ w w′ : List ℕ} →
+        e ≡ e′ → d ≡ d′ → s ≡ s′ → w ≡ w′ →
+        _≡_ {A = Lent} (record { even = e; odd = d; strategy = s; work = w }) (record { even = e′; odd = d′; strategy = s′; work = w′ })
+    lent a b c d = cc
 
 agree-by :
     (v : Verdict) (over flag : Bool) (t : Tables) (won : Player → Set) (before after after′ : Lent) (o : Outcome) →
     ((c : Player) → Narrow (setFor after c)) →
     ((c : Player) → Narrow (setFor after′ c)) →
+    (v ≡ none → over ≡ false → Alike (Free flag t after o) (after .strategy) (after′ .strategy)) →
     Leaves v over flag t won before after →
     Leaves v over flag t won before after′ →
-    Agree flag after after′ o o
-agree-by (refused k q) over flag t won before after after′ o n n′ l l′ =
+    Agree flag t after after′ o o
+agree-by (refused k q) over flag t won before after after′ o n n′ strategy l l′ =
     let same : after ≡ after′ = l ∙ sym l′ in
     record {
       outcomes = refl;
       even = ap (λ (x : Lent). x .even) same;
       odd = ap (λ (x : Lent). x .odd) same;
-      unasked = λ e. ap (λ (x : Lent). x .strategy) same;
+      strategy = alike-same (ap (λ (x : Lent). x .strategy) same);
       work = ap (λ (x : Lent). x .work) same;
     }
-agree-by none true flag t won before after after′ o n n′ l l′ =
+agree-by none true flag t won before after after′ o n n′ strategy l l′ =
     record {
       outcomes = refl;
       even = l .even ∙ sym (l′ .even);
       odd = l .odd ∙ sym (l′ .odd);
-      unasked = λ e. l .strategy ∙ sym (l′ .strategy);
+      strategy = alike-same (l .strategy ∙ sym (l′ .strategy));
       work = l .work ∙ sym (l′ .work);
     }
-agree-by none false flag t won before after after′ o n n′ l l′ =
+agree-by none false flag t won before after after′ o n n′ strategy l l′ =
     record {
       outcomes = refl;
       even = holds-same (after .even) (after′ .even) (n Even) (n′ Even) (l .even) (l′ .even);
       odd = holds-same (after .odd) (after′ .odd) (n Odd) (n′ Odd) (l .odd) (l′ .odd);
-      unasked = unasked flag (l .entries) (l′ .entries);
+      strategy = strategy refl refl;
       work = l .work ∙ sym (l′ .work);
     }
-  where
-    unasked :
-        (f : Bool) →
-        Entries f t won (after .strategy) →
-        Entries f t won (after′ .strategy) →
-        f ≡ false →
-        after .strategy ≡ after′ .strategy
-    unasked true a b e = absurd (clash refl e)
-    unasked false a b e = a ∙ sym b
 
--- **Any two results that meet the contract are the same but for strategy entries.**
+-- **Any two results that meet the contract are the same but for the entries of winners' own vertices, in an answer with the flag,**
 pub results-agree :
     {flag : Bool} {budget : ℕ} {t : Tables} {needed : ℕ} {won : Player → Set} {before after after′ : Lent} {o o′ : Outcome} →
     ((c : Player) → Narrow (setFor after c)) →
     ((c : Player) → Narrow (setFor after′ c)) →
+    (o .number ≡ 0 → WinningSets (gameOf t) won) →
     Solves flag budget t needed won before after o →
     Solves flag budget t needed won before after′ o′ →
-    Agree flag after after′ o o′
-results-agree {flag} {budget} {t} {needed} {won} {before} {after} {after′} {o} {o′} n n′ p p′ =
-    let agree =
-    agree-by (solverChecks t before) (ltb budget needed) flag t won before after after′ o n n′ (p .leaves) (p′ .leaves) in
-    record {
-      outcomes = p .gives ∙ sym (p′ .gives);
-      even = agree .even;
-      odd = agree .odd;
-      unasked = agree .unasked;
-      work = agree .work;
-    }
+    Agree flag t after after′ o o′
+results-agree {flag} {budget} {t} {needed} {won} {before} {after} {after′} {o} {o′} n n′ wins p p′ =
+    subst
+    (λ (x : Outcome). Agree flag t after after′ o x)
+    outcomes
+    (agree-by (solverChecks t before) (ltb budget needed) flag t won before after after′ o n n′
+    (λ passed within. alike (ap (λ (x : Outcome). x .number) (answers-within p passed (ltb-false budget needed within))))
+    (p .leaves) (p′ .leaves))
+  where
+    outcomes : o ≡ o′
+    outcomes = p .gives ∙ sym (p′ .gives)
+
+    alike : o .number ≡ 0 → Alike (Free flag t after o) (after .strategy) (after′ .strategy)
+    alike e =
+        let e′ : o′ .number ≡ 0 = ap (λ (x : Outcome). x .number) (sym outcomes) ∙ e in
+        alike-none (vertices t) (answer p e .long) (answer p′ e′ .long)
+        (λ v l f.
+        let c = gameOf t .owner v in
+        let same = answered-holds p e c .bits v l ∙ sym (answered-holds p′ e′ c .bits v l) in (
+          answered-absent p e (wins e) v l (λ asked own. f (record { asked = asked; answer = e; own = own })),
+          answered-absent p′ e′ (wins e) v l (λ asked own. f (record { asked = asked; answer = e; own = same ∙ own })),
+        ))
+
+-- **after a refusal or 13 they are the same in all,**
+pub refused-same :
+    {flag : Bool} {t : Tables} {after after′ : Lent} {o o′ : Outcome} →
+    Agree flag t after after′ o o′ →
+    (o .number ≡ 0 → ⊥) →
+    after ≡ after′
+refused-same h r = free-same h (λ v f. r (f .answer))
+
+-- **and without the flag too.**
+pub unasked-same :
+    {t : Tables} {after after′ : Lent} {o o′ : Outcome} → Agree false t after after′ o o′ → after ≡ after′
+unasked-same h = free-same h (λ v f. clash (f .asked) refl)

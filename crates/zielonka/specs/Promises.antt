@@ -1,6 +1,6 @@
 -- What a reader may conclude of `solve_zielonka`, from its contract alone: whenever it answers, its sets are the winning sets of demand 2,
 -- each vertex has one winner, the strategy wins and the count is the recursion's calls; it answers whenever nothing is refused and the
--- budget is demand 3's bound or more; and any two results that meet the contract are the same but for strategy entries.
+-- budget is demand 3's bound or more; and any two results that meet the contract are the same but for the entries of winners' own vertices.
 use mathlib.Core.Bool.{Bool, true}
 use mathlib.Core.Logic.{_⊎_}
 use mathlib.Core.Path.{_≡_}
@@ -61,12 +61,13 @@ pub answered-strategy :
     WinningEntries (gameOf t) (zielonka (gameOf t) .won) (after .strategy)
 answered-strategy p e = answer p e .entries
 
--- **Any two results that meet the contract are the same but for strategy entries.**
+-- **Any two results that meet the contract are the same but for the entries of winners' own vertices.**
 pub zielonka-results-agree :
     {flag : Bool} {budget : ℕ} {t : Tables} {before after after′ : Lent} {o o′ : Outcome} →
     ((c : Player) → Narrow (setFor after c)) →
     ((c : Player) → Narrow (setFor after′ c)) →
     Promise flag budget t before after o →
     Promise flag budget t before after′ o′ →
-    Agree flag after after′ o o′
-zielonka-results-agree = results-agree
+    Agree flag t after after′ o o′
+zielonka-results-agree {t = t} n n′ p p′ =
+    results-agree n n′ (λ e. zielonka-wins (gameOf t) (accepted-total t (answered-accepted p e))) p p′
