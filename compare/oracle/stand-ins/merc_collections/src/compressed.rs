@@ -1,3 +1,5 @@
+//! STAND-IN for merc's `ByteCompressedVec`. It does not compress.
+
 use merc_utilities::TagIndex;
 
 /// What a [`ByteCompressedVec`] can hold.

@@ -1,3 +1,5 @@
+//! STAND-IN for merc's `Graph` and its routine for strongly connected parts.
+
 use merc_utilities::MercIndex;
 
 use crate::IndexedPartition;

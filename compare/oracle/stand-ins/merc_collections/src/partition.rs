@@ -1,3 +1,5 @@
+//! STAND-IN for merc's `BlockPartition` and `IndexedPartition`.
+
 use std::fmt::Debug;
 
 use merc_utilities::TagIndex;
