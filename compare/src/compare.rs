@@ -11,30 +11,34 @@ pub struct Tally {
     pub games: u64,
     pub by_definition: u64,
     pub solitaire: u64,
+    /// Strategies of the oracle that the checker of the rules accepted.
     pub strategies: u64,
-    /// Oracle runs stopped at the cap.
+    /// Games on which a run of the oracle was stopped at the cap.
     pub capped: u64,
-    /// Games on which both solvers of the oracle were stopped: nothing was compared.
+    /// Those of them on which both solvers of the oracle were: they are not among `games`.
     pub left_out: u64,
-    /// Games whose calls, or rounds, the plain reference counted too.
+    /// Games whose calls, or rounds, the plain reference counted too, and that it solved after compaction.
     pub calls_counted: u64,
     pub rounds_counted: u64,
+    pub compacted: u64,
     pub most_calls: u64,
     pub most_rounds: u64,
     /// How often promotion's "if there is none, p stays" came up.
     pub stays: u64,
     pub port: u64,
+    /// Strategies of the port that its own checker and the checker of the rules accepted: two a game.
+    pub port_strategies: u64,
 }
 
-/// Games above this size have no strategies checked: the plain checker is slow.
-const STRATEGIES_TO: usize = 64;
+/// The plain reference is slow: it goes up to this many calls or rounds, times 1 + n + m.
+pub const RULES_TO: u64 = 200_000_000;
 
-/// What a game's answers have to be.
+/// What a game's answers have to be; none where nobody came to an answer in good time.
 pub struct Want {
-    pub winners: Vec<u8>,
-    /// None where nobody counted them before the cap.
+    pub winners: Option<Vec<u8>>,
     pub calls: Option<u64>,
     pub rounds: Option<u64>,
+    /// None where two owners differ.
     pub solitaire: Option<Vec<bool>>,
 }
 
@@ -42,48 +46,96 @@ pub struct Want {
 pub struct Rules {
     pub zielonka: Option<zielonka::Solved>,
     pub promotion: Option<promotion::Solved>,
+    /// Zielonka after compaction.
+    pub compacted: Option<zielonka::Solved>,
     pub solitaire: Option<Vec<bool>>,
 }
 
 impl Rules {
     pub fn of(game: &Game) -> Rules {
-        let most = 200_000_000 / (1 + game.n() + game.m()) as u64;
+        let most = RULES_TO / (1 + game.n() + game.m()) as u64;
+        let compacted = Game { priorities: compaction::compact(game), ..game.clone() };
         Rules {
             zielonka: zielonka::solve(game, most),
             promotion: promotion::solve(game, most),
+            compacted: zielonka::solve(&compacted, most),
             solitaire: game.is_solitaire().then(|| solitaire::solve(game)),
         }
     }
 }
 
-/// Compares one accepted game of at least one vertex; the error says what differs.
+/// The answers by the oracle; none where it was stopped at the cap.
+struct Given {
+    zielonka: Option<oracle::Solved>,
+    promotion: Option<oracle::Solved>,
+    solitaire: Option<Vec<bool>>,
+    stopped: bool,
+}
+
+impl Given {
+    fn of(game: &Game, cap: Cap, tally: &mut Tally) -> Result<Given, String> {
+        let mut stopped = false;
+        let zielonka = both_runs("Zielonka", game, tally, &mut stopped, |strategy| oracle::zielonka(game, strategy, cap))?;
+        let run = |strategy| oracle::priority_promotion(game, strategy, cap);
+        let promotion = both_runs("promotion", game, tally, &mut stopped, run)?;
+        let solitaire = match game.is_solitaire() {
+            true => answered("solitaire", oracle::solitaire(game, cap), &mut stopped)?,
+            false => None,
+        };
+        Ok(Given { zielonka, promotion, solitaire, stopped })
+    }
+
+    /// Neither solver came to an answer.
+    fn is_left_out(&self) -> bool {
+        self.zielonka.is_none() && self.promotion.is_none()
+    }
+}
+
+/// Compares one accepted game of at least one vertex; the error says what differs. A game on which the oracle was stopped is
+/// still compared with whatever there is.
 pub fn compare(game: &Game, cap: Cap, tally: &mut Tally) -> Result<(), String> {
     if let Some(refusal) = tables::first_refusal(game) {
         return Err(format!("the generator made a game that is refused: {refusal:?}"));
     }
-    let zielonka = both_runs("Zielonka", game, tally, |strategy| oracle::zielonka(game, strategy, cap))?;
-    let promotion = both_runs("promotion", game, tally, |strategy| oracle::priority_promotion(game, strategy, cap))?;
-    let Some(one) = zielonka.as_ref().or(promotion.as_ref()) else {
-        tally.left_out += 1;
-        return Ok(());
-    };
-    let want = Want {
-        winners: one.winners.clone(),
-        calls: zielonka.as_ref().map(|solved| solved.count),
-        rounds: promotion.as_ref().map(|solved| solved.count),
-        solitaire: compare_solitaire(game, &one.winners, cap, tally)?,
-    };
-    if let Some(other) = &promotion {
-        same("winners of the oracle's promotion and Zielonka", &want.winners, &other.winners)?;
-    }
-    compare_rules(game, &Rules::of(game), &want, zielonka.map(|solved| solved.looks), tally)?;
+    let given = Given::of(game, cap, tally)?;
+    let rules = Rules::of(game);
+    let defined = if game.n() <= definition::MOST { Some(definition::winners(game)?) } else { None };
+    let want = wanted(&given, &rules, defined.as_ref())?;
+    compare_solitaire(game, &given, &want, tally)?;
+    compare_counts(game, &rules, &want, given.zielonka.as_ref().map(|solved| solved.looks), tally)?;
     #[cfg(feature = "port")]
     {
-        crate::port_check::compare(game, &want)?;
+        tally.port_strategies += crate::port_check::compare(game, &want)?;
         tally.port += 1;
     }
-    tally.games += 1;
+    tally.by_definition += defined.is_some() as u64;
+    tally.capped += given.stopped as u64;
+    tally.left_out += given.is_left_out() as u64;
+    tally.games += !given.is_left_out() as u64;
     Ok(())
+}
+
+/// The oracle's answers, the rules' where it has none. All who name winners name the same.
+fn wanted(given: &Given, rules: &Rules, defined: Option<&Vec<u8>>) -> Result<Want, String> {
+    let named = [
+        ("the oracle's Zielonka", given.zielonka.as_ref().map(|solved| &solved.winners)),
+        ("the oracle's promotion", given.promotion.as_ref().map(|solved| &solved.winners)),
+        ("Zielonka by the rules", rules.zielonka.as_ref().map(|solved| &solved.winners)),
+        ("promotion by the rules", rules.promotion.as_ref().map(|solved| &solved.winners)),
+        ("Zielonka by the rules after compaction", rules.compacted.as_ref().map(|solved| &solved.winners)),
+        ("demand 2's definition", defined),
+    ];
+    let winners = named.iter().find_map(|(_, winners)| *winners);
+    for (name, others) in named {
+        same(&format!("winners of {name}"), &winners, &others.or(winners))?;
+    }
+    let (by_zielonka, by_promotion) = (rules.zielonka.as_ref(), rules.promotion.as_ref());
+    Ok(Want {
+        winners: winners.cloned(),
+        calls: given.zielonka.as_ref().map(|solved| solved.count).or(by_zielonka.map(|solved| solved.calls)),
+        rounds: given.promotion.as_ref().map(|solved| solved.count).or(by_promotion.map(|solved| solved.rounds)),
+        solitaire: rules.solitaire.clone(),
+    })
 }
 
 /// The oracle with and without strategy: the same answer, and a strategy that the checker of the rules accepts.
@@ -91,24 +143,25 @@ fn both_runs(
     name: &str,
     game: &Game,
     tally: &mut Tally,
+    stopped: &mut bool,
     run: impl Fn(bool) -> Outcome<oracle::Solved>,
 ) -> Result<Option<oracle::Solved>, String> {
-    let Some(plain) = answered(name, run(false), tally)? else { return Ok(None) };
-    if let Some(with) = answered(name, run(true), tally)? {
+    let Some(plain) = answered(name, run(false), stopped)? else { return Ok(None) };
+    if let Some(with) = answered(name, run(true), stopped)? {
         same(&format!("winners of the oracle's {name} with a strategy"), &plain.winners, &with.winners)?;
         same(&format!("count of the oracle's {name} with a strategy"), &plain.count, &with.count)?;
-        check_strategy(name, game, &with, tally)?;
+        check_strategy(name, game, &with)?;
+        tally.strategies += 1;
     }
     Ok(Some(plain))
 }
 
-/// The rules, demand 2's definition and demand 3's bound against the oracle's answers.
-fn compare_rules(game: &Game, rules: &Rules, want: &Want, looks: Option<u64>, tally: &mut Tally) -> Result<(), String> {
+/// The rules' counts and the bounds against the oracle's counts.
+fn compare_counts(game: &Game, rules: &Rules, want: &Want, looks: Option<u64>, tally: &mut Tally) -> Result<(), String> {
     if let Some(zielonka) = &rules.zielonka {
         tally.calls_counted += 1;
         tally.most_calls = tally.most_calls.max(zielonka.calls);
-        same("winners, Zielonka", &zielonka.winners, &want.winners)?;
-        same("calls", &Some(zielonka.calls), &want.calls.or(Some(zielonka.calls)))?;
+        same("calls", &Some(zielonka.calls), &want.calls)?;
         same("looks of all attractors", &Some(zielonka.looks), &looks.or(Some(zielonka.looks)))?;
     }
     if want.calls.is_some_and(|calls| calls as u128 > zielonka::bound(game)) {
@@ -121,59 +174,40 @@ fn compare_rules(game: &Game, rules: &Rules, want: &Want, looks: Option<u64>, ta
         tally.rounds_counted += 1;
         tally.most_rounds = tally.most_rounds.max(promotion.rounds);
         tally.stays += promotion.stays;
-        same("winners, promotion", &promotion.winners, &want.winners)?;
-        same("rounds", &Some(promotion.rounds), &want.rounds.or(Some(promotion.rounds)))?;
+        same("rounds", &Some(promotion.rounds), &want.rounds)?;
     }
-    same("solitaire set", &rules.solitaire, &want.solitaire)?;
-    compare_winners(game, want, tally)
+    tally.compacted += rules.compacted.is_some() as u64;
+    Ok(())
 }
 
-/// Winning by the definition, and after compaction.
-fn compare_winners(game: &Game, want: &Want, tally: &mut Tally) -> Result<(), String> {
-    if game.n() <= definition::MOST {
-        same("winners by demand 2's definition", &definition::winners(game)?, &want.winners)?;
-        tally.by_definition += 1;
-    }
-    let compacted = Game { priorities: compaction::compact(game), ..game.clone() };
-    match zielonka::solve(&compacted, 1_000) {
-        Some(solved) => same("winners after compaction", &solved.winners, &want.winners),
-        None => Ok(()),
-    }
-}
-
-/// The oracle's solitaire set, where all owners are equal: the vertices that Zielonka gives to the owner.
-fn compare_solitaire(game: &Game, winners: &[u8], cap: Cap, tally: &mut Tally) -> Result<Option<Vec<bool>>, String> {
-    if !game.is_solitaire() {
-        return Ok(None);
-    }
-    let got = answered("solitaire", oracle::solitaire(game, cap), tally)?;
-    if let Some(set) = &got {
-        let won: Vec<bool> = winners.iter().map(|winner| *winner == game.owners[0]).collect();
-        same("solitaire set by the oracle's winners", &won, set)?;
+/// Where all owners are equal: the oracle's solitaire set is the rules', and these are the vertices that the owner wins.
+fn compare_solitaire(game: &Game, given: &Given, want: &Want, tally: &mut Tally) -> Result<(), String> {
+    if let Some(set) = &given.solitaire {
+        same("solitaire set", &want.solitaire.as_ref(), &Some(set))?;
         tally.solitaire += 1;
     }
-    Ok(got)
+    if let (Some(set), Some(winners)) = (&want.solitaire, &want.winners) {
+        let won: Vec<bool> = winners.iter().map(|winner| *winner == game.owners[0]).collect();
+        same("solitaire set by the winners", &won, set)?;
+    }
+    Ok(())
 }
 
 /// The oracle's strategy is accepted by the checker of the rules. It rests on the stand-in for `Strategy`.
-fn check_strategy(name: &str, game: &Game, got: &oracle::Solved, tally: &mut Tally) -> Result<(), String> {
-    if game.n() > STRATEGIES_TO {
-        return Ok(());
-    }
+fn check_strategy(name: &str, game: &Game, got: &oracle::Solved) -> Result<(), String> {
     let answer = checker::check(game, &won_by(&got.winners, 0), &won_by(&got.winners, 1), &got.strategy);
-    tally.strategies += 1;
     if answer.number != 0 {
         return Err(format!("strategy {:?} of the oracle's {name} gets {answer:?}", got.strategy));
     }
     Ok(())
 }
 
-fn answered<T>(name: &str, outcome: Outcome<T>, tally: &mut Tally) -> Result<Option<T>, String> {
+fn answered<T>(name: &str, outcome: Outcome<T>, stopped: &mut bool) -> Result<Option<T>, String> {
     match outcome {
         Outcome::Answer(answer) => Ok(Some(answer)),
         Outcome::Panicked(message) => Err(format!("the oracle's {name} panicked: {message}")),
         Outcome::Capped => {
-            tally.capped += 1;
+            *stopped = true;
             Ok(None)
         }
     }

@@ -1,12 +1,12 @@
-//! compare all [RANDOM] [LARGE] | list | replay FILE | probe | slip
+//! compare all [RANDOM] [LARGE] [CAPPED] | list | replay FILE | probe | slip
 
 use std::time::Instant;
 
-use compare::compare::{compare, Tally};
+use compare::compare::{compare, Tally, RULES_TO};
 use compare::game::{worked, Game};
 use compare::hard::{climb, Solver};
 use compare::oracle::Cap;
-use compare::{generate, list, probe, slip};
+use compare::{definition, generate, list, probe, slip};
 
 /// Differences printed in full; the rest is counted.
 const SHOWN: u64 = 10;
@@ -20,25 +20,27 @@ fn main() {
 fn command() -> i32 {
     let arguments: Vec<String> = std::env::args().skip(1).collect();
     let number = |at: usize, or: u64| arguments.get(at).map_or(Ok(or), |text| text.parse());
-    match (arguments.first().map(String::as_str), number(1, 100_000), number(2, 16)) {
-        (Some("all"), Ok(random), Ok(large)) => all(random, large),
-        (Some("list"), _, _) => print_list(),
-        (Some("replay"), _, _) => replay(&arguments[1]),
-        (Some("probe"), _, _) => {
+    match (arguments.first().map(String::as_str), number(1, 100_000), number(2, 16), number(3, 0)) {
+        (Some("all"), Ok(random), Ok(large), Ok(capped)) => all(random, large, capped),
+        (Some("list"), ..) => print_list(),
+        (Some("replay"), ..) => replay(&arguments[1]),
+        (Some("probe"), ..) => {
             probe::report().iter().for_each(|line| println!("{line}"));
             0
         }
-        (Some("slip"), _, _) => slip::report(),
+        (Some("slip"), ..) => slip::report(),
         _ => {
-            eprintln!("usage: compare all [RANDOM] [LARGE] | list | replay FILE | probe | slip");
+            eprintln!("usage: compare all [RANDOM] [LARGE] [CAPPED] | list | replay FILE | probe | slip");
             2
         }
     }
 }
 
-fn all(random: u64, large: u64) -> i32 {
+fn all(random: u64, large: u64, allowed: u64) -> i32 {
     println!("the port: {}", if cfg!(feature = "port") { "compared" } else { "NOT compared, its library was not there" });
-    finish(&[
+    let most = definition::MOST;
+    println!("limits: the definition up to {most} vertices, the rules up to {RULES_TO} / (1 + n + m) calls or rounds");
+    let families = [
         boundaries(),
         family("worked games C2 to C9", worked().into_iter().map(|(_, game)| game).filter(|game| game.n() > 0)),
         family("two vertices", generate::two_vertices()),
@@ -48,7 +50,8 @@ fn all(random: u64, large: u64) -> i32 {
         family("made hard for promotion, up to 40 vertices", made_hard(Solver::Promotion)),
         family("4,096 vertices, chain and ladder", [generate::chain(4_096), generate::ladder(4_096)].into_iter()),
         family("4,096 vertices, random", (0..large).map(generate::large)),
-    ])
+    ];
+    finish(&families, allowed)
 }
 
 /// Climbs of different sizes, every game on the way.
@@ -56,18 +59,26 @@ fn made_hard(solver: Solver) -> impl Iterator<Item = Game> {
     (1..=20).flat_map(move |number| climb(solver, 2 * number, 1_000, 3_000, number as u64))
 }
 
+/// The games of a family that differ, that the oracle was stopped on, and that it gave no winners of.
+#[derive(Default)]
+struct Family {
+    differ: u64,
+    capped: u64,
+    left_out: u64,
+}
+
 /// C1 and the limits, on the port alone: the oracle answers none of them.
-fn boundaries() -> u64 {
+fn boundaries() -> Family {
     #[cfg(feature = "port")]
     if let Err(what) = compare::port_check::boundaries() {
         println!("DIFFERENCE at the limits: {what}");
-        return 1;
+        return Family { differ: 1, ..Family::default() };
     }
-    0
+    Family::default()
 }
 
-/// Compares all games of a family; the number of games that differ.
-fn family(name: &str, games: impl Iterator<Item = Game>) -> u64 {
+/// Compares all games of a family.
+fn family(name: &str, games: impl Iterator<Item = Game>) -> Family {
     let start = Instant::now();
     let (mut tally, mut differ) = (Tally::default(), 0);
     for game in games {
@@ -78,15 +89,27 @@ fn family(name: &str, games: impl Iterator<Item = Game>) -> u64 {
             }
         }
     }
-    println!("{name}: {} agree, {differ} differ, {:.1} s", tally.games, start.elapsed().as_secs_f64());
+    let Tally { games, capped, left_out, .. } = tally;
+    let seconds = start.elapsed().as_secs_f64();
+    println!("{name}: {games} agree, {differ} differ, {capped} capped, {left_out} of them left out, {seconds:.1} s");
     println!("    {tally:?}");
-    differ
+    Family { differ, capped, left_out }
 }
 
-fn finish(differ: &[u64]) -> i32 {
-    let sum: u64 = differ.iter().sum();
-    println!("{}", if sum == 0 { "no difference" } else { "DIFFERENCES" });
-    (sum != 0) as i32
+/// Fails where a game differs, and where the oracle was stopped on more games than allowed.
+fn finish(families: &[Family], allowed: u64) -> i32 {
+    let sum = |count: fn(&Family) -> u64| families.iter().map(count).sum::<u64>();
+    let (differ, capped, left_out) = (sum(|f| f.differ), sum(|f| f.capped), sum(|f| f.left_out));
+    println!("{capped} games capped, {left_out} of them left out; {allowed} allowed");
+    let failed = differ > 0 || capped > allowed;
+    let verdict = match (differ, capped) {
+        (0, 0) => "no difference",
+        (0, _) if failed => "NOT ALL COMPARED",
+        (0, _) => "no difference in what was compared",
+        _ => "DIFFERENCES",
+    };
+    println!("{verdict}{}", if cfg!(feature = "port") { "" } else { ", the port not compared" });
+    failed as i32
 }
 
 fn print_list() -> i32 {

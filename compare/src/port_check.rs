@@ -9,65 +9,71 @@ use crate::generate::Numbers;
 use crate::port::{self, Lent};
 use crate::reference::attractor::{attractor, entries_hold, looks};
 use crate::reference::tables::work_words;
-use crate::reference::{checker, compaction, Answer};
+use crate::reference::{compaction, Answer};
 
 pub use refusals::boundaries;
 
-/// Games above this size have no strategies checked by the plain checker: it is slow.
-const STRATEGIES_TO: usize = 64;
-/// Games above this size are not damaged in every way.
-const DAMAGED_TO: usize = 200;
-
-/// Compares every door on an accepted game.
-pub fn compare(game: &Game, want: &Want) -> Result<(), String> {
+/// Compares every door on an accepted game of any size; how many solvers had their strategies checked.
+pub fn compare(game: &Game, want: &Want) -> Result<u64, String> {
     let before = game.clone();
     same("port: check_tables", &Answer::yes(0), &port::check_tables(game))?;
-    if let Some(calls) = want.calls {
-        solver("port: zielonka", port::zielonka, game, &want.winners, calls)?;
-    }
-    if let Some(rounds) = want.rounds {
-        solver("port: priority_promotion", port::priority_promotion, game, &want.winners, rounds)?;
-    }
+    let winners = want.winners.as_deref();
+    let zielonka = solver("port: zielonka", port::zielonka, game, winners, want.calls)?;
+    let promotion = solver("port: priority_promotion", port::priority_promotion, game, winners, want.rounds)?;
     solitaire(game, want)?;
     compact(game)?;
     let mut numbers = Numbers::new(game.targets.iter().fold(game.n() as u64, |sum, w| sum.wrapping_mul(31) + *w as u64));
     for player in [0, 1] {
         attract(game, player, &mut numbers)?;
     }
-    if game.n() <= STRATEGIES_TO {
-        claims::compare(game, &want.winners, &mut numbers)?;
+    let claims: Vec<Lent> = [zielonka, promotion].into_iter().flatten().collect();
+    for solved in &claims {
+        claims::compare(game, solved, &mut numbers)?;
     }
-    if game.n() <= DAMAGED_TO {
-        refusals::compare(game, &mut numbers)?;
-    }
-    same("port: lent tables", &before, game)
+    refusals::compare(game, &mut numbers)?;
+    same("port: lent tables", &before, game)?;
+    Ok(claims.len() as u64)
 }
 
 type Door = fn(&Game, bool, u64, &mut Lent) -> Answer;
 
-/// A solver with the budget it needs, with the largest one, and with one too little.
-fn solver(name: &str, door: Door, game: &Game, winners: &[u8], needed: u64) -> Result<(), String> {
-    for (strategy, budget) in [(true, needed), (false, u64::MAX)] {
-        let mut lent = Lent::junk(game);
-        same(name, &Answer::yes(needed), &door(game, strategy, budget, &mut lent))?;
-        same(&format!("{name}, Even's set"), &won_by(winners, 0), &lent.even)?;
-        same(&format!("{name}, Odd's set"), &won_by(winners, 1), &lent.odd)?;
-        zeroed(name, game, &lent)?;
-        if !strategy {
-            same(&format!("{name}, no strategy"), &vec![NONE; game.n()], &lent.strategy)?;
-        } else if game.n() <= STRATEGIES_TO {
-            let answer = checker::check(game, &lent.even, &lent.odd, &lent.strategy);
-            same(&format!("{name}, strategy {:?}", lent.strategy), &Answer::yes(0), &answer)?;
-        }
+/// A solver with the budget it needs, with the largest one, and with one too little; the claim it makes. Where nobody counted
+/// what it needs it first gets what it can use up in good time; if that is too little there is no claim.
+fn solver(name: &str, door: Door, game: &Game, winners: Option<&[u8]>, counted: Option<u64>) -> Result<Option<Lent>, String> {
+    let mut claim = Lent::junk(game);
+    let Some(needed) = counted else {
+        let budget = 2_000_000_000 / (1 + game.n() + game.m()) as u64;
+        let got = door(game, true, budget, &mut claim);
+        return match got.number {
+            13 => too_little(name, game, budget, got, &claim).map(|()| None),
+            _ => solver(name, door, game, winners, Some(got.count)),
+        };
+    };
+    same(name, &Answer::yes(needed), &door(game, true, needed, &mut claim))?;
+    if let Some(winners) = winners {
+        same(&format!("{name}, Even's set"), &won_by(winners, 0), &claim.even)?;
+        same(&format!("{name}, Odd's set"), &won_by(winners, 1), &claim.odd)?;
     }
+    zeroed(name, game, &claim)?;
+
+    let mut lent = Lent::junk(game);
+    same(name, &Answer::yes(needed), &door(game, false, u64::MAX, &mut lent))?;
+    let want = Lent { strategy: vec![NONE; game.n()], ..claim.clone() };
+    same(&format!("{name}, without a strategy"), &outputs(&want), &outputs(&lent))?;
+    zeroed(name, game, &lent)?;
     if needed > 0 {
         let mut lent = Lent::junk(game);
-        let want = Answer { number: 13, place: 0, count: needed - 1 };
-        same(&format!("{name}, short budget"), &want, &door(game, true, needed - 1, &mut lent))?;
-        outputs_kept(name, game, &lent)?;
-        zeroed(name, game, &lent)?;
+        let got = door(game, true, needed - 1, &mut lent);
+        too_little(name, game, needed - 1, got, &lent)?;
     }
-    Ok(())
+    Ok(Some(claim))
+}
+
+/// 13 with the budget as count, outputs as they were, the work area zeroed.
+fn too_little(name: &str, game: &Game, budget: u64, got: Answer, lent: &Lent) -> Result<(), String> {
+    same(&format!("{name}, short budget"), &Answer { number: 13, place: 0, count: budget }, &got)?;
+    same(&format!("{name}, outputs kept"), &outputs(&Lent::junk(game)), &outputs(lent))?;
+    zeroed(name, game, lent)
 }
 
 /// The first W work words are zero, those beyond as they were.
@@ -81,9 +87,9 @@ fn zeroed(name: &str, game: &Game, lent: &Lent) -> Result<(), String> {
     Err(format!("{name}: work word {at:?} is not as it has to be"))
 }
 
-fn outputs_kept(name: &str, game: &Game, lent: &Lent) -> Result<(), String> {
-    let want = Lent { work: Vec::new(), ..Lent::junk(game) };
-    same(&format!("{name}, outputs kept"), &want, &Lent { work: Vec::new(), ..lent.clone() })
+/// All that is lent but the work area.
+fn outputs(lent: &Lent) -> Lent {
+    Lent { work: Vec::new(), ..lent.clone() }
 }
 
 fn solitaire(game: &Game, want: &Want) -> Result<(), String> {
@@ -118,6 +124,8 @@ fn attract(game: &Game, player: u8, numbers: &mut Numbers) -> Result<(), String>
     let got = port::attractor(game, player, &within_words, &target_words, &mut lent);
     same("port: attractor", &Answer::yes(looks(game, &result)), &got)?;
     same("port: attractor's set", &words_of(&result), &lent.even)?;
+    same("port: attractor's V kept", &words_of(&within), &within_words)?;
+    same("port: attractor's target kept", &words_of(&target), &target_words)?;
     zeroed("port: attractor", game, &lent)?;
     if !entries_hold(game, player, &within, &target, &result, &lent.strategy) {
         return Err(format!("port: attractor's entries {:?}", lent.strategy));

@@ -2,16 +2,16 @@
 
 use super::zeroed;
 use crate::compare::same;
-use crate::game::{won_by, Game, NONE};
+use crate::game::{Game, NONE};
 use crate::generate::Numbers;
 use crate::port::{self, Lent};
-use crate::reference::checker;
+use crate::reference::{checker, Answer};
 
-pub fn compare(game: &Game, winners: &[u8], numbers: &mut Numbers) -> Result<(), String> {
-    let mut right = Lent::junk(game);
-    port::zielonka(game, true, u64::MAX, &mut right);
-    right.work = Lent::junk(game).work;
-    (right.even, right.odd) = (won_by(winners, 0), won_by(winners, 1));
+/// A solver's claim gets a yes from the checker of the rules and from the port's own; damaged copies get the same from both.
+pub fn compare(game: &Game, solved: &Lent, numbers: &mut Numbers) -> Result<(), String> {
+    let right = Lent { work: Lent::junk(game).work, ..solved.clone() };
+    let by_the_rules = checker::check(game, &right.even, &right.odd, &right.strategy);
+    same(&format!("port: a solver's strategy {:?}", right.strategy), &Answer::yes(0), &by_the_rules)?;
     claim(game, &right)?;
     for _ in 0..8 {
         let mut damaged = right.clone();
