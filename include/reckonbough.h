@@ -29,8 +29,8 @@
  * different priorities. 2 * (C(n,0) + C(n,1) + ... + C(n,d)) - 1 calls and n * (n + 2)^d rounds are always enough; both are
  * proved. UINT64_MAX asks for an answer however long it takes.
  *
- * Stack, on x86-64: reckonbough_zielonka nests at most n + 1 calls of itself, 384 bytes each; a thread with 2 MiB of stack is
- * enough for every game. Every other function needs less than 2 KiB.
+ * Stack: reckonbough_zielonka nests at most n + 1 calls of itself, 384 bytes each on x86-64 and 336 on Arm; a thread with 2 MiB
+ * of stack is enough for every game. Every other function needs less than 2 KiB.
  */
 #ifndef RECKONBOUGH_H
 #define RECKONBOUGH_H
