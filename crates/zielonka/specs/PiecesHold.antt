@@ -13,7 +13,7 @@ use Rattle.rules.specs.Tables.{Tables, gameOf, vertices, edgesIn, words, Accept
 use Rattle.rules.specs.Attractor.{attractor}
 use Rattle.rules.specs.Words.{setOf}
 use Rattle.rules.specs.Zielonka.{withPriority}
-use Rattle.sets.specs.After.{Combined, Cleared, other}
+use Rattle.sets.specs.After.{Parts, Combined, Cleared, other}
 use Rattle.sets.specs.Laws.{bit-other}
 use Rattle.theory.specs.Attractor.{attractor-below}
 use Rattle.theory.specs.AttractorComplement.{TotalIn}
@@ -372,6 +372,17 @@ module _ {owners offsets targets : List ℕ} {p s base place : ℕ} {w₀ w₁ :
 pub won-range : (s base : ℕ) (c : Player) → (base + 2 * s ≤ wonPlace s base c) × (wonPlace s base c ≤ base + 3 * s)
 won-range s base Even = (omega arith, omega arith)
 won-range s base Odd = (omega arith, omega arith)
+
+-- so each is apart from a set before them
+pub won-parts :
+    {place from s : ℕ} {work : List ℕ} (base : ℕ) (c : Player) →
+    place ≡ wonPlace s base c →
+    from + s ≤ base + 2 * s →
+    base + 4 * s ≤ length work →
+    Parts place from s work
+won-parts {s} base c there low high =
+    let range = won-range s base c in
+    record { into-fits = omega arith; from-fits = omega arith; apart = inr (omega arith) }
 
 -- and apart from each other
 pub won-apart :

@@ -4,6 +4,16 @@ use borrow.Author.Needs.{needs}
 use Rattle.zielonka.proofs.level.attract_highest.Statement.{statement}
 use Rattle.zielonka.proofs.level.attract_highest.Tie as tie
 
+-- the places of the function, each from the next: where it begins, and after each call
+abbrev start-of : tie.After-clear → tie.Start
+start-of c = c .before .before .before .before .before .before .before
+
+abbrev after-clear : tie.After-collect → tie.After-clear
+after-clear c = c .before .before .before .before
+
+abbrev after-collect : tie.After-cut → tie.After-collect
+after-collect c = c .before .before .before .before
+
 add-clear : tie.Need-add-clear
 add-clear c = search needs
 
@@ -14,22 +24,29 @@ add-collect : tie.Need-add-collect
 add-collect c = search needs
 
 collect-requires : tie.Need-collect-requires
-collect-requires c κs = highest-collects (c .before .before .before .before .before .before .before .before .before .before .pre) (c .before .before .before .clear .ensures)
+collect-requires c κs =
+    let cleared = c .before .before .before in highest-collects (start-of cleared .pre) (cleared .clear .ensures)
 
 cast-cut : tie.Need-cast-cut
 cast-cut c = search needs
 
 cut-requires : tie.Need-cut-requires
-cut-requires c κs = highest-cuttable (c .before .before .before .before .before .before .before .before .before .before .before .before .before .before .pre) (c .before .before .before .before .before .before .before .clear .ensures) (c .before .before .before .collect .ensures)
+cut-requires c κs =
+    let collected = c .before .before .before in
+    let cleared = after-clear collected in
+    highest-cuttable (start-of cleared .pre) (cleared .clear .ensures) (collected .collect .ensures)
 
 same-length : tie.Need-same-length
 same-length c = search needs
 
 returns : tie.Need-returns
 returns c =
-    let g = c .before .before .before .before .before .before .before .before .before .before .before .before .before .before .before .before .before in
-    highest-made (g .pre) (c .before .before .before .before .before .before .before .before .before .before .clear .ensures) (c .before .before .before .before .before .before .collect .ensures)
-    (c .before .before .cut .ensures (g .args .priorities .now) (g .pre .called .accepted))
+    let parted = c .before .before in
+    let collected = after-collect parted in
+    let cleared = after-clear collected in
+    let g = start-of cleared in
+    highest-made (g .pre) (cleared .clear .ensures) (collected .collect .ensures)
+    (parted .cut .ensures (g .args .priorities .now) (g .pre .called .accepted))
 
 pub attract-highest-spec : {M : Type 1} → statement M
 attract-highest-spec =

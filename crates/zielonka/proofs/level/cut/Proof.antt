@@ -6,6 +6,16 @@ use borrow.Author.Needs.{needs}
 use Rattle.zielonka.proofs.level.cut.Statement.{statement}
 use Rattle.zielonka.proofs.level.cut.Tie as tie
 
+-- the places of the function, each from the next: where it begins, and after each call
+abbrev start-of : tie.After-attract → tie.Start
+start-of c = c .before .before .before .before .before .before
+
+abbrev after-attract : tie.After-copy-with → tie.After-attract
+after-attract c = c .before .before .before .before
+
+abbrev after-copy : tie.After-difference-with → tie.After-copy-with
+after-copy c = c .before .before .before .before
+
 add-attract : tie.Need-add-attract
 add-attract c = search needs
 
@@ -20,8 +30,9 @@ add-copy-with c = search needs
 
 copy-with-requires : tie.Need-copy-with-requires
 copy-with-requires c κs =
-    let high = c .before .before .before .before .before .before .before .before .before .pre .ready .high in
-    let long = c .before .before .before .attract .kept .1 .1 .1 .1 .0 in
+    let drawn = c .before .before .before in
+    let high = start-of drawn .pre .ready .high in
+    let long = drawn .attract .kept .1 .1 .1 .1 .0 in
     record { into-fits = omega arith; from-fits = omega arith; apart = inr (omega arith) }
 
 mul-difference-with : tie.Need-mul-difference-with
@@ -35,9 +46,11 @@ add-difference-with-2 c = search needs
 
 difference-with-requires : tie.Need-difference-with-requires
 difference-with-requires c κs =
-    let high = c .before .before .before .before .before .before .before .before .before .before .before .before .before .pre .ready .high in
-    let long = c .before .before .before .before .before .before .before .attract .kept .1 .1 .1 .1 .0 in
-    let long′ = c .before .before .before .copy-with .kept .0 in
+    let copied = c .before .before .before in
+    let drawn = after-attract copied in
+    let high = start-of drawn .pre .ready .high in
+    let long = drawn .attract .kept .1 .1 .1 .1 .0 in
+    let long′ = copied .copy-with .kept .0 in
     record { into-fits = omega arith; from-fits = omega arith; apart = inr (omega arith) }
 
 same-length : tie.Need-same-length
@@ -46,7 +59,13 @@ same-length c = search needs
 returns : tie.Need-returns
 returns c =
     λ priorities ok.
-    cut-done (c .before .before .before .before .before .before .before .before .before .before .before .before .before .before .before .before .pre) priorities ok (c .before .before .before .before .before .before .before .before .before .before .attract .ensures priorities ok) (c .before .before .before .before .before .before .copy-with .ensures) (c .before .before .difference-with .ensures)
+    let reduced = c .before .before in
+    let copied = after-copy reduced in
+    let drawn = after-attract copied in
+    cut-done (start-of drawn .pre) priorities ok
+    (drawn .attract .ensures priorities ok)
+    (copied .copy-with .ensures)
+    (reduced .difference-with .ensures)
 
 pub cut-spec : {M : Type 1} → statement M
 cut-spec =

@@ -1,12 +1,22 @@
 -- `join` meets its contract.
 use native.Mathlib.Omega.{arith}
-use mathlib.Core.Logic.{inl, inr}
+use mathlib.Core.Logic.{inl}
 use Prim.Native.Nat.{_-_, _%_}
 use Rattle.rules.specs.Game.{playerOf}
-use Rattle.zielonka.specs.PiecesHold.{won-range, joined-made}
+use Rattle.zielonka.specs.PiecesHold.{won-parts, joined-made}
 use borrow.Author.Needs.{needs}
 use Rattle.zielonka.proofs.level.join.Statement.{statement}
 use Rattle.zielonka.proofs.level.join.Tie as tie
+
+-- the places of the function, each from the next: where it begins, and after each call
+abbrev start-of : tie.After-copy-with → tie.Start
+start-of c = c .before .before .before
+
+abbrev after-copy : tie.After-won-at → tie.After-copy-with
+after-copy c = c .before .before .before
+
+abbrev after-won-at : tie.After-union-with → tie.After-won-at
+after-won-at c = c .before .before
 
 mul-copy-with : tie.Need-mul-copy-with
 mul-copy-with c = search needs
@@ -30,20 +40,19 @@ sub-won-at : tie.Need-sub-won-at
 sub-won-at c = search needs
 
 won-at-requires : tie.Need-won-at-requires
-won-at-requires c κs = omega (arith, c .before .before .before .before .before .pre, c .before .before .before .before .before .good)
+won-at-requires c κs =
+    let g = start-of (c .before .before) in omega (arith, g .pre, g .good)
 
 add-union-with : tie.Need-add-union-with
 add-union-with c = search needs
 
 union-with-requires : tie.Need-union-with-requires
 union-with-requires c κs =
-    let g = c .before .before .before .before .before .before .before in
-    let a = g .args in
-    let high = g .pre in
-    let long = c .before .before .before .before .copy-with .kept .0 in
-    let range = won-range (a .s) (a .base) (playerOf (1 - a .p % 2)) in
-    let there = c .before .won-at .ensures in
-    record { into-fits = omega arith; from-fits = omega arith; apart = inr (omega arith) }
+    let placed = c .before in
+    let copied = after-copy placed in
+    let g = start-of copied in
+    won-parts (g .args .base) (playerOf (1 - g .args .p % 2)) (placed .won-at .ensures) (omega arith)
+    (omega (arith, g .pre, copied .copy-with .kept .0))
 
 same-length : tie.Need-same-length
 same-length c = search needs
@@ -51,7 +60,11 @@ same-length c = search needs
 returns : tie.Need-returns
 returns c =
     λ t sized low.
-    joined-made (c .before .before .before .before .before .before .before .before .before .before .args .p) (c .before .before .before .before .before .before .before .copy-with .ensures) (c .before .before .before .before .won-at .ensures) (c .before .before .union-with .ensures) t sized low
+    let united = c .before .before in
+    let placed = after-won-at united in
+    let copied = after-copy placed in
+    joined-made (start-of copied .args .p) (copied .copy-with .ensures) (placed .won-at .ensures) (united .union-with .ensures)
+    t sized low
 
 pub join-spec : {M : Type 1} → statement M
 join-spec =

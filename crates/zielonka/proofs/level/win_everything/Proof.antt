@@ -1,11 +1,23 @@
 -- `win_everything` meets its contract.
 use native.Mathlib.Omega.{arith}
-use mathlib.Core.Logic.{inr}
 use Rattle.rules.specs.Game.{parity}
-use Rattle.zielonka.specs.PiecesHold.{won-range, all-extends, all-made}
+use Rattle.zielonka.specs.PiecesHold.{won-parts, all-extends, all-made}
 use borrow.Author.Needs.{needs}
 use Rattle.zielonka.proofs.level.win_everything.Statement.{statement}
 use Rattle.zielonka.proofs.level.win_everything.Tie as tie
+
+-- the places of the function, each from the next: where it begins, and after each call
+abbrev start-of : tie.After-clear → tie.Start
+start-of c = c .before .before .before .before .before .before .before
+
+abbrev after-clear : tie.After-won-at → tie.After-clear
+after-clear c = c .before .before .before
+
+abbrev after-won-at : tie.After-copy-with → tie.After-won-at
+after-won-at c = c .before .before
+
+abbrev after-copy : tie.After-extend-arbitrary → tie.After-copy-with
+after-copy c = c .before .before .before .before
 
 mul-clear : tie.Need-mul-clear
 mul-clear c = search needs
@@ -20,30 +32,37 @@ clear-requires : tie.Need-clear-requires
 clear-requires c κs = search needs
 
 won-at-requires : tie.Need-won-at-requires
-won-at-requires c κs = omega (arith, c .before .before .before .before .before .before .before .before .before .pre .high, c .before .before .before .before .before .before .before .before .before .good)
+won-at-requires c κs =
+    let g = start-of (c .before .before) in omega (arith, g .pre .high, g .good)
 
 copy-with-requires : tie.Need-copy-with-requires
 copy-with-requires c κs =
-    let g = c .before .before .before .before .before .before .before .before .before .before .before in
-    let a = g .args in
-    let high = g .pre .high in
-    let long = c .before .before .before .before .clear .kept .0 in
-    let range = won-range (a .s) (a .base) (parity (a .p)) in
-    let there = c .before .won-at .ensures in
-    record { into-fits = omega arith; from-fits = omega arith; apart = inr (omega arith) }
+    let placed = c .before in
+    let cleared = after-clear placed in
+    let g = start-of cleared in
+    won-parts (g .args .base) (parity (g .args .p)) (placed .won-at .ensures) (omega arith)
+    (omega (arith, g .pre .high, cleared .clear .kept .0))
 
 extend-arbitrary-requires : tie.Need-extend-arbitrary-requires
 extend-arbitrary-requires c κs =
-    let g = c .before .before .before .before .before .before .before .before .before .before .before .before .before .before .before in
-    all-extends (g .args .p) (g .pre) (c .before .before .before .before .before .won-at .ensures) (c .before .before .before .before .before .before .before .before .clear .ensures) (c .before .before .before .copy-with .ensures)
+    let copied = c .before .before .before in
+    let placed = after-won-at copied in
+    let cleared = after-clear placed in
+    let g = start-of cleared in
+    all-extends (g .args .p) (g .pre) (placed .won-at .ensures) (cleared .clear .ensures) (copied .copy-with .ensures)
 
 same-length : tie.Need-same-length
 same-length c = search needs
 
 returns : tie.Need-returns
 returns c =
-    let g = c .before .before .before .before .before .before .before .before .before .before .before .before .before .before .before .before .before .before in
-    all-made (g .args .p) (g .pre) (c .before .before .before .before .before .before .before .before .won-at .ensures) (c .before .before .before .before .before .before .before .before .before .before .before .clear .ensures) (c .before .before .before .before .before .before .copy-with .ensures) (c .before .before .extend-arbitrary .ensures)
+    let extended = c .before .before in
+    let copied = after-copy extended in
+    let placed = after-won-at copied in
+    let cleared = after-clear placed in
+    let g = start-of cleared in
+    all-made (g .args .p) (g .pre) (placed .won-at .ensures) (cleared .clear .ensures) (copied .copy-with .ensures)
+    (extended .extend-arbitrary .ensures)
 
 pub win-everything-spec : {M : Type 1} → statement M
 win-everything-spec =

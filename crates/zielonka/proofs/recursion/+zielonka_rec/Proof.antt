@@ -1,21 +1,24 @@
--- `zielonka_rec` meets its contract. The measure is the number of members of V. The pieces before a nested call make what it asks for, on
--- fewer vertices, and the pieces after it make of what it left the run of this call.
-use mathlib.Core.Path.{subst}
-use Prim.Native.Nat.{_+_, _*_, _-_}
+-- `zielonka_rec` meets its contract. The measure is the number of members of V. The pieces before a nested call make what it asks
+-- for, on fewer vertices, and the pieces after it make of what it left the run of this call.
+use mathlib.Core.Path.{_≡_, subst}
+use mathlib.Core.Bool.{true}
+use mathlib.Core.List.{List}
+use Prim.Native.Nat.{ℕ, _+_, _*_, _≤_, _<_}
 use native.Mathlib.Omega.{arith}
 use lib.ListN.{length}
 use Rattle.rules.specs.Counting.{count}
 use Rattle.rules.specs.Tables.{Tables, tablesOf}
 use Rattle.attractor.specs.Area.{setAt}
-use Rattle.zielonka.specs.Level.{Ends}
+use Rattle.solver.specs.declared.ran.Ran.{Ran}
+use Rattle.zielonka.specs.Level.{onLevel, Ends}
 use Rattle.zielonka.specs.Steps.{over-first}
-use Rattle.zielonka.specs.Calling.{level-fits, highest-given, level-empty, level-some, empty-done, member-ready, member-top}
+use Rattle.zielonka.specs.Calling.{level-fits, highest-given, level-empty, level-some, empty-done}
+use Rattle.zielonka.specs.Calling.{member-ready, member-top}
 use Rattle.zielonka.specs.Calling.{Begun, begun-less, begun-called, begun-came, begun-over}
 use Rattle.zielonka.specs.Calling.{Came, came-ready, came-all, came-losable, came-lost}
 use Rattle.zielonka.specs.Calling.{Lost, lost-less, lost-called, lost-over, lost-high, lost-done}
 use borrow.Author.Needs.{needs}
-use Prim.Native.Nat.{ℕ, _<_}
-use borrow.Fn.Kinds.{In}
+use borrow.Fn.Kinds.{In, Out}
 use borrow.Fn.PlainCycle.{Measures, is, falls, and}
 use Rattle.zielonka.proofs.recursion.zielonka_rec.Reads as own
 use Rattle.zielonka.proofs.recursion.zielonka_rec.Kinds as kinds
@@ -33,19 +36,14 @@ use Rattle.zielonka.proofs.recursion.+zielonka_rec.{statement}
 use Rattle.zielonka.proofs.recursion.+zielonka_rec.Tie.{close}
 
 abbrev μ : Measures 5 kinds.ps ℕ
-μ κs a = count (length (a .0 .now)) (setAt (length (a .0 .now)) (a .1 .1 .1 .1 .1 .0) (a .1 .1 .1 .1 .0 .now))
+μ κs a =
+    let n = length (a .0 .now) in count n (setAt n (a .1 .1 .1 .1 .1 .0) (a .1 .1 .1 .1 .0 .now))
 
 abbrev called-at : ℕ → In 5 kinds.ps
-called-at t =
-    and 5 kinds.ps (is 5 kinds.ps μ t) own.Pre
+called-at t = and 5 kinds.ps (is 5 kinds.ps μ t) own.Pre
 
 abbrev below : ℕ → In 5 kinds.ps
-below t =
-    and
-    5
-    kinds.ps
-    (falls 5 kinds.ps _<_ μ t)
-    own.Pre
+below t = and 5 kinds.ps (falls 5 kinds.ps _<_ μ t) own.Pre
 
 abbrev cs : ℕ → lts.Claims
 cs t = (
@@ -71,259 +69,325 @@ cs t = (
   join-reads.Learnt,
 )
 
--- the tables, and the number of words of a set
-abbrev tables : (t : ℕ) → lts.Start (cs t) (called-at t) own.Post → Tables
-tables t g = tablesOf (g .args .owners .now) (g .args .priorities .now) (g .args .offsets .now) (g .args .targets .now)
+-- a call with t vertices in V
+module _ (t : ℕ) where
+  -- a place of the function, or what is to be proved at one
+  abbrev At : (lts.Claims → In 5 kinds.ps → Out 5 kinds.ps kinds.r → Type 0) → Type 0
+  At P = P (cs t) (called-at t) own.Post
 
--- the first cut is made
-begun :
-    (t : ℕ) (c : lts.After-attract-highest (cs t) (called-at t) own.Post) →
-    let g = c .before .before .before .before .before .before .before .before .before .before .before .before .before .before .before .before in
-    Begun (tables t g) (c .before .before .before .before .before .before .before .before .before .set-words .result) (g .args .base) (c .before .before .get-highest-prio .result .0) (g .args .work .now)
-    (c .attract-highest .last .1 .1 .1 .1 .1 .1 .0)
-begun t c =
-    let g = c .before .before .before .before .before .before .before .before .before .before .before .before .before .before .before .before in
-    let size = c .before .before .before .before .before .before .before .before .before .set-words .ensures in
-    let (v, q) = level-some (g .pre .1) size (c .before .before .before .before .before .before .is-empty .ensures) (c .before .before .before .before .before .if2 .left) in
-    record {
-      called = g .pre .1;
-      ready = member-ready (g .pre .1) size v q;
-      top = member-top (g .pre .1) size v q (c .before .before .get-highest-prio .ensures);
-      cut = c .attract-highest .ensures;
-    }
+  -- the places up to the first cut, each from the next: where the function begins, and after each call
+  abbrev start-of : At lts.After-set-words → At lts.Start
+  start-of c = c .before .before .before .before .before .before .before
 
--- the first nested call has ended
-came :
-    (t : ℕ) (c : lts.After-known-told (cs t) (called-at t) own.Post) →
-    let g = c .before .before .before .before .before .before .before .before .before .before .before .before .before .before .before .before .before .before .before .before .before .before .before .before .before in
-    Came (tables t g) (c .before .before .before .before .before .before .before .before .before .before .before .before .before .before .before .before .before .before .set-words .result) (g .args .base) (c .before .before .before .before .before .before .before .before .before .before .before .get-highest-prio .result .0) (g .args .calls) (g .args .budget)
-    (c .before .first .given .0 .0) (g .args .work .now) (c .before .before .before .before .before .before .before .before .before .attract-highest .last .1 .1 .1 .1 .1 .1 .0) (c .before .before .before .before .before .zielonka-rec .last .1 .1 .1 .1 .0)
-came t c =
-    let g = c .before .before .before .before .before .before .before .before .before .before .before .before .before .before .before .before .before .before .before .before .before .before .before .before .before in
-    begun-came (begun t (c .before .before .before .before .before .before .before .before .before))
-    (subst
-    (Ends (tables t g) (g .args .base + 4 * c .before .before .before .before .before .before .before .before .before .before .before .before .before .before .before .before .before .before .set-words .result) (g .args .calls + 1) (g .args .budget)
-    (c .before .before .before .before .before .before .before .before .before .attract-highest .last .1 .1 .1 .1 .1 .1 .0) (c .before .before .before .before .before .zielonka-rec .last .1 .1 .1 .1 .0))
-    (c .before .first .given .1)
-    (c .before .before .before .before .before .zielonka-rec .ensures))
+  abbrev after-words : At lts.After-is-empty → At lts.After-set-words
+  after-words c = c .before .before .before
 
--- the second cut is made
-lost :
-    (t : ℕ) (c : lts.After-attract-lost (cs t) (called-at t) own.Post) →
-    let g = c .before .before .before .before .before .before .before .before .before .before .before .before .before .before .before .before .before .before .before .before .before .before .before .before .before .before .before .before .before .before in
-    Lost (tables t g) (c .before .before .before .before .before .before .before .before .before .before .before .before .before .before .before .before .before .before .before .before .before .before .before .set-words .result) (g .args .base) (c .before .before .before .before .before .before .before .before .before .before .before .before .before .before .before .before .get-highest-prio .result .0) (g .args .calls) (g .args .budget)
-    (c .before .before .before .before .before .before .first .given .0 .0) (g .args .work .now) (c .before .before .before .before .before .before .before .before .before .before .before .before .before .before .attract-highest .last .1 .1 .1 .1 .1 .1 .0) (c .before .before .before .before .before .before .before .before .before .before .zielonka-rec .last .1 .1 .1 .1 .0)
-    (c .attract-lost .last .1 .1 .1 .1 .1 .0)
-lost t c =
-    let g = c .before .before .before .before .before .before .before .before .before .before .before .before .before .before .before .before .before .before .before .before .before .before .before .before .before .before .before .before .before .before in
-    came-lost (came t (c .before .before .before .before .before)) (c .before .before .before .lost-nothing .ensures) (c .before .before .if3 .left)
-    (c .attract-lost .ensures (g .args .priorities .now) (g .pre .1 .accepted))
+  abbrev after-test : At lts.After-get-highest-prio → At lts.After-is-empty
+  after-test c = c .before .before .before .before
 
-returns : (t : ℕ) → lts.Need-returns (cs t) (called-at t) own.Post
-returns t c = over-first (c .before .before .before .before .before .before .pre .1) (c .if1 .taken)
+  abbrev after-highest : At lts.After-attract-highest → At lts.After-get-highest-prio
+  after-highest c = c .before .before
 
-set-words-requires : (t : ℕ) → lts.Need-set-words-requires (cs t) (called-at t) own.Post
-set-words-requires t c κs = search needs
+  -- and on from there
+  abbrev after-cut : At lts.After-zielonka-rec → At lts.After-attract-highest
+  after-cut c = c .before .before .before .before
 
-add-is-empty : (t : ℕ) → lts.Need-add-is-empty (cs t) (called-at t) own.Post
-add-is-empty t c = omega (arith, level-fits (c .before .before .before .before .before .before .before .pre .1) (c .set-words .ensures), c .before .before .before .before .before .before .before .good)
+  abbrev after-first : At lts.After-known-told → At lts.After-zielonka-rec
+  after-first c = c .before .before .before .before .before
 
-mul-is-empty : (t : ℕ) → lts.Need-mul-is-empty (cs t) (called-at t) own.Post
-mul-is-empty t c = omega (arith, level-fits (c .before .before .before .before .before .before .before .pre .1) (c .set-words .ensures), c .before .before .before .before .before .before .before .good)
+  abbrev after-told : At lts.After-attract-lost → At lts.After-known-told
+  after-told c = c .before .before .before .before .before
 
-sub-is-empty : (t : ℕ) → lts.Need-sub-is-empty (cs t) (called-at t) own.Post
-sub-is-empty t c = search needs
+  abbrev first-cut : At lts.After-attract-lost → At lts.After-attract-highest
+  first-cut c = after-cut (after-first (after-told c))
 
-part-is-empty-start : (t : ℕ) → lts.Need-part-is-empty-start (cs t) (called-at t) own.Post
-part-is-empty-start t c = search needs
+  abbrev after-second-cut : At lts.After-zielonka-rec2 → At lts.After-attract-lost
+  after-second-cut c = c .before .before .before .before
 
-part-is-empty-end : (t : ℕ) → lts.Need-part-is-empty-end (cs t) (called-at t) own.Post
-part-is-empty-end t c = omega (arith, level-fits (c .before .before .before .before .before .before .before .before .pre .1) (c .before .set-words .ensures))
+  abbrev after-second : At lts.After-join → At lts.After-zielonka-rec2
+  after-second c = c .before .before .before .before .before .before .before
 
-is-empty-requires : (t : ℕ) → lts.Need-is-empty-requires (cs t) (called-at t) own.Post
-is-empty-requires t c κs = search needs
+  -- the tables
+  abbrev tables : At lts.Start → Tables
+  tables g = tablesOf (g .args .owners .now) (g .args .priorities .now) (g .args .offsets .now) (g .args .targets .now)
 
-mul-clear : (t : ℕ) → lts.Need-mul-clear (cs t) (called-at t) own.Post
-mul-clear t c = search needs
+  -- from the first cut: where the function begins, the words of a set and the highest priority
+  abbrev start : At lts.After-attract-highest → At lts.Start
+  start c = start-of (after-words (after-test (after-highest c)))
 
-add-clear : (t : ℕ) → lts.Need-add-clear (cs t) (called-at t) own.Post
-add-clear t c = search needs
+  abbrev size : At lts.After-attract-highest → ℕ
+  size c = after-words (after-test (after-highest c)) .set-words .result
 
-mul-clear-2 : (t : ℕ) → lts.Need-mul-clear-2 (cs t) (called-at t) own.Post
-mul-clear-2 t c = search needs
+  abbrev top : At lts.After-attract-highest → ℕ
+  top c = after-highest c .get-highest-prio .result .0
 
-clear-requires : (t : ℕ) → lts.Need-clear-requires (cs t) (called-at t) own.Post
-clear-requires t c κs = omega (arith, level-fits (c .before .before .before .before .before .before .before .before .before .before .before .before .pre .1) (c .before .before .before .before .before .set-words .ensures))
+  -- the calls that were made when the first nested call has ended
+  abbrev made : At lts.After-known-told → ℕ
+  made c = c .before .first .given .0 .0
 
-add-t30 : (t : ℕ) → lts.Need-add-t30 (cs t) (called-at t) own.Post
-add-t30 t c = search needs
+  -- the work area as it was lent, and after the first cut, the first nested call, the second cut and the second nested call
+  abbrev work₀ : At lts.After-attract-highest → List ℕ
+  work₀ c = start c .args .work .now
 
-same-length : (t : ℕ) → lts.Need-same-length (cs t) (called-at t) own.Post
-same-length t c = search needs
+  abbrev work₁ : At lts.After-attract-highest → List ℕ
+  work₁ c = c .attract-highest .last .1 .1 .1 .1 .1 .1 .0
 
-returns-2 : (t : ℕ) → lts.Need-returns-2 (cs t) (called-at t) own.Post
-returns-2 t c =
-    let g = c .before .before .before .before .before .before .before .before .before .before .before .before .before .before .before in
-    let size = c .before .before .before .before .before .before .before .before .set-words .ensures in
-    empty-done (g .pre .1) size (level-empty (g .pre .1) size (c .before .before .before .before .before .is-empty .ensures) (c .before .before .before .before .if2 .taken)) (c .before .before .before .before .before .before .before .before .before .if1 .left) (c .before .before .clear .ensures)
+  abbrev work₂ : At lts.After-zielonka-rec → List ℕ
+  work₂ c = c .zielonka-rec .last .1 .1 .1 .1 .0
 
-add-get-highest-prio : (t : ℕ) → lts.Need-add-get-highest-prio (cs t) (called-at t) own.Post
-add-get-highest-prio t c = search needs
+  abbrev work₃ : At lts.After-attract-lost → List ℕ
+  work₃ c = c .attract-lost .last .1 .1 .1 .1 .1 .0
 
-mul-get-highest-prio : (t : ℕ) → lts.Need-mul-get-highest-prio (cs t) (called-at t) own.Post
-mul-get-highest-prio t c = search needs
+  abbrev work₄ : At lts.After-zielonka-rec2 → List ℕ
+  work₄ c = c .zielonka-rec2 .last .1 .1 .1 .1 .0
 
-sub-get-highest-prio : (t : ℕ) → lts.Need-sub-get-highest-prio (cs t) (called-at t) own.Post
-sub-get-highest-prio t c = search needs
+  -- there is room for the level
+  fits : (c : At lts.After-set-words) → let a = start-of c .args in a .base + 4 * c .set-words .result ≤ length (a .work .now)
+  fits c = level-fits (start-of c .pre .1) (c .set-words .ensures)
 
-zielonka-rec-part-get-highest-prio-start :
-    (t : ℕ) → lts.Need-part-get-highest-prio-start (
-      set-words-reads.Asked,
-      set-words-reads.Learnt,
-      is-empty-reads.Asked,
-      is-empty-reads.Learnt,
-      clear-reads.Asked,
-      clear-reads.Learnt,
-      get-highest-prio-reads.Asked,
-      get-highest-prio-reads.Learnt,
-      attract-highest-reads.Asked,
-      attract-highest-reads.Learnt,
-      below t,
-      own.Post,
-      lost-nothing-reads.Asked,
-      lost-nothing-reads.Learnt,
-      win-everything-reads.Asked,
-      win-everything-reads.Learnt,
-      attract-lost-reads.Asked,
-      attract-lost-reads.Learnt,
-      join-reads.Asked,
-      join-reads.Learnt,
-    ) (called-at t) own.Post
-zielonka-rec-part-get-highest-prio-start t c = search needs
+  -- V has a member
+  member :
+      (c : At lts.After-get-highest-prio) →
+      let g = start-of (after-words (after-test c)) in
+      (v : ℕ) × (onLevel (tables g) (g .args .base) (g .args .work .now) v ≡ true)
+  member c =
+      let tested = after-test c in
+      let sized = after-words tested in
+      level-some (start-of sized .pre .1) (sized .set-words .ensures) (tested .is-empty .ensures)
+      (c .before .before .before .if2 .left)
 
-part-get-highest-prio-end : (t : ℕ) → lts.Need-part-get-highest-prio-end (cs t) (called-at t) own.Post
-part-get-highest-prio-end t c = search needs
+  -- the first cut is made
+  begun :
+      (c : At lts.After-attract-highest) →
+      Begun (tables (start c)) (size c) (start c .args .base) (top c) (work₀ c) (work₁ c)
+  begun c =
+      let called = start c .pre .1 in
+      let sized = after-words (after-test (after-highest c)) .set-words .ensures in
+      let (v, q) = member (after-highest c) in
+      record {
+        called = called;
+        ready = member-ready called sized v q;
+        top = member-top called sized v q (after-highest c .get-highest-prio .ensures);
+        cut = c .attract-highest .ensures;
+      }
 
-get-highest-prio-requires : (t : ℕ) → lts.Need-get-highest-prio-requires (cs t) (called-at t) own.Post
-get-highest-prio-requires t c κs = highest-given (c .before .before .before .before .before .before .before .before .before .before .before .before .before .pre .1) (c .before .before .before .before .before .before .set-words .ensures)
+  -- the first nested call has ended, by what it gave
+  abbrev FirstEnds : At lts.After-zielonka-rec → Ran → Type 0
+  FirstEnds c =
+      let d = after-cut c in
+      let a = start d .args in
+      Ends (tables (start d)) (a .base + 4 * size d) (a .calls + 1) (a .budget) (work₁ d) (work₂ c)
 
-attract-highest-requires : (t : ℕ) → lts.Need-attract-highest-requires (cs t) (called-at t) own.Post
-attract-highest-requires t c κs =
-    let g = c .before .before .before .before .before .before .before .before .before .before .before .before .before .before .before in
-    let size = c .before .before .before .before .before .before .before .before .set-words .ensures in
-    let (v, q) = level-some (g .pre .1) size (c .before .before .before .before .before .is-empty .ensures) (c .before .before .before .before .if2 .left) in
-    member-ready (g .pre .1) size v q
+  first-ends : (c : At lts.After-zielonka-rec) {r : Ran} → c .zielonka-rec .result ≡ r → FirstEnds c r
+  first-ends c e = subst (FirstEnds c) e (c .zielonka-rec .ensures)
 
-mul-up : (t : ℕ) → lts.Need-mul-up (cs t) (called-at t) own.Post
-mul-up t c = search needs
+  -- within the budget
+  came :
+      (c : At lts.After-known-told) →
+      let d = after-cut (after-first c) in
+      let a = start d .args in
+      Came (tables (start d)) (size d) (a .base) (top d) (a .calls) (a .budget) (made c)
+      (work₀ d) (work₁ d) (work₂ (after-first c))
+  came c =
+      let first = after-first c in begun-came (begun (after-cut first)) (first-ends first (c .before .first .given .1))
 
-add-up : (t : ℕ) → lts.Need-add-up (cs t) (called-at t) own.Post
-add-up t c = search needs
+  -- the second cut is made
+  lost :
+      (c : At lts.After-attract-lost) →
+      let told = after-told c in
+      let d = first-cut c in
+      let a = start d .args in
+      Lost (tables (start d)) (size d) (a .base) (top d) (a .calls) (a .budget) (made told)
+      (work₀ d) (work₁ d) (work₂ (after-first told)) (work₃ c)
+  lost c =
+      let g = start (first-cut c) in
+      came-lost (came (after-told c)) (c .before .before .before .lost-nothing .ensures) (c .before .before .if3 .left)
+      (c .attract-lost .ensures (g .args .priorities .now) (g .pre .1 .accepted))
 
-add-zielonka-rec : (t : ℕ) → lts.Need-add-zielonka-rec (cs t) (called-at t) own.Post
-add-zielonka-rec t c = search needs
+  -- the second nested call has ended, by what it gave
+  abbrev SecondEnds : At lts.After-zielonka-rec2 → Ran → Type 0
+  SecondEnds c =
+      let l = after-second-cut c in
+      let d = first-cut l in
+      let a = start d .args in
+      Ends (tables (start d)) (a .base + 4 * size d) (made (after-told l)) (a .budget) (work₃ l) (work₄ c)
 
-zielonka-rec-requires : (t : ℕ) → lts.Need-zielonka-rec-requires (cs t) (called-at t) own.Post
-zielonka-rec-requires t c κs =
-    let d = c .before .before .before in
-    (omega (arith, begun-less (begun t d), c .before .before .before .before .before .before .before .before .before .before .before .before .before .before .before .before .before .before .before .pre .0), begun-called (begun t d))
+  second-ends : (c : At lts.After-zielonka-rec2) {r : Ran} → c .zielonka-rec2 .result ≡ r → SecondEnds c r
+  second-ends c e = subst (SecondEnds c) e (c .zielonka-rec2 .ensures)
 
-enum-known-first : (t : ℕ) → lts.Need-enum-known-first (cs t) (called-at t) own.Post
-enum-known-first t c = search needs
+  returns : At lts.Need-returns
+  returns c = over-first (c .before .before .before .before .before .before .pre .1) (c .if1 .taken)
 
-enum-told : (t : ℕ) → lts.Need-enum-told (cs t) (called-at t) own.Post
-enum-told t c = search needs
+  set-words-requires : At lts.Need-set-words-requires
+  set-words-requires c κs = search needs
 
-same-length-2 : (t : ℕ) → lts.Need-same-length-2 (cs t) (called-at t) own.Post
-same-length-2 t c = search needs
+  add-is-empty : At lts.Need-add-is-empty
+  add-is-empty c = omega (arith, fits c, start-of c .good)
 
-returns-3 : (t : ℕ) → lts.Need-returns-3 (cs t) (called-at t) own.Post
-returns-3 t c =
-    let g = c .before .before .before .before .before .before .before .before .before .before .before .before .before .before .before .before .before .before .before .before .before .before .before .before in
-    let d = c .before .before .before .before .before .before .before .before in
-    begun-over (begun t d) (g .args .calls) (g .args .budget)
-    (subst
-    (Ends (tables t g) (g .args .base + 4 * c .before .before .before .before .before .before .before .before .before .before .before .before .before .before .before .before .before .set-words .result) (g .args .calls + 1) (g .args .budget)
-    (d .attract-highest .last .1 .1 .1 .1 .1 .1 .0) (c .before .before .before .before .zielonka-rec .last .1 .1 .1 .1 .0))
-    (c .enum-told .given .1)
-    (c .before .before .before .before .zielonka-rec .ensures))
+  mul-is-empty : At lts.Need-mul-is-empty
+  mul-is-empty c = omega (arith, fits c, start-of c .good)
 
-lost-nothing-requires : (t : ℕ) → lts.Need-lost-nothing-requires (cs t) (called-at t) own.Post
-lost-nothing-requires t c κs = omega (arith, came-ready (came t (c .before)) .high)
+  sub-is-empty : At lts.Need-sub-is-empty
+  sub-is-empty c = search needs
 
-win-everything-requires : (t : ℕ) → lts.Need-win-everything-requires (cs t) (called-at t) own.Post
-win-everything-requires t c κs = came-ready (came t (c .before .before .before .before))
+  part-is-empty-start : At lts.Need-part-is-empty-start
+  part-is-empty-start c = search needs
 
-same-length-3 : (t : ℕ) → lts.Need-same-length-3 (cs t) (called-at t) own.Post
-same-length-3 t c = search needs
+  part-is-empty-end : At lts.Need-part-is-empty-end
+  part-is-empty-end c = omega (arith, fits (c .before))
 
-returns-4 : (t : ℕ) → lts.Need-returns-4 (cs t) (called-at t) own.Post
-returns-4 t c = came-all (came t (c .before .before .before .before .before .before .before)) (c .before .before .before .before .before .lost-nothing .ensures) (c .before .before .before .before .if3 .taken) (c .before .before .win-everything .ensures)
+  is-empty-requires : At lts.Need-is-empty-requires
+  is-empty-requires c κs = search needs
 
-attract-lost-requires : (t : ℕ) → lts.Need-attract-lost-requires (cs t) (called-at t) own.Post
-attract-lost-requires t c κs = came-losable (came t (c .before .before .before .before))
+  mul-clear : At lts.Need-mul-clear
+  mul-clear c = search needs
 
-zielonka-rec-requires-2 : (t : ℕ) → lts.Need-zielonka-rec-requires-2 (cs t) (called-at t) own.Post
-zielonka-rec-requires-2 t c κs =
-    let d = c .before .before .before in
-    (omega (arith, lost-less (lost t d), c .before .before .before .before .before .before .before .before .before .before .before .before .before .before .before .before .before .before .before .before .before .before .before .before .before .before .before .before .before .before .before .before .before .pre .0), lost-called (lost t d))
+  add-clear : At lts.Need-add-clear
+  add-clear c = search needs
 
-enum-known-second : (t : ℕ) → lts.Need-enum-known-second (cs t) (called-at t) own.Post
-enum-known-second t c = search needs
+  mul-clear-2 : At lts.Need-mul-clear-2
+  mul-clear-2 c = search needs
 
-enum-told-2 : (t : ℕ) → lts.Need-enum-told-2 (cs t) (called-at t) own.Post
-enum-told-2 t c = search needs
+  clear-requires : At lts.Need-clear-requires
+  clear-requires c κs = omega (arith, fits (after-words (c .before .before)))
 
-same-length-4 : (t : ℕ) → lts.Need-same-length-4 (cs t) (called-at t) own.Post
-same-length-4 t c = search needs
+  add-t30 : At lts.Need-add-t30
+  add-t30 c = search needs
 
-returns-5 : (t : ℕ) → lts.Need-returns-5 (cs t) (called-at t) own.Post
-returns-5 t c =
-    let g = c .before .before .before .before .before .before .before .before .before .before .before .before .before .before .before .before .before .before .before .before .before .before .before .before .before .before .before .before .before .before .before .before .before .before .before .before .before .before in
-    let d = c .before .before .before .before .before .before .before .before in
-    lost-over (lost t d)
-    (subst
-    (Ends (tables t g) (g .args .base + 4 * c .before .before .before .before .before .before .before .before .before .before .before .before .before .before .before .before .before .before .before .before .before .before .before .before .before .before .before .before .before .before .before .set-words .result) (c .before .before .before .before .before .before .before .before .before .before .before .before .before .before .first .given .0 .0) (g .args .budget)
-    (d .attract-lost .last .1 .1 .1 .1 .1 .0) (c .before .before .before .before .zielonka-rec2 .last .1 .1 .1 .1 .0))
-    (c .enum-told2 .given .1)
-    (c .before .before .before .before .zielonka-rec2 .ensures))
+  same-length : At lts.Need-same-length
+  same-length c = search needs
 
-join-requires : (t : ℕ) → lts.Need-join-requires (cs t) (called-at t) own.Post
-join-requires t c κs =
-    let g = c .before .before .before .before .before .before .before .before .before .before .before .before .before .before .before .before .before .before .before .before .before .before .before .before .before .before .before .before .before .before .before .before .before .before .before .before .before .before .before .before in
-    let d = c .before .before .before .before .before .before .before .before .before .before in
-    lost-high (lost t d)
-    (subst
-    (Ends (tables t g) (g .args .base + 4 * c .before .before .before .before .before .before .before .before .before .before .before .before .before .before .before .before .before .before .before .before .before .before .before .before .before .before .before .before .before .before .before .before .before .set-words .result) (c .before .before .before .before .before .before .before .before .before .before .before .before .before .before .before .before .first .given .0 .0) (g .args .budget)
-    (d .attract-lost .last .1 .1 .1 .1 .1 .0) (c .before .before .before .before .before .before .zielonka-rec2 .last .1 .1 .1 .1 .0))
-    (c .before .before .second .given .1)
-    (c .before .before .before .before .before .before .zielonka-rec2 .ensures))
+  returns-2 : At lts.Need-returns-2
+  returns-2 c =
+      let tested = c .before .before .before .before .before in
+      let sized = after-words tested in
+      let called = start-of sized .pre .1 in
+      let s = sized .set-words .ensures in
+      empty-done called s (level-empty called s (tested .is-empty .ensures) (c .before .before .before .before .if2 .taken))
+      (sized .before .if1 .left)
+      (c .before .before .clear .ensures)
 
-same-length-5 : (t : ℕ) → lts.Need-same-length-5 (cs t) (called-at t) own.Post
-same-length-5 t c =
-    omega (
-      arith,
-      c .before .before .join .kept .1 .1 .0,
-      c .before .before .before .before .before .before .before .before .before .zielonka-rec2 .kept .1 .1 .1 .1 .0,
-      c .before .before .before .before .before .before .before .before .before .before .before .before .before .attract-lost .kept .1 .1 .1 .1 .1 .0,
-      c .before .before .before .before .before .before .before .before .before .before .before .before .before .before .before .before .before .before .before .before .before .before .before .zielonka-rec .kept .1 .1 .1 .1 .0,
-      c .before .before .before .before .before .before .before .before .before .before .before .before .before .before .before .before .before .before .before .before .before .before .before .before .before .before .before .attract-highest .kept .1 .1 .1 .1 .1 .1 .0,
-    )
+  add-get-highest-prio : At lts.Need-add-get-highest-prio
+  add-get-highest-prio c = search needs
 
-returns-6 : (t : ℕ) → lts.Need-returns-6 (cs t) (called-at t) own.Post
-returns-6 t c =
-    let g = c .before .before .before .before .before .before .before .before .before .before .before .before .before .before .before .before .before .before .before .before .before .before .before .before .before .before .before .before .before .before .before .before .before .before .before .before .before .before .before .before .before .before .before in
-    let d = c .before .before .before .before .before .before .before .before .before .before .before .before .before in
-    lost-done (lost t d)
-    (subst
-    (Ends (tables t g) (g .args .base + 4 * c .before .before .before .before .before .before .before .before .before .before .before .before .before .before .before .before .before .before .before .before .before .before .before .before .before .before .before .before .before .before .before .before .before .before .before .before .set-words .result) (c .before .before .before .before .before .before .before .before .before .before .before .before .before .before .before .before .before .before .before .first .given .0 .0) (g .args .budget)
-    (d .attract-lost .last .1 .1 .1 .1 .1 .0) (c .before .before .before .before .before .before .before .before .before .zielonka-rec2 .last .1 .1 .1 .1 .0))
-    (c .before .before .before .before .before .second .given .1)
-    (c .before .before .before .before .before .before .before .before .before .zielonka-rec2 .ensures))
-    (c .before .before .join .ensures)
+  mul-get-highest-prio : At lts.Need-mul-get-highest-prio
+  mul-get-highest-prio c = search needs
+
+  sub-get-highest-prio : At lts.Need-sub-get-highest-prio
+  sub-get-highest-prio c = search needs
+
+  part-get-highest-prio-start : At lts.Need-part-get-highest-prio-start
+  part-get-highest-prio-start c = search needs
+
+  part-get-highest-prio-end : At lts.Need-part-get-highest-prio-end
+  part-get-highest-prio-end c = search needs
+
+  get-highest-prio-requires : At lts.Need-get-highest-prio-requires
+  get-highest-prio-requires c κs =
+      let sized = after-words (c .before .before .before) in highest-given (start-of sized .pre .1) (sized .set-words .ensures)
+
+  attract-highest-requires : At lts.Need-attract-highest-requires
+  attract-highest-requires c κs =
+      let sized = after-words (after-test (c .before)) in
+      let (v, q) = member (c .before) in
+      member-ready (start-of sized .pre .1) (sized .set-words .ensures) v q
+
+  mul-up : At lts.Need-mul-up
+  mul-up c = search needs
+
+  add-up : At lts.Need-add-up
+  add-up c = search needs
+
+  add-zielonka-rec : At lts.Need-add-zielonka-rec
+  add-zielonka-rec c = search needs
+
+  zielonka-rec-requires : At lts.Need-zielonka-rec-requires
+  zielonka-rec-requires c κs =
+      let d = c .before .before .before in (omega (arith, begun-less (begun d), start d .pre .0), begun-called (begun d))
+
+  enum-known-first : At lts.Need-enum-known-first
+  enum-known-first c = search needs
+
+  enum-told : At lts.Need-enum-told
+  enum-told c = search needs
+
+  same-length-2 : At lts.Need-same-length-2
+  same-length-2 c = search needs
+
+  returns-3 : At lts.Need-returns-3
+  returns-3 c =
+      let first = c .before .before .before .before in
+      let a = start (after-cut first) .args in
+      begun-over (begun (after-cut first)) (a .calls) (a .budget) (first-ends first (c .enum-told .given .1))
+
+  lost-nothing-requires : At lts.Need-lost-nothing-requires
+  lost-nothing-requires c κs = omega (arith, came-ready (came (c .before)) .high)
+
+  win-everything-requires : At lts.Need-win-everything-requires
+  win-everything-requires c κs = came-ready (came (c .before .before .before .before))
+
+  same-length-3 : At lts.Need-same-length-3
+  same-length-3 c = search needs
+
+  returns-4 : At lts.Need-returns-4
+  returns-4 c =
+      let asked = c .before .before .before .before .before in
+      came-all (came (asked .before .before)) (asked .lost-nothing .ensures) (c .before .before .before .before .if3 .taken)
+      (c .before .before .win-everything .ensures)
+
+  attract-lost-requires : At lts.Need-attract-lost-requires
+  attract-lost-requires c κs = came-losable (came (c .before .before .before .before))
+
+  zielonka-rec-requires-2 : At lts.Need-zielonka-rec-requires-2
+  zielonka-rec-requires-2 c κs =
+      let d = c .before .before .before in
+      (omega (arith, lost-less (lost d), start (first-cut d) .pre .0), lost-called (lost d))
+
+  enum-known-second : At lts.Need-enum-known-second
+  enum-known-second c = search needs
+
+  enum-told-2 : At lts.Need-enum-told-2
+  enum-told-2 c = search needs
+
+  same-length-4 : At lts.Need-same-length-4
+  same-length-4 c = search needs
+
+  returns-5 : At lts.Need-returns-5
+  returns-5 c =
+      let second = c .before .before .before .before in
+      lost-over (lost (after-second-cut second)) (second-ends second (c .enum-told2 .given .1))
+
+  join-requires : At lts.Need-join-requires
+  join-requires c κs =
+      let second = c .before .before .before .before .before .before in
+      lost-high (lost (after-second-cut second)) (second-ends second (c .before .before .second .given .1))
+
+  same-length-5 : At lts.Need-same-length-5
+  same-length-5 c =
+      let joined = c .before .before in
+      let second = after-second joined in
+      let cut₂ = after-second-cut second in
+      let first = after-first (after-told cut₂) in
+      omega (
+        arith,
+        joined .join .kept .1 .1 .0,
+        second .zielonka-rec2 .kept .1 .1 .1 .1 .0,
+        cut₂ .attract-lost .kept .1 .1 .1 .1 .1 .0,
+        first .zielonka-rec .kept .1 .1 .1 .1 .0,
+        after-cut first .attract-highest .kept .1 .1 .1 .1 .1 .1 .0,
+      )
+
+  returns-6 : At lts.Need-returns-6
+  returns-6 c =
+      let joined = c .before .before in
+      let second = after-second joined in
+      lost-done (lost (after-second-cut second))
+      (second-ends second (joined .before .before .before .second .given .1))
+      (joined .join .ensures)
 
 pub +zielonka-rec-spec : {M : Type 1} → statement M
-+zielonka-rec-spec = close μ λ t. lts.spec (cs t)
++zielonka-rec-spec = close μ λ t. lts.spec
+    (cs t)
     (called-at t)
     own.Post
     (returns t)
@@ -344,7 +408,7 @@ pub +zielonka-rec-spec : {M : Type 1} → statement M
     (add-get-highest-prio t)
     (mul-get-highest-prio t)
     (sub-get-highest-prio t)
-    (zielonka-rec-part-get-highest-prio-start t)
+    (part-get-highest-prio-start t)
     (part-get-highest-prio-end t)
     (get-highest-prio-requires t)
     (attract-highest-requires t)
