@@ -1,4 +1,5 @@
--- How far a call has come, from piece to piece: what each piece needs of those before it, and what the call leaves by each way out.
+-- How far a call has come, from piece to piece: what each piece needs of those before it, and what the call leaves by each way
+-- out.
 use mathlib.Core.Bool.{Bool, true, false, not}
 use mathlib.Core.List.{List}
 use mathlib.Core.Path.{_≡_, refl, sym, ap, ap₂, subst, _∙_}
@@ -24,7 +25,8 @@ use Rattle.attractor.specs.SetsAt.{set-cleared, set-inside}
 use Rattle.attractor.specs.Walking.{lent-part}
 use Rattle.zielonka.specs.Parts.{highestOf, Searchable}
 use Rattle.zielonka.specs.Level.{nextLevel, wonPlace, onLevel, wonAt, Called, Stays, Done, Over}
-use Rattle.zielonka.specs.Steps.{CutBy, AllAt, JoinedAt, stays-on, stays-next, level-stays, cut-over, nested-called, first-less, cut-less}
+use Rattle.zielonka.specs.Steps.{CutBy, AllAt, JoinedAt, stays-on, stays-next, level-stays, cut-over}
+use Rattle.zielonka.specs.Steps.{nested-called, first-less, cut-less}
 use Rattle.zielonka.specs.Steps.{done-empty, done-all, done-some, over-nested, over-second}
 use Rattle.zielonka.specs.Pieces.{Ready, Losable}
 use Rattle.zielonka.specs.PiecesHold.{apart-cleared, apart-stays, apart-entries, ready-stays, won-range}
@@ -46,7 +48,8 @@ module _ {t : Tables} {base : ℕ} {w₀ : List ℕ} (called : Called t base w�
   -- a call has room for its own level
   pub level-fits : base + 4 * s ≤ length w₀
   level-fits =
-      let fits = four-fit (words (vertices t)) (count (vertices t) (onLevel t base w₀)) base (length w₀) (called .room) in omega arith
+      let fits = four-fit (words (vertices t)) (count (vertices t) (onLevel t base w₀)) base (length w₀) (called .room) in
+      omega arith
 
   lent : take ((base + s) - base) (drop base w₀) ≡ wordsAt (vertices t) base w₀
   lent = lent-part (vertices t) s base w₀ size
@@ -135,8 +138,9 @@ empty-set :
     (v : ℕ) →
     setAt (vertices t) place work v ≡ false
 empty-set t place work none v =
-    not-true-is-false (setAt (vertices t) place work v)
-    (λ q. clash q (some-false (64 * words (vertices t)) (setAt (vertices t) place work) none v (set-inside (vertices t) place work v q)))
+    let n = vertices t in
+    not-true-is-false (setAt n place work v)
+    (λ q. clash q (some-false (64 * words n) (setAt n place work) none v (set-inside n place work v q)))
 
 -- after the first cut
 pub record Begun (t : Tables) (s base p : ℕ) (w₀ w₁ : List ℕ) : Type 0 where
@@ -169,7 +173,8 @@ module _ {t : Tables} {s base p : ℕ} {w₀ w₁ : List ℕ} (b : Begun t s bas
   pub begun-called : Called t (base + 4 * s) w₁
   begun-called =
       rw (b .ready .size)
-      (nested-called (b .called) (record { long = refl; table = λ i l. refl; lower = λ i l h. refl }) (b .cut) (first-less (b .called) (b .top) (b .cut)))
+      (nested-called (b .called) (record { long = refl; table = λ i l. refl; lower = λ i l h. refl }) (b .cut)
+      (first-less (b .called) (b .top) (b .cut)))
 
   pub begun-came :
       {calls budget made : ℕ} {w₂ : List ℕ} →
@@ -249,31 +254,36 @@ module _ {t : Tables} {s base p calls budget made : ℕ} {w₀ w₁ w₂ : List 
             k;
       }
 
-module _ {t : Tables} {s base p calls budget made : ℕ} {w₀ w₁ w₂ w₃ : List ℕ} (l : Lost t s base p calls budget made w₀ w₁ w₂ w₃) where
-  -- the second nested call is on fewer vertices
-  pub lost-less : count (vertices t) (onLevel t (base + 4 * s) w₃) < count (vertices t) (onLevel t base w₀)
-  lost-less = rw (l .came .begun .ready .size) (cut-less (l .came .begun .called) (l .cut) (l .vertex) (l .lost))
+module _ {t : Tables} {s base p calls budget made : ℕ} {w₀ w₁ w₂ w₃ : List ℕ}
+    (l : Lost t s base p calls budget made w₀ w₁ w₂ w₃)
+  where
+    abbrev begun : Begun t s base p w₀ w₁
+    begun = l .came .begun
 
-  pub lost-called : Called t (base + 4 * s) w₃
-  lost-called =
-      rw (l .came .begun .ready .size)
-      (nested-called (l .came .begun .called) (came-stays (l .came)) (l .cut)
-      (cut-less (l .came .begun .called) (l .cut) (l .vertex) (l .lost)))
+    -- the second nested call is on fewer vertices
+    pub lost-less : count (vertices t) (onLevel t (base + 4 * s) w₃) < count (vertices t) (onLevel t base w₀)
+    lost-less = rw (begun .ready .size) (cut-less (begun .called) (l .cut) (l .vertex) (l .lost))
 
-  pub lost-over : Over t (base + 4 * s) made budget w₃ → Over t base calls budget w₀
-  lost-over over =
-      over-second (l .came .begun .called) calls (l .came .begun .top) (l .came .begun .cut) (l .came .done) (l .vertex) (l .lost) (l .cut)
-      (rw (l .came .begun .ready .size) at over)
+    pub lost-called : Called t (base + 4 * s) w₃
+    lost-called =
+        rw (begun .ready .size)
+        (nested-called (begun .called) (came-stays (l .came)) (l .cut)
+        (cut-less (begun .called) (l .cut) (l .vertex) (l .lost)))
 
-  pub lost-high : {made₂ : ℕ} {w₄ : List ℕ} → Done t (base + 4 * s) made budget made₂ w₃ w₄ → base + 8 * s ≤ length w₄
-  lost-high d = omega (arith, d .stays .long, l .cut .stays .long, came-ready (l .came) .high)
+    pub lost-over : Over t (base + 4 * s) made budget w₃ → Over t base calls budget w₀
+    lost-over over =
+        over-second (begun .called) calls (begun .top) (begun .cut) (l .came .done) (l .vertex) (l .lost) (l .cut)
+        (rw (begun .ready .size) at over)
 
-  pub lost-done :
-      {made₂ : ℕ} {w₄ w₅ : List ℕ} →
-      Done t (base + 4 * s) made budget made₂ w₃ w₄ →
-      ((t′ : Tables) → s ≡ words (vertices t′) → free (vertices t′) (edgesIn t′) ≤ base → JoinedAt t′ p base w₄ w₅) →
-      Done t base calls budget made₂ w₀ w₅
-  lost-done d joined =
-      done-some (l .came .begun .called) (l .came .begun .top) (l .came .begun .cut) (l .came .done) (l .vertex) (l .lost) (l .cut)
-      (rw (l .came .begun .ready .size) at d)
-      (joined t (l .came .begun .ready .size) (l .came .begun .called .low))
+    pub lost-high : {made₂ : ℕ} {w₄ : List ℕ} → Done t (base + 4 * s) made budget made₂ w₃ w₄ → base + 8 * s ≤ length w₄
+    lost-high d = omega (arith, d .stays .long, l .cut .stays .long, came-ready (l .came) .high)
+
+    pub lost-done :
+        {made₂ : ℕ} {w₄ w₅ : List ℕ} →
+        Done t (base + 4 * s) made budget made₂ w₃ w₄ →
+        ((t′ : Tables) → s ≡ words (vertices t′) → free (vertices t′) (edgesIn t′) ≤ base → JoinedAt t′ p base w₄ w₅) →
+        Done t base calls budget made₂ w₀ w₅
+    lost-done d joined =
+        done-some (begun .called) (begun .top) (begun .cut) (l .came .done) (l .vertex) (l .lost) (l .cut)
+        (rw (begun .ready .size) at d)
+        (joined t (begun .ready .size) (begun .called .low))

@@ -46,20 +46,25 @@ apart-cleared h c = record { long = c .long; low = λ i l. c .rest i (inl (omega
 pub apart-combined : {k into from s : ℕ} {f : ℕ → ℕ → ℕ} {x y : List ℕ} → k ≤ into → Combined f into from s x y → Apart k x y
 apart-combined h c = record { long = c .long; low = λ i l. c .rest i (inl (omega arith)) }
 
-pub apart-collected : {k p within into : ℕ} {priorities x y : List ℕ} → k ≤ into → Collected priorities p within into x y → Apart k x y
+pub apart-collected :
+    {k p within into : ℕ} {priorities x y : List ℕ} → k ≤ into → Collected priorities p within into x y → Apart k x y
 apart-collected h c = record { long = c .long; low = λ i l. c .rest i (inl (omega arith)) }
 
-module _ (t : Tables) {base k : ℕ} {x y : List ℕ} (low : free (vertices t) (edgesIn t) ≤ base) (high : base + words (vertices t) ≤ k) (a : Apart k x y) where
-  pub apart-stays : Stays t base x y
-  apart-stays =
-      record {
-        long = a .long;
-        table = λ i l. a .low i (omega arith);
-        lower = λ i l h. a .low i (omega arith);
-      }
+module _ (t : Tables) {base k : ℕ} {x y : List ℕ}
+    (low : free (vertices t) (edgesIn t) ≤ base)
+    (high : base + words (vertices t) ≤ k)
+    (a : Apart k x y)
+  where
+    pub apart-stays : Stays t base x y
+    apart-stays =
+        record {
+          long = a .long;
+          table = λ i l. a .low i (omega arith);
+          lower = λ i l h. a .low i (omega arith);
+        }
 
-  pub apart-entries : (v : ℕ) → v < vertices t → entriesOf t y v ≡ entriesOf t x v
-  apart-entries v l = a .low (entries (vertices t) (edgesIn t) + v) (omega arith)
+    pub apart-entries : (v : ℕ) → v < vertices t → entriesOf t y v ≡ entriesOf t x v
+    apart-entries v l = a .low (entries (vertices t) (edgesIn t) + v) (omega arith)
 
 -- what a call asks for stays
 pub called-stays : {t : Tables} {base : ℕ} {x y : List ℕ} → Stays t base x y → Called t base x → Called t base y
@@ -140,7 +145,7 @@ cut-attractable {owners} {offsets} {targets} {s} {base} {work} c =
       side = c .player;
     }
 
-module _ (t : Tables) (a : Player) (base looks : ℕ) (w₀ w₁ w₂ w₃ : List ℕ)
+module _ {t : Tables} {a : Player} {base looks : ℕ} {w₀ w₁ w₂ w₃ : List ℕ}
     (ok : Accepted t)
     (low : free (vertices t) (edgesIn t) ≤ base)
     (drawn : Attracted t a base (base + words (vertices t)) w₀ w₁ looks)
@@ -153,20 +158,20 @@ module _ (t : Tables) (a : Player) (base looks : ℕ) (w₀ w₁ w₂ w₃ : Lis
     abbrev s : ℕ
     s = words (vertices t)
 
-    S : Set
+    abbrev S : Set
     S = attractor (gameOf t) a (onLevel t base w₀) (drawnAt t base w₀)
 
     -- the words of the attractor are the rules'
-    held : (v : ℕ) → drawnAt t base w₁ v ≡ attractor (gameOf t) a (onLevel t base w₀) (drawnAt t base w₀) v
+    held : (v : ℕ) → drawnAt t base w₁ v ≡ S v
     unfolding gameOf
     held v = go (lt-or-ge v n)
       where
-        go : (v < n) ⊎ (n ≤ v) → drawnAt t base w₁ v ≡ attractor (gameOf t) a (onLevel t base w₀) (drawnAt t base w₀) v
+        go : (v < n) ⊎ (n ≤ v) → drawnAt t base w₁ v ≡ S v
         go (inl l) = drawn .holds .bits v l
         go (inr l) =
             bit-other (wordsAt n (base + s) w₁) v (drawn .holds .clear v l) ∙
             sym
-            (not-true-is-false (attractor (gameOf t) a (onLevel t base w₀) (drawnAt t base w₀) v)
+            (not-true-is-false (S v)
             (λ p. let less = attractor-below (gameOf t) a (onLevel t base w₀) (drawnAt t base w₀) v p in omega arith))
 
     above : Apart (base + 4 * words (vertices t)) w₁ w₃
@@ -175,7 +180,7 @@ module _ (t : Tables) (a : Player) (base looks : ℕ) (w₀ w₁ w₂ w₃ : Lis
     level : (v : ℕ) → onLevel t base w₁ v ≡ onLevel t base w₀ v
     level = set-kept n base w₀ w₁ (λ i l h. drawn .rest i (omega arith) (inl (omega arith)))
 
-    rest : (v : ℕ) → onLevel t (nextLevel (words (vertices t)) base) w₃ v ≡ without (onLevel t base w₀) (attractor (gameOf t) a (onLevel t base w₀) (drawnAt t base w₀)) v
+    rest : (v : ℕ) → onLevel t (nextLevel s base) w₃ v ≡ without (onLevel t base w₀) S v
     rest v =
         set-reduced n (base + 4 * s) (base + s) w₂ w₃ reduced v ∙
         ap₂ (λ (x y : Bool). x && not y)
@@ -218,11 +223,9 @@ pub cut-done :
     (onLevel (tablesOf owners priorities offsets targets) base w₀)
     (drawnAt (tablesOf owners priorities offsets targets) base w₀)
     w₀ w₃
-cut-done {owners} {offsets} {targets} {alpha} {base} {w₀} c priorities ok {looks} {w₁} {w₂} {w₃} drawn copied reduced =
+cut-done c priorities ok drawn copied reduced =
     let size = c .ready .size in
-    cut-made (tablesOf owners priorities offsets targets) (playerOf alpha) base looks w₀ w₁ w₂ w₃ ok (c .ready .called .low) (rw size at drawn)
-    (rw size at copied)
-    (rw size at reduced)
+    cut-made ok (c .ready .called .low) (rw size at drawn) (rw size at copied) (rw size at reduced)
 
 -- the numbers 0 and 1 stand for the players, and 1 less the number for the opponent
 pub other-number : (k : ℕ) → k < 2 → playerOf (1 - k) ≡ opponent (playerOf k)
@@ -392,7 +395,9 @@ won-apart s base Even = inl (omega arith)
 won-apart s base Odd = inr (omega arith)
 
 -- a player's set, by how far it stands from the first
-won-offset : (s base : ℕ) (c : Player) → (k : ℕ) × (k ≤ s) × (wonPlace s base c ≡ base + 2 * s + k) × (wonPlace s (base + 4 * s) c ≡ base + 6 * s + k)
+won-offset :
+    (s base : ℕ) (c : Player) →
+    (k : ℕ) × (k ≤ s) × (wonPlace s base c ≡ base + 2 * s + k) × (wonPlace s (base + 4 * s) c ≡ base + 6 * s + k)
 won-offset s base Even = (0, omega arith, omega arith, omega arith)
 won-offset s base Odd = (s, omega arith, omega arith, omega arith)
 
@@ -514,11 +519,10 @@ module _ {s base : ℕ} (p : ℕ) {place : ℕ} {w₀ w₁ w₂ : List ℕ}
     -- each player's set comes from the next level
     from-next : (c : Player) (v : ℕ) → wonAt t base w₁ c v ≡ wonAt t (nextLevel (words (vertices t)) base) w₀ c v
     from-next c v =
-        let (k, few, here, next) = won-offset (words (vertices t)) base c in
-        ap (λ (x : ℕ). setAt (vertices t) x w₁ v) here ∙
-        set-copied (vertices t) (base + 2 * words (vertices t)) (base + 6 * words (vertices t)) (2 * words (vertices t)) w₀ w₁ (rw sized at copied) k
-        (omega arith)
-        v ∙
+        let n = vertices t in
+        let (k, few, here, next) = won-offset (words n) base c in
+        ap (λ (x : ℕ). setAt n x w₁ v) here ∙
+        set-copied n (base + 2 * words n) (base + 6 * words n) (2 * words n) w₀ w₁ (rw sized at copied) k (omega arith) v ∙
         ap (λ (x : ℕ). setAt (vertices t) x w₀ v) (sym next)
 
     -- **The sets are joined.**
@@ -568,10 +572,11 @@ pub lost-told :
     (s base p : ℕ) {place : ℕ} (work : List ℕ) {r : Bool} →
     place ≡ wonPlace s base (playerOf (1 - p % 2)) →
     place + s ≤ length work →
-    r ≡ not (some (64 * length (take ((place + s) - place) (drop place work))) (setOf (take ((place + s) - place) (drop place work)))) →
+    (let lent = take ((place + s) - place) (drop place work) in r ≡ not (some (64 * length lent) (setOf lent))) →
     r ≡ not (some (64 * s) (setOf (take s (drop (wonPlace s base (opponent (parity p))) work))))
 lost-told s base p {place} work there fits told =
-    let there′ : place ≡ wonPlace s base (opponent (parity p)) = there ∙ ap (λ (c : Player). wonPlace s base c) (opponent-number p) in
+    let there′ : place ≡ wonPlace s base (opponent (parity p)) =
+    there ∙ ap (λ (c : Player). wonPlace s base c) (opponent-number p) in
     told ∙
     ap (λ (xs : List ℕ). not (some (64 * length xs) (setOf xs))) (part-is place s work) ∙
     ap (λ (k : ℕ). not (some (64 * k) (setOf (take s (drop place work))))) (part-length place s work fits) ∙

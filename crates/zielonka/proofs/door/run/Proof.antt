@@ -28,7 +28,8 @@ base g = free (length (g .args .owners .now)) (length (g .args .targets .now))
 -- there are few vertices, edges and words
 few :
     (g : tie.Start) →
-    (length (g .args .owners .now) ≤ 4096) × (length (g .args .targets .now) ≤ 16384) × (words (length (g .args .owners .now)) ≤ 64)
+    let n = length (g .args .owners .now) in
+    (n ≤ 4096) × (length (g .args .targets .now) ≤ 16384) × (words n ≤ 64)
 few g =
     let f = accepted-sound (tables g) (g .pre .accepted) in
     (f .few-vertices, f .few-edges, words-few (length (g .args .owners .now)) (f .few-vertices))
@@ -50,14 +51,12 @@ kept-long : (r : tie.After-zielonka-rec) → length (left r) ≡ length (start r
 kept-long r = r .zielonka-rec .kept .1 .1 .1 .1 .0 ∙ prepared r .prepare .ensures .long
 
 -- by what it gave
-ends :
-    (r : tie.After-zielonka-rec) {x : Ran} →
-    r .zielonka-rec .result ≡ x →
-    let g = start r in
-    Ends (tables g) (base g) 0 (g .args .budget) (prepared r .prepare .last .1 .1 .1 .1 .0) (left r) x
-ends r e =
-    let g = start r in
-    subst (Ends (tables g) (base g) 0 (g .args .budget) (prepared r .prepare .last .1 .1 .1 .1 .0) (left r)) e (r .zielonka-rec .ensures)
+abbrev EndsAs : tie.After-zielonka-rec → Ran → Type 0
+EndsAs r =
+    let g = start r in Ends (tables g) (base g) 0 (g .args .budget) (prepared r .prepare .last .1 .1 .1 .1 .0) (left r)
+
+ends : (r : tie.After-zielonka-rec) {x : Ran} → r .zielonka-rec .result ≡ x → EndsAs r x
+ends r e = subst (EndsAs r) e (r .zielonka-rec .ensures)
 
 -- within the budget it has found what is to be written
 abbrev ended : tie.After-known-told → tie.After-zielonka-rec
@@ -157,12 +156,13 @@ same-length-5 c = search needs
 
 returns-2 : tie.Need-returns-2
 returns-2 c =
-    let d = c .before .before .before .before .before .before .before .before .before .before .before .before .before .before .before in
+    let written = c .before .before .before .before .before .before .before .before .before .before in
+    let d = written .before .before .before .before .before in
     let r = ended d in
     let g = start r in
     let done = ends r (d .before .ran .given .1) in (
       cleared-all (g .args .work .now) (left r) (kept-long r) (c .before .before .clear2 .ensures),
-      found-finished (found d) (g .pre .strategy-size) (c .before .before .before .before .before .before .before .before .before .before .write-out .ensures)
+      found-finished (found d) (g .pre .strategy-size) (written .write-out .ensures)
           (run-calls (tables g) (g .pre .accepted) (g .args .work .now) (g .pre .room) (prepared r .prepare .ensures) done)
           (done .within),
     )

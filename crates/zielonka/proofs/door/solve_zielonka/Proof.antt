@@ -1,9 +1,12 @@
--- `solve_zielonka` meets its contract: a refusal is returned with nothing written; past the checks the run is done in the first W words.
+-- `solve_zielonka` meets its contract: a refusal is returned with nothing written; past the checks the run is done in the first W
+-- words.
 use mathlib.Core.List.{_++_}
 use mathlib.Core.Path.{_≡_, subst}
 use Prim.Native.Nat.{ℕ, _-_}
 use native.Mathlib.Omega.{arith}
 use lib.ListN.{length, take, drop}
+use Rattle.rules.specs.Counting.{Set}
+use Rattle.rules.specs.Game.{Player}
 use Rattle.rules.specs.Outcome.{none}
 use Rattle.rules.specs.Solver.{Lent, solverChecks, Solves}
 use Rattle.rules.specs.Tables.{Tables, gameOf, tablesOf}
@@ -18,12 +21,20 @@ use borrow.Author.Needs.{needs}
 use Rattle.zielonka.proofs.door.solve_zielonka.Statement.{statement}
 use Rattle.zielonka.proofs.door.solve_zielonka.Tie as tie
 
--- the tables and what is lent
+-- the tables, what is lent, and what the rules find
 abbrev tables : tie.Start → Tables
 tables g = tablesOf (g .args .owners .now) (g .args .priorities .now) (g .args .offsets .now) (g .args .targets .now)
 
 abbrev lent : tie.Start → Lent
-lent g = record { even = g .args .even .now; odd = g .args .odd .now; strategy = g .args .strategy .now; work = g .args .work .now }
+lent g =
+    let a = g .args in
+    record { even = a .even .now; odd = a .odd .now; strategy = a .strategy .now; work = a .work .now }
+
+abbrev calls : tie.Start → ℕ
+calls g = zielonka (gameOf (tables g)) .calls
+
+abbrev won : tie.Start → Player → Set
+won g = zielonka (gameOf (tables g)) .won
 
 abbrev start : tie.After-enum-told → tie.Start
 start d = d .before .before .before .before .before .before .before .before .before .before .before
@@ -32,24 +43,27 @@ start d = d .before .before .before .before .before .before .before .before .bef
 no-refusal : (d : tie.After-enum-told) → solverChecks (tables (start d)) (lent (start d)) ≡ none
 no-refusal d =
     let g = start d in
-    went-on (d .before .before .check-all .result) (solverChecks (tables g) (lent g)) (d .before .match .keys1) (numbered-checks (tables g) (lent g))
-    (d .before .before .check-all .ensures)
+    let checked = d .before .before .check-all in
+    went-on (checked .result) (solverChecks (tables g) (lent g)) (d .before .match .keys1) (numbered-checks (tables g) (lent g))
+    (checked .ensures)
 
 passed :
     (d : tie.After-enum-told) →
-    let g = start d in
-    Passed (tables g) (length (g .args .even .now)) (length (g .args .odd .now)) (length (g .args .strategy .now)) (length (g .args .work .now))
+    let l = lent (start d) in
+    Passed (tables (start d)) (length (l .even)) (length (l .odd)) (length (l .strategy)) (length (l .work))
 passed d =
-    let g = start d in
-    checks-passed (tables g) (length (g .args .even .now)) (length (g .args .odd .now)) (length (g .args .strategy .now)) (length (g .args .work .now))
-    (no-refusal d)
+    let l = lent (start d) in
+    checks-passed (tables (start d)) (length (l .even)) (length (l .odd)) (length (l .strategy)) (length (l .work)) (no-refusal d)
 
 -- what the run left
+abbrev sized : tie.After-run → tie.After-work-words
+sized r = r .before .before .before .before .before
+
 abbrev began : tie.After-run → tie.Start
-began r = start (r .before .before .before .before .before .before)
+began r = start (sized r .before)
 
 abbrev words : tie.After-run → ℕ
-words r = r .before .before .before .before .before .work-words .result
+words r = sized r .work-words .result
 
 abbrev after : tie.After-run → Lent
 after r =
@@ -67,19 +81,19 @@ solved :
     (r : tie.After-run) {x : Ran} →
     r .run .result ≡ x →
     let g = began r in
-    Solves (g .args .compute-strategy) (g .args .budget) (tables g) (zielonka (gameOf (tables g)) .calls)
-    (zielonka (gameOf (tables g)) .won) (lent g) (after r) (ranOutcome (g .args .budget) x)
+    let a = g .args in
+    Solves (a .compute-strategy) (a .budget) (tables g) (calls g) (won g) (lent g) (after r) (ranOutcome (a .budget) x)
 solved r {x} e =
     let g = began r in
-    solves-ran (g .args .compute-strategy) (g .args .budget) (tables g) (zielonka (gameOf (tables g)) .calls)
-    (zielonka (gameOf (tables g)) .won) (lent g) (after r) x (no-refusal (r .before .before .before .before .before .before))
-    (subst
-    (Runs (g .args .compute-strategy) (g .args .budget) (tables g) (zielonka (gameOf (tables g)) .calls)
-    (zielonka (gameOf (tables g)) .won) (outputsOf (lent g)) (outputsOf (after r)))
-    e
+    let a = g .args in
+    solves-ran (a .compute-strategy) (a .budget) (tables g) (calls g) (won g) (lent g) (after r) x
+    (no-refusal (sized r .before))
+    (subst (Runs (a .compute-strategy) (a .budget) (tables g) (calls g) (won g) (outputsOf (lent g)) (outputsOf (after r))) e
     (r .run .ensures .1))
-    (work-cleared (tables g) (words r) (g .args .work .now) (r .run .last .1 .1 .1 .1 .1 .1 .1 .1 .1 .0)
-    (r .before .before .before .before .before .work-words .ensures) (passed (r .before .before .before .before .before .before) .work-size) (r .run .ensures .0))
+    (work-cleared (tables g) (words r) (a .work .now) (r .run .last .1 .1 .1 .1 .1 .1 .1 .1 .1 .0)
+    (sized r .work-words .ensures)
+    (passed (sized r .before) .work-size)
+    (r .run .ensures .0))
 
 check-all-requires : tie.Need-check-all-requires
 check-all-requires c κs = search needs
@@ -90,9 +104,9 @@ enum-told c = search needs
 returns : tie.Need-returns
 returns c =
     let g = c .before .before .before .before .before .before .before .before .before .before in
-    solves-refused (g .args .compute-strategy) (g .args .budget) (tables g) (zielonka (gameOf (tables g)) .calls)
-    (zielonka (gameOf (tables g)) .won) (lent g) _
-    (c .before .check-all .ensures) (refusal-not-zero (c .before .check-all .result) (c .match .keys2))
+    solves-refused (g .args .compute-strategy) (g .args .budget) (tables g) (calls g) (won g) (lent g) _
+    (c .before .check-all .ensures)
+    (refusal-not-zero (c .before .check-all .result) (c .match .keys2))
 
 work-words-requires : tie.Need-work-words-requires
 work-words-requires c κs =
@@ -105,14 +119,16 @@ part-run-start : tie.Need-part-run-start
 part-run-start c = search needs
 
 part-run-end : tie.Need-part-run-end
-part-run-end c = omega (arith, passed (c .before .before .before .before) .work-size, c .before .before .before .work-words .ensures)
+part-run-end c =
+    let w = c .before .before .before in omega (arith, passed (w .before) .work-size, w .work-words .ensures)
 
 run-requires : tie.Need-run-requires
 run-requires c κs =
-    let d = c .before .before .before .before .before in
-    let a = start d .args in
-    let w = c .before .before .before .before .work-words in
-    run-ready (tables (start d)) (w .result) (a .even .now) (a .odd .now) (a .strategy .now) (a .work .now) (w .ensures) (passed d)
+    let w = c .before .before .before .before in
+    let g = start (w .before) in
+    let l = lent g in
+    run-ready (tables g) (w .work-words .result) (l .even) (l .odd) (l .strategy) (l .work) (w .work-words .ensures)
+    (passed (w .before))
 
 enum-known-ran : tie.Need-enum-known-ran
 enum-known-ran c = search needs
@@ -148,7 +164,10 @@ same-length-8 : tie.Need-same-length-8
 same-length-8 c = search needs
 
 returns-3 : tie.Need-returns-3
-returns-3 c = solved (c .before .before .before .before .before .before .before .before .before .before .before) (c .before .ran .given .1)
+returns-3 c =
+    let told = c .before in
+    let r = told .before .before .before .before .before .before .before .before .before .before in
+    solved r (told .ran .given .1)
 
 pub solve-zielonka-spec : {M : Type 1} → statement M
 solve-zielonka-spec =

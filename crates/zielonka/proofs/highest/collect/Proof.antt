@@ -8,8 +8,10 @@ use Rattle.rules.specs.Tables.{words}
 use Rattle.sets.specs.declared.members.Members.{Members}
 use Rattle.sets.specs.Walk.{left, Walks}
 use Rattle.attractor.specs.Area.{wordsAt}
-use Rattle.attractor.specs.Walked.{Walkable, Beside, walked-none, walked-few, walked-all, walked-small, walked-shorter, walked-more}
-use Rattle.zielonka.specs.Collecting.{CollectingTo, collect-walkable, collecting-all, collecting-one, collecting-other, insert-fits}
+use Rattle.attractor.specs.Walked.{Walkable, Beside, walked-none, walked-few, walked-all}
+use Rattle.attractor.specs.Walked.{walked-small, walked-shorter, walked-more}
+use Rattle.zielonka.specs.Collecting.{CollectingTo, collect-walkable, insert-fits}
+use Rattle.zielonka.specs.Collecting.{collecting-all, collecting-one, collecting-other}
 use borrow.Author.Needs.{needs}
 use Rattle.zielonka.proofs.highest.collect.Statement.{statement}
 use Rattle.zielonka.proofs.highest.collect.Tie as tie

@@ -1,4 +1,5 @@
--- `extend_arbitrary` meets its contract: the vertices of priority p that the walk has passed have an edge inside V, where p's player owns them.
+-- `extend_arbitrary` meets its contract: the vertices of priority p that the walk has passed have an edge inside V, where p's
+-- player owns them.
 use Prim.Native.Nat.{ℕ, _+_, _-_, _≤_, _<_}
 use mathlib.Core.Bool.{true}
 use mathlib.Core.List.{List, _∷_}
@@ -17,10 +18,12 @@ use Rattle.zielonka.proofs.highest.extend_arbitrary.Tie as tie
 use Rattle.rules.specs.Tables.{tablesOf}
 
 abbrev Inv-loop : tie.InvT-loop
-Inv-loop owners priorities offsets targets p s work₀ base n m walk₀ work walk = ExtendingTo (tablesOf owners priorities offsets targets) p base work₀ walk work
+Inv-loop owners priorities offsets targets p s work₀ base n m walk₀ work walk =
+    ExtendingTo (tablesOf owners priorities offsets targets) p base work₀ walk work
 
 abbrev μ-loop : tie.MeasureT-loop
-μ-loop owners priorities offsets targets p s work₀ base n m walk₀ work walk = length (left (wordsAt (length owners) base work₀) walk)
+μ-loop owners priorities offsets targets p s work₀ base n m walk₀ work walk =
+    length (left (wordsAt (length owners) base work₀) walk)
 
 -- where the function begins, and the loop's head of a turn
 abbrev start-of : tie.At-loop Inv-loop μ-loop → tie.Start Inv-loop μ-loop

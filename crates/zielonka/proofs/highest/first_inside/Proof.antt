@@ -12,10 +12,16 @@ use Rattle.zielonka.proofs.highest.first_inside.Tie as tie
 
 abbrev Inv-loop : tie.InvT-loop
 Inv-loop offsets targets v set e₀ e-end e =
-    (e-end ≡ getD offsets (v + 1) 0) × (getD offsets v 0 ≤ e) × ((k : ℕ) → getD offsets v 0 ≤ k → k < e → setOf set (getD targets k 0) ≡ false)
+    (e-end ≡ getD offsets (v + 1) 0) ×
+    (getD offsets v 0 ≤ e) ×
+    ((k : ℕ) → getD offsets v 0 ≤ k → k < e → setOf set (getD targets k 0) ≡ false)
 
 abbrev μ-loop : tie.MeasureT-loop
 μ-loop offsets targets v set e₀ e-end e = e-end - e
+
+-- where the function begins
+abbrev start-of : tie.At-loop Inv-loop μ-loop → tie.Start Inv-loop μ-loop
+start-of c = c .before .before .before .before .before .before
 
 mul-e : tie.Need-mul-e Inv-loop μ-loop
 mul-e c = search needs
@@ -49,35 +55,33 @@ cast-contains c = omega (arith, c .shared-slice-known6 .given (c .before .before
 
 contains-requires : tie.Need-contains-requires Inv-loop μ-loop
 contains-requires c κs =
-    let l = c .before .before .loop in
-    let g = c .before .before .before .before .before .before .before .before in
-    g .pre .fits (l .e) (omega arith)
+    let d = c .before .before in start-of d .pre .fits (d .loop .e) (omega arith)
 
 returns : tie.Need-returns Inv-loop μ-loop
 returns c =
-    let l = c .before .before .before .before .loop in
-    let g = c .before .before .before .before .before .before .before .before .before .before in
-    inside-found (g .pre) (l .e) (omega arith) (omega arith) (sym (c .before .contains .ensures) ∙ c .if1 .taken)
+    let d = c .before .before .before .before in
+    let l = d .loop in
+    inside-found (start-of d .pre) (l .e) (omega arith) (omega arith) (sym (c .before .contains .ensures) ∙ c .if1 .taken)
 
 add-e : tie.Need-add-e Inv-loop μ-loop
 add-e c =
-    let g = c .before .before .before .before .before .before .before .before .before .before in
-    omega (arith, c .before .before .before .before .before .shared-slice-known5 .given (g .args .v + 1))
+    let d = c .before .before .before .before in omega (arith, d .before .shared-slice-known5 .given (start-of d .args .v + 1))
 
 loop-less : tie.Need-loop-less Inv-loop μ-loop
 loop-less c = search needs
 
 loop-again : tie.Need-loop-again Inv-loop μ-loop
 loop-again c =
-    let l = c .before .before .before .before .loop in
-    let g = c .before .before .before .before .before .before .before .before .before .before in
-    (search needs, search needs, inside-next (g .pre) (l .e) (l .inv .2) (sym (c .before .contains .ensures) ∙ c .if1 .left))
+    let d = c .before .before .before .before in
+    let l = d .loop in (
+      search needs,
+      search needs,
+      inside-next (start-of d .pre) (l .e) (l .inv .2) (sym (c .before .contains .ensures) ∙ c .if1 .left),
+    )
 
 returns-2 : tie.Need-returns-2 Inv-loop μ-loop
 returns-2 c =
-    let l = c .before .loop in
-    let g = c .before .before .before .before .before .before .before in
-    inside-some (g .pre) 0 (λ k low high. l .inv .2 k low (omega arith))
+    let l = c .before .loop in inside-some (start-of (c .before) .pre) 0 (λ k low high. l .inv .2 k low (omega arith))
 
 pub first-inside-spec : {M : Type 1} → statement M
 first-inside-spec =

@@ -37,7 +37,8 @@ moved :
     let set = start-of (turn c) .args .set .now in
     (left set (turn c .loop .walk) ≡ vertex c ∷ left set (after c)) × (after c .at ≤ 64)
 moved c =
-    subst (Walks (start-of (turn c) .args .set .now) (turn c .loop .walk)) (c .before .next2 .given .1) (c .before .before .before .next .ensures)
+    let set = start-of (turn c) .args .set .now in
+    subst (Walks set (turn c .loop .walk)) (c .before .next2 .given .1) (c .before .before .before .next .ensures)
 
 shorter :
     (c : tie.After-known-told Inv-loop μ-loop) →
@@ -85,7 +86,8 @@ loop-again : tie.Need-loop-again Inv-loop μ-loop
 loop-again c =
     let d = c .before .before in
     let known = c .before .shared-slice-known3 .given (vertex d) in
-    (omega arith, searched-more (start-of (turn d) .pre) (turn d .loop .inv .1) (after d) (moved d) (omega (arith, c .if1 .taken)))
+    let l = turn d .loop in
+    (omega arith, searched-more (start-of (turn d) .pre) (l .inv .1) (after d) (moved d) (omega (arith, c .if1 .taken)))
 
 loop-less-2 : tie.Need-loop-less-2 Inv-loop μ-loop
 loop-less-2 c = shorter (c .before .before)
@@ -93,7 +95,8 @@ loop-less-2 c = shorter (c .before .before)
 loop-again-2 : tie.Need-loop-again-2 Inv-loop μ-loop
 loop-again-2 c =
     let d = c .before .before in
-    (turn d .loop .inv .0, searched-more (start-of (turn d) .pre) (turn d .loop .inv .1) (after d) (moved d) (omega (arith, c .if1 .left)))
+    let l = turn d .loop in
+    (l .inv .0, searched-more (start-of (turn d) .pre) (l .inv .1) (after d) (moved d) (omega (arith, c .if1 .left)))
 
 pub get-highest-prio-spec : {M : Type 1} → statement M
 get-highest-prio-spec =

@@ -21,10 +21,14 @@ add-result-2 : tie.Need-add-result-2
 add-result-2 c = search needs
 
 returns : tie.Need-returns
-returns c = ap (λ (k : ℕ). wonPlace (c .before .args .s) (c .before .args .base) (playerOf k)) (sym (c .if1 .taken))
+returns c =
+    let a = c .before .args in
+    ap (λ (k : ℕ). wonPlace (a .s) (a .base) (playerOf k)) (sym (c .if1 .taken))
 
 returns-2 : tie.Need-returns-2
-returns-2 c = ap (λ (q : Player). wonPlace (c .before .args .s) (c .before .args .base) q) (odd-above-zero (c .before .args .player) (c .if1 .left))
+returns-2 c =
+    let a = c .before .args in
+    ap (λ (q : Player). wonPlace (a .s) (a .base) q) (odd-above-zero (a .player) (c .if1 .left))
 
 pub won-at-spec : {M : Type 1} → statement M
 won-at-spec =
