@@ -45,17 +45,25 @@ pub record Shows (owners priorities offsets targets : List ℕ) (s : ℕ) (r : R
   pub ready : Ready (length owners) offsets targets s work
   pub current : at ≡ r .current
   pub region : (v : ℕ) → v < length owners → regionAt (regionsAt (length owners) (length targets) s) work v ≡ r .region v
-  pub won : (b : Player) (v : ℕ) → v < length owners → setAt (length owners) (wonAt (length owners) (length targets) s b) work v ≡ r .won b v
-  pub bare : (b : Player) (v : ℕ) → length owners ≤ v → setAt (length owners) (wonAt (length owners) (length targets) s b) work v ≡ false
+  pub won :
+      (b : Player) (v : ℕ) → v < length owners →
+      setAt (length owners) (wonAt (length owners) (length targets) s b) work v ≡ r .won b v
+  pub bare :
+      (b : Player) (v : ℕ) → length owners ≤ v →
+      setAt (length owners) (wonAt (length owners) (length targets) s b) work v ≡ false
   pub left : many ≡ count (length owners) (setAt (length owners) (free (length owners) (length targets)) work)
 
-module _ (owners priorities offsets targets : List ℕ) (ok : Accepted (tablesOf owners priorities offsets targets)) (s k current left : ℕ)
-    (w0 : List ℕ)
-    (shows : Shows owners priorities offsets targets s (afterRounds (gameOf (tablesOf owners priorities offsets targets)) k) current left w0)
+module _ {owners priorities offsets targets : List ℕ} (ok : Accepted (tablesOf owners priorities offsets targets)) {s : ℕ}
+    (k : ℕ) {current left : ℕ} {w0 : List ℕ}
+    (shows :
+    Shows owners priorities offsets targets s (afterRounds (gameOf (tablesOf owners priorities offsets targets)) k) current left
+    w0)
   where
+    -- how many vertices
     abbrev n : ℕ
     n = length owners
 
+    -- how many edges
     abbrev m : ℕ
     m = length targets
 
@@ -65,15 +73,19 @@ module _ (owners priorities offsets targets : List ℕ) (ok : Accepted (tablesOf
     abbrev g : Game
     g = gameOf t
 
+    -- the rules' state before the round
     abbrev r : Regions
     r = afterRounds g k
 
+    -- its current priority
     abbrev p : ℕ
     p = r .current
 
+    -- where the work area has R
     abbrev H : ℕ
     H = heldAt n m s
 
+    -- where it has the regions
     abbrev Rg : ℕ
     Rg = regionsAt n m s
 
@@ -105,6 +117,7 @@ module _ (owners priorities offsets targets : List ℕ) (ok : Accepted (tablesOf
       c1 : Queried owners priorities offsets targets s p w0 w1
       c1 = subst (λ (x : ℕ). Queried owners priorities offsets targets s x w0 w1) (shows .current) made1
 
+      -- the regions after the query
       abbrev T : ℕ → ℕ
       T = tableAt n m s w1
 
@@ -148,8 +161,7 @@ module _ (owners priorities offsets targets : List ℕ) (ok : Accepted (tablesOf
       unfolding gameOf
       target-small v w e = total .ends v w e
 
-      pub escapes :
-          Escapes owners offsets targets s (heldAt (length owners) (length targets) s) (regionsAt (length owners) (length targets) s) w1
+      pub escapes : Escapes owners offsets targets s H Rg w1
       escapes =
           record {
             size = c1 .ready .size;
@@ -172,14 +184,17 @@ module _ (owners priorities offsets targets : List ℕ) (ok : Accepted (tablesOf
           ap₂ (λ (x y : Bool). x && y) (held-is v l)
           (rw (
             owner-test t ok p v l,
-            someOf-cong (g .targets v) (λ w. eqb (regionAt Rg w1 w) p) (λ w. eqb (T w) p) (λ w e. ap (λ (x : ℕ). eqb x p) (at-target v w e)),
-            someOf-cong (g .targets v) (λ w. ltb (regionAt Rg w1 w) p) (λ w. ltb (T w) p) (λ w e. ap (λ (x : ℕ). ltb x p) (at-target v w e)),
+            someOf-cong (g .targets v) (λ w. eqb (regionAt Rg w1 w) p) (λ w. eqb (T w) p)
+                (λ w e. ap (λ (x : ℕ). eqb x p) (at-target v w e)),
+            someOf-cong (g .targets v) (λ w. ltb (regionAt Rg w1 w) p) (λ w. ltb (T w) p)
+                (λ w e. ap (λ (x : ℕ). ltb x p) (at-target v w e)),
           )))
 
-      pub open-told :
-          {b : Bool} →
-          b ≡ isOpenAt owners offsets targets (current % 2) current (heldAt (length owners) (length targets) s) (regionsAt (length owners) (length targets) s) w1 →
-          b ≡ some (gameOf (tablesOf owners priorities offsets targets) .size) (openAt (gameOf (tablesOf owners priorities offsets targets)) T p)
+      -- whether R is open, as the code tells it
+      abbrev openSaid : Bool
+      openSaid = isOpenAt owners offsets targets (current % 2) current H Rg w1
+
+      open-told : {b : Bool} → b ≡ openSaid → b ≡ some (g .size) (openAt g T p)
       open-told {b} e =
           subst (λ (x : ℕ). b ≡ isOpenAt owners offsets targets (x % 2) x H Rg w1) (shows .current) e ∙ open-same
 
@@ -218,15 +233,13 @@ module _ (owners priorities offsets targets : List ℕ) (ok : Accepted (tablesOf
 
       -- **an open round**
       pub round-opens :
-          some (gameOf (tablesOf owners priorities offsets targets) .size) (openAt (gameOf (tablesOf owners priorities offsets targets)) T p) ≡ true →
-          {lower : ℕ} →
-          lower ≡ highestUnder (length owners) (regionsAt (length owners) (length targets) s) current w1 →
-          Shows owners priorities offsets targets s
-          (roundOf (gameOf (tablesOf owners priorities offsets targets)) (afterRounds (gameOf (tablesOf owners priorities offsets targets)) k)) lower left w1 ×
-          RoundEntries (gameOf (tablesOf owners priorities offsets targets)) (afterRounds (gameOf (tablesOf owners priorities offsets targets)) k)
-          (entryOf (length owners) (length targets) w0) (entryOf (length owners) (length targets) w1)
+          {said : Bool} → said ≡ openSaid → said ≡ true →
+          {lower : ℕ} → lower ≡ highestUnder n Rg current w1 →
+          Shows owners priorities offsets targets s (roundOf g r) lower left w1 ×
+          RoundEntries g r (entryOf n m w0) (entryOf n m w1)
       unfolding gameOf
-      round-opens opens {lower} is =
+      round-opens told taken {lower} is =
+          let opens : some (g .size) (openAt g T p) ≡ true = sym (open-told told) ∙ taken in
           let (region, now, won) = table-opens g total r small T agrees1 standing opens in (
             record {
               ready = c1 .ready;
@@ -263,9 +276,9 @@ module _ (owners priorities offsets targets : List ℕ) (ok : Accepted (tablesOf
               (λ has.
               let up = ltb-true p x (and-left (ltb p x) _ has) in
               let (v, small-v, leads) = some-elim n (leadsUp g T p x) (and-right (ltb p x) _ has) in
-              let both = and-left (eqb (T v) p && not (same (g .owner v) (parity p))) _ leads in
-              let (w, e, d) =
-              someOf-elim (g .targets v) (λ u. eqb (T u) x) (and-right (eqb (T v) p && not (same (g .owner v) (parity p))) _ leads) in
+              let others : Bool = eqb (T v) p && not (same (g .owner v) (parity p)) in
+              let both = and-left others _ leads in
+              let (w, e, d) = someOf-elim (g .targets v) (λ u. eqb (T u) x) (and-right others _ leads) in
               let here = held-is v small-v ∙ and-left (eqb (T v) p) _ both in
               let other =
               same-false (g .owner v) (parity p) (not-true (same (g .owner v) (parity p)) (and-right (eqb (T v) p) _ both)) in
@@ -293,11 +306,9 @@ module _ (owners priorities offsets targets : List ℕ) (ok : Accepted (tablesOf
               (low .reached)
 
       -- the code's bounds of a region to promote to
-      above-told :
-          {q : ℕ} →
-          LowestAbove owners offsets targets (current % 2) current H Rg w1 q →
-          q ≡ nextAbove g T p
-      above-told {q} low = next-above (subst (λ (x : ℕ). LowestAbove owners offsets targets (x % 2) x H Rg w1 q) (shows .current) low)
+      above-told : {q : ℕ} → LowestAbove owners offsets targets (current % 2) current H Rg w1 q → q ≡ nextAbove g T p
+      above-told {q} low =
+          next-above (subst (λ (x : ℕ). LowestAbove owners offsets targets (x % 2) x H Rg w1 q) (shows .current) low)
 
       -- R is unsolved
       part1 : (v : ℕ) → setAt n H w1 v ≡ true → setAt n (free n m) w1 v ≡ true
@@ -305,116 +316,122 @@ module _ (owners priorities offsets targets : List ℕ) (ok : Accepted (tablesOf
       part1 v i = c1 .ready .unsolved v ∙ at-in (unsolved g T) T p v (sym (held-region v) ∙ i)
 
       -- words of the sets won
-      won-words : (b : Player) (w2 : List ℕ) → ((i : ℕ) → free n m ≤ i → Elsewhere n Rg i → getD w2 i 0 ≡ getD w1 i 0) → (v : ℕ) → setAt n (wonAt n m s b) w2 v ≡ setAt n (wonAt n m s b) w1 v
-      won-words Even w2 same = set-kept n (wonAt n m s Even) w1 w2 (λ i low high. same i (omega arith) (inl (omega (arith, c1 .ready .size))))
-      won-words Odd w2 same = set-kept n (wonAt n m s Odd) w1 w2 (λ i low high. same i (omega arith) (inl (omega (arith, c1 .ready .size))))
+      won-words :
+          (b : Player) (w2 : List ℕ) →
+          ((i : ℕ) → free n m ≤ i → Elsewhere n Rg i → getD w2 i 0 ≡ getD w1 i 0) →
+          (v : ℕ) → setAt n (wonAt n m s b) w2 v ≡ setAt n (wonAt n m s b) w1 v
+      won-words Even w2 same =
+          set-kept n (wonAt n m s Even) w1 w2 (λ i low high. same i (omega arith) (inl (omega (arith, c1 .ready .size))))
+      won-words Odd w2 same =
+          set-kept n (wonAt n m s Odd) w1 w2 (λ i low high. same i (omega arith) (inl (omega (arith, c1 .ready .size))))
 
-      module _ (not-open : some (gameOf (tablesOf owners priorities offsets targets) .size) (openAt (gameOf (tablesOf owners priorities offsets targets)) T p) ≡ false)
-          {q : ℕ}
-          (low :
-          LowestAbove owners offsets targets (current % 2) current (heldAt (length owners) (length targets) s)
-          (regionsAt (length owners) (length targets) s) w1 q)
+      module _ {said : Bool} (told : said ≡ openSaid) (not-said : said ≡ false) {q : ℕ}
+          (low : LowestAbove owners offsets targets (current % 2) current H Rg w1 q)
         where
+          not-open : some (g .size) (openAt g T p) ≡ false
+          not-open = sym (open-told told) ∙ not-said
+
           q-is : q ≡ nextAbove g T p
           q-is = above-told low
 
           closed : isOpen g r (regionSet g r) ≡ false
           closed = open-read g total r small T agrees1 ∙ not-open
 
-          pub round-promote-ready :
-              PromoteAll priorities q s (free (length owners) (length targets)) (heldAt (length owners) (length targets) s)
-              (regionsAt (length owners) (length targets) s) (entries (length owners) (length targets)) w1
+          pub round-promote-ready : PromoteAll priorities q s (free n m) H Rg (entries n m) w1
           round-promote-ready = promote-ready owners priorities offsets targets ok q s w1 (c1 .ready) (low .most)
 
           -- **a promotion**
-          module _ (less : q < 256) {w2 : List ℕ}
-              (made2 :
-              PromotedAll priorities q (free (length owners) (length targets)) (heldAt (length owners) (length targets) s)
-              (regionsAt (length owners) (length targets) s) (entries (length owners) (length targets)) w1 w2)
-            where
-              sets2 : (i : ℕ) → free n m ≤ i → Elsewhere n Rg i → getD w2 i 0 ≡ getD w1 i 0
-              sets2 = promoted-sets owners priorities offsets targets ok q s w1 (c1 .ready) (low .most) made2
+          module _ (less : q < 256) {w2 : List ℕ} (made2 : PromotedAll priorities q (free n m) H Rg (entries n m) w1 w2) where
+            sets2 : (i : ℕ) → free n m ≤ i → Elsewhere n Rg i → getD w2 i 0 ≡ getD w1 i 0
+            sets2 = promoted-sets owners priorities offsets targets ok q s w1 (c1 .ready) (low .most) made2
 
-              pub promoted-same :
-                  (length w2 ≡ length w1) ×
-                  ((i : ℕ) → regionsAt (length owners) (length targets) s + length owners + 257 ≤ i → getD w2 i 0 ≡ getD w1 i 0)
-              promoted-same = (promoted-long owners priorities offsets targets ok q s w1 (c1 .ready) (low .most) made2, λ i l. sets2 i (omega arith) (inr l))
+            pub promoted-same : (length w2 ≡ length w1) × ((i : ℕ) → Rg + n + 257 ≤ i → getD w2 i 0 ≡ getD w1 i 0)
+            promoted-same = (
+              promoted-long owners priorities offsets targets ok q s w1 (c1 .ready) (low .most) made2,
+              λ i l. sets2 i (omega arith) (inr l),
+            )
 
-              region2 : (v : ℕ) → v < n → regionAt Rg w2 v ≡ cond (eqb (T v) p) q (cond (ltb (T v) q) (getD priorities v 0) (T v))
-              region2 v l =
-                  promoted-region owners priorities offsets targets ok q s w1 (c1 .ready) (low .most) made2 part1 v l ∙
-                  ap (λ (b : Bool). cond b q (cond (ltb (T v) q) (getD priorities v 0) (T v))) (held-is v l)
+            -- a vertex's region after a promotion to x
+            abbrev promotedTo : ℕ → ℕ → ℕ
+            promotedTo x v = cond (eqb (T v) p) x (cond (ltb (T v) x) (getD priorities v 0) (T v))
 
-              entry2 :
-                  (v : ℕ) → v < n →
-                  entryOf n m w2 v ≡ cond (eqb (T v) p) (entryOf n m w1 v) (cond (ltb (T v) q) noEntry (entryOf n m w1 v))
-              entry2 v l =
-                  promoted-entry owners priorities offsets targets ok q s w1 (c1 .ready) (low .most) made2 part1 v l ∙
-                  ap (λ (b : Bool). cond b (entryOf n m w1 v) (cond (ltb (T v) q) noEntry (entryOf n m w1 v))) (held-is v l)
+            region2 : (v : ℕ) → v < n → regionAt Rg w2 v ≡ promotedTo q v
+            region2 v l =
+                promoted-region owners priorities offsets targets ok q s w1 (c1 .ready) (low .most) made2 part1 v l ∙
+                ap (λ (b : Bool). cond b q (cond (ltb (T v) q) (getD priorities v 0) (T v))) (held-is v l)
 
-              set2 : (v : ℕ) → setAt n (free n m) w2 v ≡ setAt n (free n m) w1 v
-              set2 = set-kept n (free n m) w1 w2 (λ i low' high. sets2 i low' (inl (omega (arith, c1 .ready .size))))
+            -- its entry then
+            abbrev entryTo : ℕ → ℕ → ℕ
+            entryTo x v = cond (eqb (T v) p) (entryOf n m w1 v) (cond (ltb (T v) x) noEntry (entryOf n m w1 v))
 
-              unsolved2 : (v : ℕ) → setAt n (free n m) w2 v ≡ (ltb v n && ltb (tableAt n m s w2 v) 256)
-              unsolved2 v =
-                  set2 v ∙ c1 .ready .unsolved v ∙
-                  ⊎-elim
-                  (λ l. ap (λ (b : Bool). ltb v n && b) (side l (bool-cases (eqb (T v) p)) (lt-or-ge (T v) q)))
-                  (λ l. rw (le-ltb v n l))
-                  (lt-or-ge v n)
-                where
-                  few : v < n → getD priorities v 0 < 256
-                  few l = let most = accepted-sound t ok .priority-small v l in omega arith
+            entry2 : (v : ℕ) → v < n → entryOf n m w2 v ≡ entryTo q v
+            entry2 v l =
+                promoted-entry owners priorities offsets targets ok q s w1 (c1 .ready) (low .most) made2 part1 v l ∙
+                ap (λ (b : Bool). cond b (entryOf n m w1 v) (cond (ltb (T v) q) noEntry (entryOf n m w1 v))) (held-is v l)
 
-                  now : v < n → tableAt n m s w2 v ≡ cond (eqb (T v) p) q (cond (ltb (T v) q) (getD priorities v 0) (T v))
-                  now l = table-below n m s w2 v l ∙ region2 v l
+            set2 : (v : ℕ) → setAt n (free n m) w2 v ≡ setAt n (free n m) w1 v
+            set2 = set-kept n (free n m) w1 w2 (λ i low' high. sets2 i low' (inl (omega (arith, c1 .ready .size))))
 
-                  side :
-                      v < n → (eqb (T v) p ≡ true) ⊎ (eqb (T v) p ≡ false) → (T v < q) ⊎ (q ≤ T v) →
-                      ltb (T v) 256 ≡ ltb (tableAt n m s w2 v) 256
-                  side l (inl e) x =
-                      let is = eqb-true (T v) p e in
-                      lt-ltb (T v) 256 (rw is small) ∙ sym (lt-ltb (tableAt n m s w2 v) 256 (rw (now l, e) less))
-                  side l (inr e) (inl x) =
-                      lt-ltb (T v) 256 (omega arith) ∙ sym (lt-ltb (tableAt n m s w2 v) 256 (rw (now l, e, lt-ltb (T v) q x) (few l)))
-                  side l (inr e) (inr x) =
-                      let same-table : tableAt n m s w2 v ≡ T v = now l ∙ rw (e, le-ltb (T v) q x) in ap (λ (y : ℕ). ltb y 256) (sym same-table)
+            unsolved2 : (v : ℕ) → setAt n (free n m) w2 v ≡ (ltb v n && ltb (tableAt n m s w2 v) 256)
+            unsolved2 v =
+                set2 v ∙ c1 .ready .unsolved v ∙
+                ⊎-elim
+                (λ l. ap (λ (b : Bool). ltb v n && b) (side l (bool-cases (eqb (T v) p)) (lt-or-ge (T v) q)))
+                (λ l. rw (le-ltb v n l))
+                (lt-or-ge v n)
+              where
+                few : v < n → getD priorities v 0 < 256
+                few l = let most = accepted-sound t ok .priority-small v l in omega arith
 
-              pub round-promotes :
-                  Shows owners priorities offsets targets s
-                  (roundOf (gameOf (tablesOf owners priorities offsets targets)) (afterRounds (gameOf (tablesOf owners priorities offsets targets)) k)) q left w2 ×
-                  RoundEntries (gameOf (tablesOf owners priorities offsets targets)) (afterRounds (gameOf (tablesOf owners priorities offsets targets)) k)
-                  (entryOf (length owners) (length targets) w0) (entryOf (length owners) (length targets) w2)
-              unfolding gameOf
-              round-promotes =
-                  let (region, now, won) = table-promotes g total r small T agrees1 not-open (rw (← q-is) less) in (
-                    record {
-                      ready =
-                          record {
-                            size = c1 .ready .size;
-                            edges = c1 .ready .edges;
-                            tallied = promoted-tallied owners priorities offsets targets ok q s w1 (c1 .ready) (low .most) made2;
-                            listed = promoted-listed owners priorities offsets targets ok q s w1 (c1 .ready) (low .most) made2;
-                            unsolved = unsolved2;
-                          };
-                      current = q-is ∙ sym now;
-                      region =
-                          λ v l.
-                          region2 v l ∙
-                          ap (λ (x : ℕ). cond (eqb (T v) p) x (cond (ltb (T v) x) (getD priorities v 0) (T v))) q-is ∙
-                          sym (region v l);
-                      won = λ b v l. won-words b w2 sets2 v ∙ won1 b v ∙ shows .won b v l ∙ ap (λ (f : Player → Set). f b v) (sym won);
-                      bare = λ b v l. won-words b w2 sets2 v ∙ won1 b v ∙ shows .bare b v l;
-                      left = left1 ∙ count-cong n _ _ (λ v l. sym (set2 v));
-                    },
-                    promotes closed
-                        (some-way-read g total r small T agrees1 closed ∙ lt-ltb (nextAbove g T p) 256 (rw (← q-is) less))
-                        entries1
-                        (promoted-entries-read g total r small T agrees1
-                        (λ v l.
-                        entry2 v l ∙
-                        ap (λ (x : ℕ). cond (eqb (T v) p) (entryOf n m w1 v) (cond (ltb (T v) x) noEntry (entryOf n m w1 v))) q-is)),
-                  )
+                now : v < n → tableAt n m s w2 v ≡ promotedTo q v
+                now l = table-below n m s w2 v l ∙ region2 v l
+
+                side :
+                    v < n → (eqb (T v) p ≡ true) ⊎ (eqb (T v) p ≡ false) → (T v < q) ⊎ (q ≤ T v) →
+                    ltb (T v) 256 ≡ ltb (tableAt n m s w2 v) 256
+                side l (inl e) x =
+                    let is = eqb-true (T v) p e in
+                    lt-ltb (T v) 256 (rw is small) ∙ sym (lt-ltb (tableAt n m s w2 v) 256 (rw (now l, e) less))
+                side l (inr e) (inl x) =
+                    lt-ltb (T v) 256 (omega arith) ∙
+                    sym (lt-ltb (tableAt n m s w2 v) 256 (rw (now l, e, lt-ltb (T v) q x) (few l)))
+                side l (inr e) (inr x) =
+                    let same-table : tableAt n m s w2 v ≡ T v = now l ∙ rw (e, le-ltb (T v) q x) in
+                    ap (λ (y : ℕ). ltb y 256) (sym same-table)
+
+            pub round-promotes :
+                Shows owners priorities offsets targets s (roundOf g r) q left w2 ×
+                RoundEntries g r (entryOf n m w0) (entryOf n m w2)
+            unfolding gameOf
+            round-promotes =
+                let (region, now, won) = table-promotes g total r small T agrees1 not-open (rw (← q-is) less) in (
+                  record {
+                    ready =
+                        record {
+                          size = c1 .ready .size;
+                          edges = c1 .ready .edges;
+                          tallied = promoted-tallied owners priorities offsets targets ok q s w1 (c1 .ready) (low .most) made2;
+                          listed = promoted-listed owners priorities offsets targets ok q s w1 (c1 .ready) (low .most) made2;
+                          unsolved = unsolved2;
+                        };
+                    current = q-is ∙ sym now;
+                    region =
+                        λ v l.
+                        region2 v l ∙
+                        ap (λ (x : ℕ). promotedTo x v) q-is ∙
+                        sym (region v l);
+                    won =
+                        λ b v l.
+                        won-words b w2 sets2 v ∙ won1 b v ∙ shows .won b v l ∙ ap (λ (f : Player → Set). f b v) (sym won);
+                    bare = λ b v l. won-words b w2 sets2 v ∙ won1 b v ∙ shows .bare b v l;
+                    left = left1 ∙ count-cong n _ _ (λ v l. sym (set2 v));
+                  },
+                  promotes closed
+                      (some-way-read g total r small T agrees1 closed ∙ lt-ltb (nextAbove g T p) 256 (rw (← q-is) less))
+                      entries1
+                      (promoted-entries-read g total r small T agrees1
+                      (λ v l. entry2 v l ∙ ap (λ (x : ℕ). entryTo x v) q-is)),
+                )
 
           pub round-dominion-ready : DominionReady owners priorities offsets targets s current w1
           round-dominion-ready =
@@ -423,7 +440,8 @@ module _ (owners priorities offsets targets : List ℕ) (ok : Accepted (tablesOf
                 ready = c1 .ready;
                 small = current-small;
                 held =
-                    subst (λ (x : ℕ). (v : ℕ) → setAt n H w1 v ≡ atRegion (unsolved g T) T x v) (sym (shows .current)) held-region;
+                    subst (λ (x : ℕ). (v : ℕ) → setAt n H w1 v ≡ atRegion (unsolved g T) T x v) (sym (shows .current))
+                    held-region;
               }
 
           -- **a dominion**
@@ -441,47 +459,43 @@ module _ (owners priorities offsets targets : List ℕ) (ok : Accepted (tablesOf
                 omega arith)
 
             -- the words of the unsolved vertices, as the code has them
-            lent2 :
-                take ((free (length owners) (length targets) + s) - free (length owners) (length targets)) (drop (free (length owners) (length targets)) w2) ≡
-                wordsAt (length owners) (free (length owners) (length targets)) w2
+            abbrev lent : List ℕ
+            lent = take ((free n m + s) - free n m) (drop (free n m) w2)
+
+            lent2 : lent ≡ wordsAt n (free n m) w2
             lent2 = lent-part n s (free n m) w2 (c2 .ready .size)
 
-            pub left-few :
-                length (take ((free (length owners) (length targets) + s) - free (length owners) (length targets)) (drop (free (length owners) (length targets)) w2)) ≤ 64
+            pub left-few : length lent ≤ 64
             left-few =
-                let few = words-few n (accepted-sound (tablesOf owners priorities offsets targets) ok .few-vertices) in
+                let few = words-few n (accepted-sound t ok .few-vertices) in
                 rw lent2 (omega (arith, length-take (words n) (drop (free n m) w2)))
 
             -- how many are left, by their ones
-            pub left-counted :
-                {many : ℕ} →
-                let xs = take ((free (length owners) (length targets) + s) - free (length owners) (length targets)) (drop (free (length owners) (length targets)) w2) in
-                many ≡ count (64 * length xs) (setOf xs) →
-                many ≡ count (length owners) (setAt (length owners) (free (length owners) (length targets)) w2)
+            pub left-counted : {many : ℕ} → many ≡ count (64 * length lent) (setOf lent) → many ≡ count n (setAt n (free n m) w2)
             left-counted is =
                 is ∙
                 ap (λ (xs : List ℕ). count (64 * length xs) (setOf xs)) lent2 ∙
                 sym (length-members (wordsAt n (free n m) w2)) ∙
-                members-count n (free n m) w2 (omega (arith, c2 .ready .tallied .room, c2 .ready .size)) (unsolved-small (c2 .ready))
+                members-count n (free n m) w2 (omega (arith, c2 .ready .tallied .room, c2 .ready .size))
+                (unsolved-small (c2 .ready))
 
             pub round-solves :
                 {highest many : ℕ} →
-                highest ≡ highestUnder (length owners) (regionsAt (length owners) (length targets) s) 256 w2 →
-                many ≡ count (length owners) (setAt (length owners) (free (length owners) (length targets)) w2) →
-                Shows owners priorities offsets targets s
-                (roundOf (gameOf (tablesOf owners priorities offsets targets)) (afterRounds (gameOf (tablesOf owners priorities offsets targets)) k)) highest many
-                w2 ×
-                RoundEntries (gameOf (tablesOf owners priorities offsets targets)) (afterRounds (gameOf (tablesOf owners priorities offsets targets)) k)
-                (entryOf (length owners) (length targets) w0) (entryOf (length owners) (length targets) w2)
+                highest ≡ highestUnder n Rg 256 w2 →
+                many ≡ count n (setAt n (free n m) w2) →
+                Shows owners priorities offsets targets s (roundOf g r) highest many w2 ×
+                RoundEntries g r (entryOf n m w0) (entryOf n m w2)
             unfolding gameOf
             round-solves {highest} {many} top counted =
                 let (region, now, won) = table-solves g total r small T agrees1 (c2 .certificate) not-open (rw (← q-is) more) in
-                let same-region : (v : ℕ) → v < n → regionAt Rg w2 v ≡ roundOf g r .region v = λ v l. c2 .region v l ∙ sym (region v l) in (
+                let same-region : (v : ℕ) → v < n → regionAt Rg w2 v ≡ roundOf g r .region v =
+                λ v l. c2 .region v l ∙ sym (region v l) in (
                   record {
                     ready = c2 .ready;
                     current =
                         top ∙
-                        greatest-cong n (λ v. ltb (regionAt Rg w2 v) 256) (unsolved g (roundOf g r .region)) (regionAt Rg w2) (roundOf g r .region)
+                        greatest-cong n (λ v. ltb (regionAt Rg w2 v) 256) (unsolved g (roundOf g r .region)) (regionAt Rg w2)
+                        (roundOf g r .region)
                         (λ v l. ap (λ (x : ℕ). ltb x 256) (same-region v l) ∙ sym (rw (lt-ltb v n l)))
                         same-region ∙
                         sym now;
@@ -501,7 +515,8 @@ module _ (owners priorities offsets targets : List ℕ) (ok : Accepted (tablesOf
                   solves closed
                       (some-way-read g total r small T agrees1 closed ∙ le-ltb (nextAbove g T p) 256 (rw (← q-is) more))
                       entries1
-                      (solved-entries-read g total r small T agrees1 (c2 .certificate) (c2 .pulled) (λ v l e o. c2 .kept v l e) (c2 .cleared) (c2 .solved)),
+                      (solved-entries-read g total r small T agrees1 (c2 .certificate) (c2 .pulled) (λ v l e o. c2 .kept v l e)
+                      (c2 .cleared) (c2 .solved)),
                 )
               where
                 p-player : Player

@@ -1,5 +1,5 @@
--- From the checked tables to what a run leaves: W words have room, the first state is the rules', and the end of the rounds is what is
--- written out.
+-- From the checked tables to what a run leaves: W words have room, the first state is the rules', and the end of the rounds
+-- is what is written out.
 use mathlib.Core.Bool.{true}
 use mathlib.Core.List.{List}
 use mathlib.Core.Path.{_≡_, refl, sym, ap, subst, _∙_}
@@ -24,7 +24,7 @@ use Rattle.priority_promotion.specs.Solve.{Reached, Ended, none-left, en
 abbrev pub wonIn : Tables → ℕ → Player → Set
 wonIn t budget = afterRounds (gameOf t) (roundsNeeded (gameOf t) budget) .won
 
-module _ (owners priorities offsets targets : List ℕ) (ok : Accepted (tablesOf owners priorities offsets targets)) (s : ℕ)
+module _ (owners priorities offsets targets : List ℕ) (ok : Accepted (tablesOf owners priorities offsets targets)) {s : ℕ}
     (size : s ≡ words (length owners)) (w0 : List ℕ) (room : length w0 ≡ workWords (length owners) (length targets))
   where
     tables-fit : regionsAt (length owners) (length targets) s + length owners + 257 ≤ length w0
@@ -40,22 +40,25 @@ module _ (owners priorities offsets targets : List ℕ) (ok : Accepted (tablesOf
           high = omega (arith, tables-fit);
         }
 
-    module _ {w1 : List ℕ} (prepared : Prepared (length owners) offsets targets (free (length owners) (length targets)) w0 w1) where
-      -- what `begin` asks for
-      pub run-beginnable : Beginnable priorities (length targets) s w1
-      run-beginnable = begin-ready owners priorities offsets targets ok s size w1 (rw (prepared .long) tables-fit)
+    module _ {w1 : List ℕ}
+        (prepared : Prepared (length owners) offsets targets (free (length owners) (length targets)) w0 w1)
+      where
+        -- what `begin` asks for
+        pub run-beginnable : Beginnable priorities (length targets) s w1
+        run-beginnable = begin-ready owners priorities offsets targets ok s size w1 (rw (prepared .long) tables-fit)
 
-      -- what `solve` asks for
-      pub run-reached :
-          {w2 : List ℕ} {current many made : ℕ} →
-          Begun priorities (length targets) s w1 w2 current →
-          many ≡ length priorities →
-          made ≡ 0 →
-          Reached owners priorities offsets targets s current many made w2
-      run-reached begun all none =
-          rw (all, none) (begun-reached owners priorities offsets targets ok s size w1 begun (prepared .listed) (prepared .full))
+        -- what `solve` asks for
+        pub run-reached :
+            {w2 : List ℕ} {current many made : ℕ} →
+            Begun priorities (length targets) s w1 w2 current →
+            many ≡ length priorities →
+            made ≡ 0 →
+            Reached owners priorities offsets targets s current many made w2
+        run-reached begun all none =
+            rw (all, none)
+            (begun-reached owners priorities offsets targets ok s size w1 begun (prepared .listed) (prepared .full))
 
-module _ (owners priorities offsets targets : List ℕ) {s budget at many made : ℕ} {w2 w3 : List ℕ}
+module _ {owners priorities offsets targets : List ℕ} {s budget at many made : ℕ} {w2 w3 : List ℕ}
     (ended : Ended owners priorities offsets targets s budget at many made w2 w3)
   where
     abbrev t : Tables
@@ -73,7 +76,9 @@ module _ (owners priorities offsets targets : List ℕ) {s budget at many made :
       solved : allSolved (gameOf t) (afterRounds (gameOf t) made) ≡ true
       solved = none-left owners priorities offsets targets s (ended .reached .shows) all
 
-      won-place : (c : Player) → wonFrom s (evenAt (length owners) (length targets) s) c ≡ wonAt (length owners) (length targets) s c
+      won-place :
+          (c : Player) →
+          wonFrom s (evenAt (length owners) (length targets) s) c ≡ wonAt (length owners) (length targets) s c
       won-place Even = refl
       won-place Odd = omega arith
 

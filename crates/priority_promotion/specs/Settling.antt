@@ -59,7 +59,7 @@ SettledAll owners offsets targets alpha p held regions entries before after =
     Walked (length owners) held (Aside (length owners) regions entries) (Tallied (length owners) regions) (cellAt regions entries)
     (Settles owners offsets targets alpha p (setAt (length owners) held before)) before after
 
-module _ (owners offsets targets : List ℕ) (alpha p s held regions entries v : ℕ) (work : List ℕ)
+module _ {owners offsets targets : List ℕ} {p s held regions entries v : ℕ} {work : List ℕ}
     (given : Settleable owners offsets targets p s held regions entries v work)
   where
     abbrev n : ℕ
@@ -75,6 +75,7 @@ module _ (owners offsets targets : List ℕ) (alpha p s held regions entries v :
 
       -- the vertex is another's, or has an entry
       pub settled-kept :
+          {alpha : ℕ} →
           (getD owners v 0 ≡ alpha → getD mid (entries + v) 0 ≡ noEntry → ⊥) →
           Settled owners offsets targets alpha p held regions entries v work mid
       settled-kept no-need =
@@ -96,16 +97,17 @@ module _ (owners offsets targets : List ℕ) (alpha p s held regions entries v :
       pub search-ready : EdgesOf offsets targets v (take ((held + s) - held) (drop held mid))
       search-ready =
           edges-of (given .edges) (given .small)
-          (ap length held-words ∙ part-length held (words n) work (omega (arith, given .between .high, given .room .tallied .room)))
+          (ap length held-words ∙
+          part-length held (words n) work (omega (arith, given .between .high, given .room .tallied .room)))
 
       -- the vertex is own and has no entry
       pub settled-found :
-          {w : ℕ} →
+          {alpha w : ℕ} →
           getD owners v 0 ≡ alpha →
           getD mid (entries + v) 0 ≡ noEntry →
           FoundIn offsets targets v (take ((held + s) - held) (drop held mid)) w →
           Settled owners offsets targets alpha p held regions entries v work (set mid (entries + v) w)
-      settled-found {w} own none search-result =
+      settled-found {alpha} {w} own none search-result =
           let f = subst (λ (xs : List ℕ). FoundIn offsets targets v xs w) held-words search-result in
           changes-turn (changes-both n regions entries v work (given .room) (given .small) w m)
           (record {
@@ -117,34 +119,36 @@ module _ (owners offsets targets : List ℕ) (alpha p s held regions entries v :
 
 -- ---- the walk
 
-module _ (owners offsets targets : List ℕ) (alpha p s held regions entries : ℕ) (work : List ℕ)
+module _ {owners offsets targets : List ℕ} {p s held regions entries : ℕ} {work : List ℕ}
     (given : SettleAll owners offsets targets p s held regions entries work)
   where
     pub settle-walkable : Walkable (length owners) s held (Aside (length owners) regions entries) work
     settle-walkable = between-walkable (given .size) (given .room) (given .between) (given .below)
 
-    module _ (now : List ℕ) (keeps : Keeps (Aside (length owners) regions entries) (Tallied (length owners) regions) work now) where
-      pub settle-ready : (v : ℕ) → v < length owners → Settleable owners offsets targets p s held regions entries v now
-      settle-ready v small =
-          record {
-            size = given .size;
-            edges = given .edges;
-            room = keeps-room (given .room) keeps;
-            between = given .between;
-            small = small;
-            most = given .most;
-          }
+    module _ {now : List ℕ}
+        (keeps : Keeps (Aside (length owners) regions entries) (Tallied (length owners) regions) work now)
+      where
+        pub settle-ready : (v : ℕ) → v < length owners → Settleable owners offsets targets p s held regions entries v now
+        settle-ready v small =
+            record {
+              size = given .size;
+              edges = given .edges;
+              room = keeps-room (given .room) keeps;
+              between = given .between;
+              small = small;
+              most = given .most;
+            }
 
-      -- what `settle` does is what the walk asks
-      pub settle-turn :
-          (v : ℕ) (after : List ℕ) →
-          Settled owners offsets targets alpha p held regions entries v now after →
-          Turn (length owners) (Aside (length owners) regions entries) (Tallied (length owners) regions) (cellAt regions entries)
-          (Settles owners offsets targets alpha p (setAt (length owners) held work)) v now after
-      settle-turn v after t =
-          subst
-          (λ (xs : List ℕ).
-          Turn (length owners) (Aside (length owners) regions entries) (Tallied (length owners) regions) (cellAt regions entries)
-          (Settles owners offsets targets alpha p (setOf xs)) v now after)
-          (between-words (given .between) keeps)
-          t
+        -- what `settle` does is what the walk asks
+        pub settle-turn :
+            {alpha v : ℕ} {after : List ℕ} →
+            Settled owners offsets targets alpha p held regions entries v now after →
+            Turn (length owners) (Aside (length owners) regions entries) (Tallied (length owners) regions) (cellAt regions entries)
+            (Settles owners offsets targets alpha p (setAt (length owners) held work)) v now after
+        settle-turn {alpha} {v} {after} t =
+            subst
+            (λ (xs : List ℕ).
+            Turn (length owners) (Aside (length owners) regions entries) (Tallied (length owners) regions) (cellAt regions entries)
+            (Settles owners offsets targets alpha p (setOf xs)) v now after)
+            (between-words (given .between) keeps)
+            t

@@ -22,7 +22,8 @@ tables g = tablesOf (g .args .owners .now) (g .args .priorities .now) (g .args .
 -- there are few vertices, edges and words
 few :
     (g : tie.Start) →
-    (length (g .args .owners .now) ≤ 4096) × (length (g .args .targets .now) ≤ 16384) × (words (length (g .args .owners .now)) ≤ 64)
+    (length (g .args .owners .now) ≤ 4096) × (length (g .args .targets .now) ≤ 16384) ×
+    (words (length (g .args .owners .now)) ≤ 64)
 few g =
     let f = accepted-sound (tables g) (g .pre .accepted) in
     (f .few-vertices, f .few-edges, words-few (length (g .args .owners .now)) (f .few-vertices))
@@ -43,6 +44,13 @@ sized d = prepared d .before .before
 abbrev start : tie.After-struct-known → tie.Start
 start d = sized d .before .before .before .before .before .before .before .before .before
 
+-- the same in a run that solved all: where the outputs are written, and where the rounds have ended
+abbrev written : tie.After-slice-known12 → tie.After-write-out
+written c = c .before .before .before .before .before .before .before .before .before .before
+
+abbrev solved : tie.After-write-out → tie.After-struct-known
+solved w = w .before .before .before .before .before .before
+
 -- the work area then
 abbrev left : tie.After-struct-known → List ℕ
 left d = ended d .solve .last .1 .1 .1 .1 .1 .1 .0
@@ -58,9 +66,7 @@ found :
     let s = sized d .set-words .result in
     Found (tables g) (wonIn (tables g) (g .args .budget)) s
     (evenAt (length (g .args .owners .now)) (length (g .args .targets .now)) s) (left d)
-found d z =
-    let a = start d .args in
-    run-found (a .owners .now) (a .priorities .now) (a .offsets .now) (a .targets .now) (ended d .solve .ensures) z
+found d z = run-found (ended d .solve .ensures) z
 
 set-words-requires : tie.Need-set-words-requires
 set-words-requires c κs = search needs
@@ -83,18 +89,18 @@ add-unsolved c = omega (arith, few (c .before .before .before .before .before .b
 prepare-requires : tie.Need-prepare-requires
 prepare-requires c κs =
     let g = c .before .before .before .before .before .before .before .before .before .before in
-    let a = g .args in
     let s = c .before .set-words in
-    run-preparable (a .owners .now) (a .priorities .now) (a .offsets .now) (a .targets .now) (g .pre .accepted) (s .result) (s .ensures)
+    let a = g .args in
+    run-preparable (a .owners .now) (a .priorities .now) (a .offsets .now) (a .targets .now) (g .pre .accepted) (s .ensures)
     (a .work .now) (g .pre .room)
 
 begin-requires : tie.Need-begin-requires
 begin-requires c κs =
     let d = c .before .before .before in
     let g = d .before .before .before .before .before .before .before .before .before .before .before in
-    let a = g .args in
     let s = d .before .before .set-words in
-    run-beginnable (a .owners .now) (a .priorities .now) (a .offsets .now) (a .targets .now) (g .pre .accepted) (s .result) (s .ensures)
+    let a = g .args in
+    run-beginnable (a .owners .now) (a .priorities .now) (a .offsets .now) (a .targets .now) (g .pre .accepted) (s .ensures)
     (a .work .now) (g .pre .room) (d .prepare .ensures)
 
 solve-requires : tie.Need-solve-requires
@@ -102,10 +108,10 @@ solve-requires c κs =
     let b = c .before .before .before in
     let d = b .before .before .before .before in
     let g = d .before .before .before .before .before .before .before .before .before .before .before in
-    let a = g .args in
     let s = d .before .before .set-words in
+    let a = g .args in
     let (first, all, none) = b .begin .ensures in (
-      run-reached (a .owners .now) (a .priorities .now) (a .offsets .now) (a .targets .now) (g .pre .accepted) (s .result) (s .ensures)
+      run-reached (a .owners .now) (a .priorities .now) (a .offsets .now) (a .targets .now) (g .pre .accepted) (s .ensures)
           (a .work .now) (g .pre .room) (d .prepare .ensures) first all none,
       omega (arith, none),
     )
@@ -123,9 +129,7 @@ returns c =
     let a = g .args in (
       cleared-all (a .work .now) (left d) (kept-long d) (c .before .before .clear .ensures),
       record {
-        over =
-            run-over (a .owners .now) (a .priorities .now) (a .offsets .now) (a .targets .now) (ended d .solve .ensures)
-            (c .before .before .before .before .if1 .taken);
+        over = run-over (ended d .solve .ensures) (c .before .before .before .before .if1 .taken);
         same = refl;
       },
     )
@@ -143,7 +147,8 @@ write-out-requires : tie.Need-write-out-requires
 write-out-requires c κs =
     let d = c .before .before .before .before .before in
     let g = start d in
-    found-writable (found d (omega (arith, c .before .before .before .before .if1 .left))) (g .pre .even-size) (g .pre .odd-size) (g .pre .strategy-size)
+    let none : ended d .solve .result .unsolved ≡ 0 = omega (arith, c .before .before .before .before .if1 .left) in
+    found-writable (found d none) (g .pre .even-size) (g .pre .odd-size) (g .pre .strategy-size)
 
 clear-requires-2 : tie.Need-clear-requires-2
 clear-requires-2 c κs = search needs
@@ -158,17 +163,18 @@ same-length-4 : tie.Need-same-length-4
 same-length-4 c = search needs
 
 same-length-5 : tie.Need-same-length-5
-same-length-5 c = let d = c .before .before .before .before .before .before .before .before .before .before .before .before .before .before .before .before in c .before .before .clear2 .ensures .long ∙ kept-long d
+same-length-5 c = c .before .before .clear2 .ensures .long ∙ kept-long (solved (written c))
 
 returns-2 : tie.Need-returns-2
 returns-2 c =
-    let d = c .before .before .before .before .before .before .before .before .before .before .before .before .before .before .before .before in
+    let w = written c in
+    let d = solved w in
     let g = start d in
     let a = g .args in
-    let none : ended d .solve .result .unsolved ≡ 0 = omega (arith, c .before .before .before .before .before .before .before .before .before .before .before .before .before .before .before .if1 .left) in (
+    let none : ended d .solve .result .unsolved ≡ 0 = omega (arith, w .before .before .before .before .before .if1 .left) in (
       cleared-all (a .work .now) (left d) (kept-long d) (c .before .before .clear2 .ensures),
-      found-finished (found d none) (g .pre .strategy-size) (c .before .before .before .before .before .before .before .before .before .before .write-out .ensures)
-          (run-rounds (a .owners .now) (a .priorities .now) (a .offsets .now) (a .targets .now) (ended d .solve .ensures) none)
+      found-finished (found d none) (g .pre .strategy-size) (w .write-out .ensures)
+          (run-rounds (ended d .solve .ensures) none)
           (ended d .solve .ensures .within),
     )
 

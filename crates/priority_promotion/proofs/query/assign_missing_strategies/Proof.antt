@@ -16,11 +16,12 @@ use Rattle.priority_promotion.proofs.query.assign_missing_strategies.Ti
 
 abbrev Inv-loop : tie.InvT-loop
 Inv-loop owners offsets targets alpha p s work₀ held regions entries walk₀ work walk =
-    WalkedTo (length owners) held (Aside (length owners) regions entries) (Tallied (length owners) regions) (cellAt regions entries)
-    (Settles owners offsets targets alpha p (setAt (length owners) held work₀)) work₀ walk work
+    WalkedTo (length owners) held (Aside (length owners) regions entries) (Tallied (length owners) regions)
+    (cellAt regions entries) (Settles owners offsets targets alpha p (setAt (length owners) held work₀)) work₀ walk work
 
 abbrev μ-loop : tie.MeasureT-loop
-μ-loop owners offsets targets alpha p s work₀ held regions entries walk₀ work walk = length (left (wordsAt (length owners) held work₀) walk)
+μ-loop owners offsets targets alpha p s work₀ held regions entries walk₀ work walk =
+    length (left (wordsAt (length owners) held work₀) walk)
 
 -- where the function begins, and the loop's head of a turn
 abbrev start-of : tie.At-loop Inv-loop μ-loop → tie.Start Inv-loop μ-loop
@@ -51,7 +52,7 @@ walkable :
     (g : tie.Start Inv-loop μ-loop) →
     let a = g .args in
     Walkable (length (a .owners .now)) (a .s) (a .held) (Aside (length (a .owners .now)) (a .regions) (a .entries)) (a .work .now)
-walkable g = let a = g .args in settle-walkable (a .owners .now) (a .offsets .now) (a .targets .now) (a .alpha) (a .p) (a .s) (a .held) (a .regions) (a .entries) (a .work .now) (g .pre)
+walkable g = settle-walkable (g .pre)
 
 small : (c : tie.After-next2 Inv-loop μ-loop) → vertex c < (let a = start-of (turn c) .args in length (a .owners .now))
 small c = walked-small (walkable (start-of (turn c))) (turn c .loop .inv) (after c) (moved c)
@@ -75,7 +76,9 @@ new-requires : tie.Need-new-requires Inv-loop μ-loop
 new-requires c κs = search needs
 
 loop-holds : tie.Need-loop-holds Inv-loop μ-loop
-loop-holds c = let g = c .before .before .before .before .before .before .before in walked-none (walkable g) (g .pre .room .tallied) (c .new .result) (c .new .ensures)
+loop-holds c =
+    let g = c .before .before .before .before .before .before .before in
+    walked-none (walkable g) (g .pre .room .tallied) (c .new .result) (c .new .ensures)
 
 add-next : tie.Need-add-next Inv-loop μ-loop
 add-next c = search needs
@@ -114,10 +117,7 @@ returns c =
 settle-requires : tie.Need-settle-requires Inv-loop μ-loop
 settle-requires c κs =
     let d = c .before .before in
-    let g = start-of (turn d) in
-    let a = g .args in
-    settle-ready (a .owners .now) (a .offsets .now) (a .targets .now) (a .alpha) (a .p) (a .s) (a .held) (a .regions) (a .entries) (a .work .now) (g .pre) (turn d .loop .work)
-    (turn d .loop .inv .keeps) (vertex d) (small d)
+    settle-ready (start-of (turn d) .pre) (turn d .loop .inv .keeps) (vertex d) (small d)
 
 loop-less : tie.Need-loop-less Inv-loop μ-loop
 loop-less c =
@@ -128,10 +128,8 @@ loop-again : tie.Need-loop-again Inv-loop μ-loop
 loop-again c =
     let d = c .before .before .before .before .before in
     let g = start-of (turn d) in
-    let a = g .args in
     walked-more (walkable g) (turn d .loop .inv) (after d) (moved d)
-    (settle-turn (a .owners .now) (a .offsets .now) (a .targets .now) (a .alpha) (a .p) (a .s) (a .held) (a .regions) (a .entries) (a .work .now) (g .pre) (turn d .loop .work)
-    (turn d .loop .inv .keeps) (vertex d) _ (c .before .before .settle .ensures))
+    (settle-turn (g .pre) (turn d .loop .inv .keeps) (c .before .before .settle .ensures))
 
 pub assign-missing-strategies-spec : {M : Type 1} → statement M
 assign-missing-strategies-spec =

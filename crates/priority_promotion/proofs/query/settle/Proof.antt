@@ -38,9 +38,7 @@ inside-edge-requires : tie.Need-inside-edge-requires
 inside-edge-requires c κs =
     let d = c .before .before .before .before .before .before .before .before in
     let g = d .before .before .before .before .before .before in
-    let a = g .args in
-    search-ready (a .owners .now) (a .offsets .now) (a .targets .now) (a .alpha) (a .p) (a .s) (a .held) (a .regions) (a .entries) (a .v) (a .work .now)
-    (g .pre) (d .set-region .ensures)
+    search-ready (g .pre) (d .set-region .ensures)
 
 add-work : tie.Need-add-work
 add-work c = search needs
@@ -58,10 +56,8 @@ returns : tie.Need-returns
 returns c =
     let d = c .before .before .before .before .before .before .before .before .before in
     let g = d .before .before .before .before .before .before in
-    let a = g .args in
-    settled-found (a .owners .now) (a .offsets .now) (a .targets .now) (a .alpha) (a .p) (a .s) (a .held) (a .regions) (a .entries) (a .v) (a .work .now)
-    (g .pre) (d .set-region .ensures) (c .before .before .before .before .before .if1 .taken) (c .before .before .before .if2 .taken)
-    (c .inside-edge .ensures)
+    settled-found (g .pre) (d .set-region .ensures) (c .before .before .before .before .before .if1 .taken)
+    (c .before .before .before .if2 .taken) (c .inside-edge .ensures)
 
 same-length-2 : tie.Need-same-length-2
 same-length-2 c = search needs
@@ -70,9 +66,7 @@ returns-2 : tie.Need-returns-2
 returns-2 c =
     let d = c .before .before .before .before .before .before in
     let g = d .before .before .before .before .before .before in
-    let a = g .args in
-    settled-kept (a .owners .now) (a .offsets .now) (a .targets .now) (a .alpha) (a .p) (a .s) (a .held) (a .regions) (a .entries) (a .v) (a .work .now)
-    (g .pre) (d .set-region .ensures) (λ own none. c .if2 .left none)
+    settled-kept (g .pre) (d .set-region .ensures) (λ own none. c .if2 .left none)
 
 same-length-3 : tie.Need-same-length-3
 same-length-3 c = search needs
@@ -81,9 +75,7 @@ returns-3 : tie.Need-returns-3
 returns-3 c =
     let d = c .before .before .before .before in
     let g = d .before .before .before .before .before .before in
-    let a = g .args in
-    settled-kept (a .owners .now) (a .offsets .now) (a .targets .now) (a .alpha) (a .p) (a .s) (a .held) (a .regions) (a .entries) (a .v) (a .work .now)
-    (g .pre) (d .set-region .ensures) (λ own none. c .if1 .left own)
+    settled-kept (g .pre) (d .set-region .ensures) (λ own none. c .if1 .left own)
 
 pub settle-spec : {M : Type 1} → statement M
 settle-spec =

@@ -3,7 +3,7 @@ use mathlib.Core.Logic.{inr}
 use mathlib.Core.Path.{refl, sym, _∙_}
 use native.Mathlib.Omega.{arith}
 use Rattle.priority_promotion.specs.Query.{Queried}
-use Rattle.priority_promotion.specs.Round.{current-small, round-query, escapes, open-told, round-opens, round-promote-ready, promoted-same}
+use Rattle.priority_promotion.specs.Round.{current-small, round-query, escapes, round-opens, round-promote-ready, promoted-same}
 use Rattle.priority_promotion.specs.Round.{round-promotes, round-dominion-ready, left-few, left-counted, round-solves}
 use borrow.Author.Needs.{needs}
 use Rattle.priority_promotion.proofs.round.round.Statement.{statement}
@@ -17,10 +17,12 @@ first c = c .before .before .before .before .before .before .before .before
 abbrev asked : tie.After-is-open → tie.After-query
 asked c = c .before .before .before .before
 
+-- what the query did
 queried :
     (c : tie.After-query) →
     let a = first c .args in
-    Queried (a .owners .now) (a .priorities .now) (a .offsets .now) (a .targets .now) (a .s) (a .state .current .0) (a .work .now) (c .query .last .1 .1 .1 .1 .1 .0)
+    Queried (a .owners .now) (a .priorities .now) (a .offsets .now) (a .targets .now) (a .s) (a .state .current .0) (a .work .now)
+    (c .query .last .1 .1 .1 .1 .1 .0)
 queried c = let g = first c in c .query .ensures (g .args .priorities .now) (g .pre .accepted)
 
 add-entries : tie.Need-add-entries
@@ -59,24 +61,19 @@ add-rounds c = search needs
 query-requires : tie.Need-query-requires
 query-requires c κs =
     let g = c .before .before .before .before .before .before .before in
-    let a = g .args in
-    round-query (a .owners .now) (a .priorities .now) (a .offsets .now) (a .targets .now) (g .pre .accepted) (a .s) (g .pre .made)
-    (a .state .current .0) (a .state .unsolved) (a .work .now) (g .pre .shows)
+    round-query (g .pre .accepted) (g .pre .made) (g .pre .shows)
 
 is-open-requires : tie.Need-is-open-requires
 is-open-requires c κs =
     let q = c .before .before .before in
     let g = first q in
-    let a = g .args in
-    escapes (a .owners .now) (a .priorities .now) (a .offsets .now) (a .targets .now) (g .pre .accepted) (a .s) (g .pre .made) (a .state .current .0) (a .state .unsolved) (a .work .now) (g .pre .shows) (queried q)
+    escapes (g .pre .accepted) (g .pre .made) (g .pre .shows) (queried q)
 
 next-priority-requires : tie.Need-next-priority-requires
 next-priority-requires c κs =
     let q = asked (c .before .before) in
     let g = first q in
-    let a = g .args in
-    let small = current-small (a .owners .now) (a .priorities .now) (a .offsets .now) (a .targets .now) (g .pre .accepted) (a .s) (g .pre .made)
-    (a .state .current .0) (a .state .unsolved) (a .work .now) (g .pre .shows) in
+    let small = current-small (g .pre .accepted) (g .pre .made) (g .pre .shows) in
     (queried q .ready .tallied, omega arith)
 
 same-length : tie.Need-same-length
@@ -87,14 +84,13 @@ returns c =
     let d = c .before .before .before in
     let q = asked d in
     let g = first q in
-    let a = g .args in
     record {
       long = queried q .long;
       counted = refl;
       shown =
           λ k sh.
-          round-opens (a .owners .now) (a .priorities .now) (a .offsets .now) (a .targets .now) (g .pre .accepted) (a .s) k (a .state .current .0) (a .state .unsolved) (a .work .now) sh (queried q)
-          (sym (open-told (a .owners .now) (a .priorities .now) (a .offsets .now) (a .targets .now) (g .pre .accepted) (a .s) k (a .state .current .0) (a .state .unsolved) (a .work .now) sh (queried q) (d .is-open .ensures)) ∙ c .before .before .if1 .taken) (c .next-priority .ensures);
+          round-opens (g .pre .accepted) k sh (queried q) (d .is-open .ensures) (c .before .before .if1 .taken)
+          (c .next-priority .ensures);
       rest = λ i l. queried q .rest i (omega arith) (inr l);
     }
 
@@ -102,8 +98,7 @@ best-escape-requires : tie.Need-best-escape-requires
 best-escape-requires c κs =
     let q = asked (c .before .before) in
     let g = first q in
-    let a = g .args in
-    escapes (a .owners .now) (a .priorities .now) (a .offsets .now) (a .targets .now) (g .pre .accepted) (a .s) (g .pre .made) (a .state .current .0) (a .state .unsolved) (a .work .now) (g .pre .shows) (queried q)
+    escapes (g .pre .accepted) (g .pre .made) (g .pre .shows) (queried q)
 
 apply-priority-promotion-requires : tie.Need-apply-priority-promotion-requires
 apply-priority-promotion-requires c κs =
@@ -111,9 +106,8 @@ apply-priority-promotion-requires c κs =
     let d = b .before .before .before in
     let q = asked d in
     let g = first q in
-    let a = g .args in
-    round-promote-ready (a .owners .now) (a .priorities .now) (a .offsets .now) (a .targets .now) (g .pre .accepted) (a .s) (g .pre .made) (a .state .current .0) (a .state .unsolved) (a .work .now) (g .pre .shows) (queried q)
-    (sym (open-told (a .owners .now) (a .priorities .now) (a .offsets .now) (a .targets .now) (g .pre .accepted) (a .s) (g .pre .made) (a .state .current .0) (a .state .unsolved) (a .work .now) (g .pre .shows) (queried q) (d .is-open .ensures)) ∙ b .before .before .if1 .left) (b .best-escape .ensures)
+    round-promote-ready (g .pre .accepted) (g .pre .made) (g .pre .shows) (queried q)
+    (d .is-open .ensures) (b .before .before .if1 .left) (b .best-escape .ensures)
 
 same-length-2 : tie.Need-same-length-2
 same-length-2 c = search needs
@@ -125,18 +119,17 @@ returns-2 c =
     let d = b .before .before .before in
     let q = asked d in
     let g = first q in
-    let a = g .args in
     let same =
-    promoted-same (a .owners .now) (a .priorities .now) (a .offsets .now) (a .targets .now) (g .pre .accepted) (a .s) (g .pre .made) (a .state .current .0) (a .state .unsolved) (a .work .now) (g .pre .shows) (queried q)
-    (sym (open-told (a .owners .now) (a .priorities .now) (a .offsets .now) (a .targets .now) (g .pre .accepted) (a .s) (g .pre .made) (a .state .current .0) (a .state .unsolved) (a .work .now) (g .pre .shows) (queried q) (d .is-open .ensures)) ∙ b .before .before .if1 .left) (b .best-escape .ensures)
+    promoted-same (g .pre .accepted) (g .pre .made) (g .pre .shows) (queried q)
+    (d .is-open .ensures) (b .before .before .if1 .left) (b .best-escape .ensures)
     (e .before .before .if2 .taken) (e .apply-priority-promotion .ensures) in
     record {
       long = same .0 ∙ queried q .long;
       counted = refl;
       shown =
           λ k sh.
-          round-promotes (a .owners .now) (a .priorities .now) (a .offsets .now) (a .targets .now) (g .pre .accepted) (a .s) k (a .state .current .0) (a .state .unsolved) (a .work .now) sh (queried q)
-          (sym (open-told (a .owners .now) (a .priorities .now) (a .offsets .now) (a .targets .now) (g .pre .accepted) (a .s) k (a .state .current .0) (a .state .unsolved) (a .work .now) sh (queried q) (d .is-open .ensures)) ∙ b .before .before .if1 .left) (b .best-escape .ensures)
+          round-promotes (g .pre .accepted) k sh (queried q)
+          (d .is-open .ensures) (b .before .before .if1 .left) (b .best-escape .ensures)
           (e .before .before .if2 .taken) (e .apply-priority-promotion .ensures);
       rest = λ i l. same .1 i l ∙ queried q .rest i (omega arith) (inr l);
     }
@@ -147,15 +140,15 @@ solve-dominion-requires c κs =
     let d = b .before .before .before in
     let q = asked d in
     let g = first q in
-    let a = g .args in
-    round-dominion-ready (a .owners .now) (a .priorities .now) (a .offsets .now) (a .targets .now) (g .pre .accepted) (a .s) (g .pre .made) (a .state .current .0) (a .state .unsolved) (a .work .now) (g .pre .shows) (queried q)
-    (sym (open-told (a .owners .now) (a .priorities .now) (a .offsets .now) (a .targets .now) (g .pre .accepted) (a .s) (g .pre .made) (a .state .current .0) (a .state .unsolved) (a .work .now) (g .pre .shows) (queried q) (d .is-open .ensures)) ∙ b .before .before .if1 .left) (b .best-escape .ensures)
+    round-dominion-ready (g .pre .accepted) (g .pre .made) (g .pre .shows) (queried q)
+    (d .is-open .ensures) (b .before .before .if1 .left) (b .best-escape .ensures)
 
 add-size : tie.Need-add-size
 add-size c =
     let e = c .before .before in
     let q = asked (e .before .before .before .before .before .before) in
-    omega (arith, e .solve-dominion .ensures .ready .tallied .room, e .solve-dominion .ensures .long, queried q .long, first q .good)
+    let done = e .solve-dominion .ensures in
+    omega (arith, done .ready .tallied .room, done .long, queried q .long, first q .good)
 
 mul-size : tie.Need-mul-size
 mul-size c = search needs
@@ -176,9 +169,8 @@ size-requires c κs =
     let d = b .before .before .before in
     let q = asked d in
     let g = first q in
-    let a = g .args in
-    left-few (a .owners .now) (a .priorities .now) (a .offsets .now) (a .targets .now) (g .pre .accepted) (a .s) (g .pre .made) (a .state .current .0) (a .state .unsolved) (a .work .now) (g .pre .shows) (queried q)
-    (sym (open-told (a .owners .now) (a .priorities .now) (a .offsets .now) (a .targets .now) (g .pre .accepted) (a .s) (g .pre .made) (a .state .current .0) (a .state .unsolved) (a .work .now) (g .pre .shows) (queried q) (d .is-open .ensures)) ∙ b .before .before .if1 .left) (b .best-escape .ensures)
+    left-few (g .pre .accepted) (g .pre .made) (g .pre .shows) (queried q)
+    (d .is-open .ensures) (b .before .before .if1 .left) (b .best-escape .ensures)
     (e .before .before .if2 .left) (e .solve-dominion .ensures)
 
 next-priority-requires-2 : tie.Need-next-priority-requires-2
@@ -194,18 +186,18 @@ returns-3 c =
     let d = b .before .before .before in
     let q = asked d in
     let g = first q in
-    let a = g .args in
     record {
       long = e .solve-dominion .ensures .long ∙ queried q .long;
       counted = refl;
       shown =
           λ k sh.
-          let closed = sym (open-told (a .owners .now) (a .priorities .now) (a .offsets .now) (a .targets .now) (g .pre .accepted) (a .s) k (a .state .current .0) (a .state .unsolved) (a .work .now) sh (queried q) (d .is-open .ensures)) ∙ b .before .before .if1 .left in
           let more = e .before .before .if2 .left in
-          round-solves (a .owners .now) (a .priorities .now) (a .offsets .now) (a .targets .now) (g .pre .accepted) (a .s) k (a .state .current .0) (a .state .unsolved) (a .work .now) sh (queried q)
-          closed (b .best-escape .ensures) more (e .solve-dominion .ensures) (c .next-priority2 .ensures)
-          (left-counted (a .owners .now) (a .priorities .now) (a .offsets .now) (a .targets .now) (g .pre .accepted) (a .s) k (a .state .current .0) (a .state .unsolved) (a .work .now) sh (queried q)
-          closed (b .best-escape .ensures) more (e .solve-dominion .ensures) (c .before .before .size .ensures));
+          round-solves (g .pre .accepted) k sh (queried q)
+          (d .is-open .ensures) (b .before .before .if1 .left) (b .best-escape .ensures) more (e .solve-dominion .ensures)
+          (c .next-priority2 .ensures)
+          (left-counted (g .pre .accepted) k sh (queried q)
+          (d .is-open .ensures) (b .before .before .if1 .left) (b .best-escape .ensures) more (e .solve-dominion .ensures)
+          (c .before .before .size .ensures));
       rest = λ i l. e .solve-dominion .ensures .rest i l ∙ queried q .rest i (omega arith) (inr l);
     }
 
