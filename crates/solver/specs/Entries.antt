@@ -36,13 +36,14 @@ pub record Written (flag : Bool) (owners even odd entries before after : List �
   pub all : (v : ℕ) → v < length owners → getD after v 0 ≡ chosen flag owners even odd entries v
 
 -- the entry of v, by the way that the code goes
-module _ (owners even odd entries : List ℕ) (v : ℕ) where
+module _ {owners even odd entries : List ℕ} {v : ℕ} (given : Entered owners even odd entries v) where
   pub entry-unasked : {flag : Bool} → flag ≡ false → 65535 ≡ chosen flag owners even odd entries v
   entry-unasked e = rw e
 
   module _ {flag : Bool} (asked : flag ≡ true) where
     by-owner :
-        {won : Bool} → ownerWins owners even odd v ≡ won → cond won (getD entries v 0) noEntry ≡ chosen flag owners even odd entries v
+        {won : Bool} → ownerWins owners even odd v ≡ won →
+        cond won (getD entries v 0) noEntry ≡ chosen flag owners even odd entries v
     by-owner e = sym (rw (asked, e))
 
     wins-even : getD owners v 0 ≡ 0 → {won : Bool} → won ≡ setOf even v → ownerWins owners even odd v ≡ won
@@ -51,22 +52,25 @@ module _ (owners even odd entries : List ℕ) (v : ℕ) where
     wins-odd : (getD owners v 0 ≡ 0 → ⊥) → {won : Bool} → won ≡ setOf odd v → ownerWins owners even odd v ≡ won
     wins-odd o e = rw (ne-eqb (getD owners v 0) 0 o) (sym e)
 
-    -- Even's vertex
+    -- Even's vertex, where it is known whether Even wins it
     pub entry-even :
-        getD owners v 0 ≡ 0 → {won : Bool} → won ≡ setOf even v → cond won (getD entries v 0) noEntry ≡ chosen flag owners even odd entries v
-    entry-even o e = by-owner (wins-even o e)
+        getD owners v 0 ≡ 0 →
+        {told won : Bool} → told ≡ setOf even v → told ≡ won →
+        cond won (getD entries v 0) noEntry ≡ chosen flag owners even odd entries v
+    entry-even o e is = by-owner (wins-even o e ∙ is)
 
     -- Odd's vertex
     pub entry-odd :
         (getD owners v 0 ≡ 0 → ⊥) →
-        {won : Bool} →
-        won ≡ setOf odd v →
+        {told won : Bool} → told ≡ setOf odd v → told ≡ won →
         cond won (getD entries v 0) noEntry ≡ chosen flag owners even odd entries v
-    entry-odd o e = by-owner (wins-odd o e)
+    entry-odd o e is = by-owner (wins-odd o e ∙ is)
 
-    -- where its owner wins it
-    pub wins-even-so : getD owners v 0 ≡ 0 → {won : Bool} → won ≡ setOf even v → won ≡ true → ownerWins owners even odd v ≡ true
-    wins-even-so o e p = wins-even o e ∙ p
+    -- where its owner wins it, the entry fits
+    pub narrow-even :
+        getD owners v 0 ≡ 0 → {told : Bool} → told ≡ setOf even v → told ≡ true → getD entries v 0 < 65536
+    narrow-even o e p = given .narrow (wins-even o e ∙ p)
 
-    pub wins-odd-so : (getD owners v 0 ≡ 0 → ⊥) → {won : Bool} → won ≡ setOf odd v → won ≡ true → ownerWins owners even odd v ≡ true
-    wins-odd-so o e p = wins-odd o e ∙ p
+    pub narrow-odd :
+        (getD owners v 0 ≡ 0 → ⊥) → {told : Bool} → told ≡ setOf odd v → told ≡ true → getD entries v 0 < 65536
+    narrow-odd o e p = given .narrow (wins-odd o e ∙ p)

@@ -5,6 +5,13 @@ use borrow.Author.Needs.{needs}
 use Rattle.solver.proofs.area.prepare.Statement.{statement}
 use Rattle.solver.proofs.area.prepare.Tie as tie
 
+-- where the function begins, and where the table is built
+abbrev start : tie.After-build → tie.Start
+start b = b .before .before .before .before .before
+
+abbrev listed : tie.After-clear → tie.After-build
+listed k = k .before .before .before .before
+
 build-requires : tie.Need-build-requires
 build-requires c κs =
     let g = c .before .before .before .before in
@@ -13,7 +20,8 @@ build-requires c κs =
     record { edges = g .pre .edges; room = omega arith }
 
 clear-requires : tie.Need-clear-requires
-clear-requires c κs = omega (arith, c .before .before .before .before .before .before .before .before .pre .high, c .before .before .before .build .kept .1 .1 .1 .0)
+clear-requires c κs =
+    let b = c .before .before .before in omega (arith, start b .pre .high, b .build .kept .1 .1 .1 .0)
 
 add-fill : tie.Need-add-fill
 add-fill c = search needs
@@ -31,13 +39,20 @@ part-fill-end : tie.Need-part-fill-end
 part-fill-end c = search needs
 
 fill-requires : tie.Need-fill-requires
-fill-requires c κs = fill-fits (c .before .before .before .before .before .before .before .before .before .before .before .before .pre) (c .before .before .before .before .before .before .before .build .ensures) (c .before .before .before .clear .ensures)
+fill-requires c κs =
+    let k = c .before .before .before in
+    let b = listed k in
+    fill-fits (start b .pre) (b .build .ensures) (k .clear .ensures)
 
 same-length : tie.Need-same-length
 same-length c = search needs
 
 returns : tie.Need-returns
-returns c = prepared-full (c .before .before .before .before .before .before .before .before .before .before .before .before .before .before .before .pre) (c .before .before .before .before .before .before .before .before .before .before .build .ensures) (c .before .before .before .before .before .before .clear .ensures) (c .before .before .fill .last .0) (c .before .before .fill .kept .0) (c .before .before .fill .ensures)
+returns c =
+    let f = c .before .before in
+    let k = f .before .before .before .before in
+    let b = listed k in
+    prepared-full (start b .pre) (b .build .ensures) (k .clear .ensures) (f .fill .last .0) (f .fill .kept .0) (f .fill .ensures)
 
 pub prepare-spec : {M : Type 1} → statement M
 prepare-spec =

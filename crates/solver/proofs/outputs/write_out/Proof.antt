@@ -4,6 +4,13 @@ use borrow.Author.Needs.{needs}
 use Rattle.solver.proofs.outputs.write_out.Statement.{statement}
 use Rattle.solver.proofs.outputs.write_out.Tie as tie
 
+-- where the function begins, and where Even's set is written
+abbrev start : tie.After-copy-from → tie.Start
+start e = e .before .before .before .before .before .before .before .before
+
+abbrev even-out : tie.After-copy-from2 → tie.After-copy-from
+even-out o = o .before .before .before .before .before
+
 add-next : tie.Need-add-next
 add-next c = search needs
 
@@ -89,7 +96,8 @@ part-write-strategy-end-3 : tie.Need-part-write-strategy-end-3
 part-write-strategy-end-3 c = search needs
 
 write-strategy-requires : tie.Need-write-strategy-requires
-write-strategy-requires c κs = lent-enterable (c .before .before .before .before .before .before .before .before .before .before .before .before .before .before .before .before .before .before .before .pre)
+write-strategy-requires c κs =
+    let o = c .before .before .before .before .before .before in lent-enterable (start (even-out o) .pre)
 
 same-length : tie.Need-same-length
 same-length c = search needs
@@ -102,11 +110,13 @@ same-length-3 c = search needs
 
 returns : tie.Need-returns
 returns c =
-    let a = c .before .before .before .before .before .before .before .before .before .before .before .before .before .before .before .before .before .before .before .before .before .before .args in
-    wrote-parts (a .s) (a .from) (a .at) (a .work .now) (record { even = a .even .now; odd = a .odd .now; strategy = a .strategy .now })
-    (c .before .before .before .before .before .before .before .before .before .before .before .before .before .before .copy-from .ensures)
-    (c .before .before .before .before .before .before .before .before .before .copy-from2 .ensures)
-    (c .before .before .write-strategy .ensures)
+    let w = c .before .before in
+    let o = w .before .before .before .before .before .before .before in
+    let e = even-out o in
+    let a = start e .args in
+    wrote-parts (a .s) (a .from) (a .at) (a .work .now)
+    (record { even = a .even .now; odd = a .odd .now; strategy = a .strategy .now })
+    (e .copy-from .ensures) (o .copy-from2 .ensures) (w .write-strategy .ensures)
 
 pub write-out-spec : {M : Type 1} → statement M
 write-out-spec =
