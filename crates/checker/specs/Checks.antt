@@ -88,7 +88,7 @@ word-marked : (n base v : ℕ) (work : List ℕ) → v < n → not (eqb (getD wo
 unfolding marked
 word-marked n base v work l = rw (lt-ltb v n l)
 
-module _ (t : Tables) (even strategy before : List ℕ) (given : CyclesReady t even strategy before) where
+module _ {t : Tables} {even strategy before : List ℕ} (given : CyclesReady t even strategy before) where
   abbrev n : ℕ
   n = vertices t
 
@@ -115,67 +115,73 @@ module _ (t : Tables) (even strategy before : List ℕ) (given : CyclesReady t e
         room = omega (arith, fits, given .room);
       }
 
-  module _ (after : List ℕ) (done : CyclesMarked (t .owners) (t .priorities) (t .offsets) (t .targets) strategy before after) where
-    abbrev rows : ℕ
-    rows = behind (length (t .priorities)) m
+  module _ {after : List ℕ}
+      (done : CyclesMarked (t .owners) (t .priorities) (t .offsets) (t .targets) strategy before after)
+    where
+      abbrev rows : ℕ
+      rows = behind (length (t .priorities)) m
 
-    pub scan-ready : Scannable even after rows (length (t .priorities))
-    scan-ready =
-        record { sets = omega (arith, given .sets, each); room = omega (arith, fits, given .room, done .long) }
+      pub scan-ready : Scannable even after rows (length (t .priorities))
+      scan-ready =
+          record { sets = omega (arith, given .sets, each); room = omega (arith, fits, given .room, done .long) }
 
-    losing-says :
-        (v : ℕ) → v < length (t .priorities) →
-        losingAt even after rows (length (t .priorities)) v ≡
-        some 256 (λ p. not (same (parity p) (winnerOf even v)) && chosenPart (gameOf t) strategy p v)
-    unfolding losingAt
-    losing-says v l = go (setOf even v) refl
-      where
-        test : Player → Set
-        test a p = not (same (parity p) a) && chosenPart (gameOf t) strategy p v
+      losing-says :
+          (v : ℕ) → v < length (t .priorities) →
+          losingAt even after rows (length (t .priorities)) v ≡
+          some 256 (λ p. not (same (parity p) (winnerOf even v)) && chosenPart (gameOf t) strategy p v)
+      unfolding losingAt
+      losing-says v l = go (setOf even v) refl
+        where
+          test : Player → Set
+          test a p = not (same (parity p) a) && chosenPart (gameOf t) strategy p v
 
-        go :
-            (b : Bool) → setOf even v ≡ b →
-            cond b (not (eqb (getD after (rows + length (t .priorities) + v) 0) 0)) (not (eqb (getD after (rows + v) 0) 0)) ≡
-            some 256 (λ p. not (same (parity p) (cond b Even Odd)) && chosenPart (gameOf t) strategy p v)
-        go true e =
-            word-marked (length (t .priorities)) (rows + length (t .priorities)) v after l ∙ done .odds v l ∙
-            ap (some 256) (fun-ext (λ p. ap (λ (b : Bool). b && chosenPart (gameOf t) strategy p v) (other-of-even p)))
-        go false e =
-            word-marked (length (t .priorities)) rows v after l ∙ done .evens v l ∙
-            ap (some 256) (fun-ext (λ p. ap (λ (b : Bool). b && chosenPart (gameOf t) strategy p v) (other-of-odd p)))
+          go :
+              (b : Bool) → setOf even v ≡ b →
+              cond b (not (eqb (getD after (rows + length (t .priorities) + v) 0) 0)) (not (eqb (getD after (rows + v) 0) 0)) ≡
+              some 256 (λ p. not (same (parity p) (cond b Even Odd)) && chosenPart (gameOf t) strategy p v)
+          go true e =
+              word-marked (length (t .priorities)) (rows + length (t .priorities)) v after l ∙ done .odds v l ∙
+              ap (some 256) (fun-ext (λ p. ap (λ (b : Bool). b && chosenPart (gameOf t) strategy p v) (other-of-even p)))
+          go false e =
+              word-marked (length (t .priorities)) rows v after l ∙ done .evens v l ∙
+              ap (some 256) (fun-ext (λ p. ap (λ (b : Bool). b && chosenPart (gameOf t) strategy p v) (other-of-odd p)))
 
-    -- **The search over the two rows is the rule's 24.**
-    pub cycles-told :
-        (o : Outcome) → o ≡ outcome (givenAt 24 (length (t .priorities)) (losingAt even after rows (length (t .priorities)))) (answered 0) →
-        CyclesTold t even strategy before after o
-    unfolding gameOf
-    cycles-told o e =
-        record {
-          gives =
-              e ∙
-              ap (λ (v : Verdict). outcome v (answered 0))
-              (givenAt-cong 24 (length (t .priorities)) (losingAt even after rows (length (t .priorities))) chosen losing-says ∙
-              ap (λ (k : ℕ). givenAt 24 k chosen) each ∙
-              sym
-              (check24-chosen (gameOf t) (accepted-total t (given .accepted)) (omega (arith, accepted-sound t (given .accepted) .few-vertices)) even strategy
-              (given .ok22) (given .ok23) 256 highest));
-          long = done .long;
-          beyond = λ i l. done .beyond i (omega (arith, fits));
-        }
-      where
-        chosen : Set
-        chosen v = some 256 (λ p. not (same (parity p) (winnerOf even v)) && chosenPart (gameOf t) strategy p v)
+      -- **The search over the two rows is the rule's 24.**
+      pub cycles-told :
+          {o : Outcome} →
+          o ≡ outcome (givenAt 24 (length (t .priorities)) (losingAt even after rows (length (t .priorities)))) (answered 0) →
+          CyclesTold t even strategy before after o
+      unfolding gameOf
+      cycles-told e =
+          record {
+            gives =
+                e ∙
+                ap (λ (v : Verdict). outcome v (answered 0))
+                (givenAt-cong 24 (length (t .priorities)) (losingAt even after rows (length (t .priorities))) chosen losing-says ∙
+                ap (λ (k : ℕ). givenAt 24 k chosen) each ∙
+                sym
+                (check24-chosen (gameOf t) (accepted-total t (given .accepted))
+                (omega (arith, accepted-sound t (given .accepted) .few-vertices)) even strategy (given .ok22) (given .ok23) 256
+                highest));
+            long = done .long;
+            beyond = λ i l. done .beyond i (omega (arith, fits));
+          }
+        where
+          chosen : Set
+          chosen v = some 256 (λ p. not (same (parity p) (winnerOf even v)) && chosenPart (gameOf t) strategy p v)
 
-        highest : highestIn (gameOf t) (everywhere (gameOf t)) < 256
-        highest =
-            let h = greatest-le (gameOf t .size) (everywhere (gameOf t)) (gameOf t .priority) 255 (λ v l p. accepted-priority t (given .accepted) v) in
-            omega arith
+          highest : highestIn (gameOf t) (everywhere (gameOf t)) < 256
+          highest =
+              let h =
+              greatest-le (gameOf t .size) (everywhere (gameOf t)) (gameOf t .priority) 255
+              (λ v l p. accepted-priority t (given .accepted) v) in
+              omega arith
 
 -- ---- the kinds in order
 
 -- a check that gave nothing leaves the outcome to those after it
-pub past : (x o : Outcome) (u w : Verdict) → u ≡ none → x ≡ outcome w o → x ≡ outcome (u then w) o
-past x o u w e h = h ∙ sym (outcome-pass u w o e)
+pub past : {o : Outcome} {u : Verdict} (w : Verdict) → u ≡ none → o ≡ outcome w (answered 0) → o ≡ outcome (u then w) (answered 0)
+past {o} {u} w e h = h ∙ sym (outcome-pass u w (answered 0) e)
 
 pub numbered21 : (n : ℕ) (even odd : List ℕ) → Numbered (check21 n even odd)
 unfolding check21
@@ -189,7 +195,7 @@ words-few : (n : ℕ) → n ≤ 4096 → words n ≤ 64
 unfolding words
 words-few n l = omega arith
 
-module _ (t : Tables) (even odd strategy before : List ℕ) (given : Certifiable t even odd strategy before) where
+module _ {t : Tables} {even odd strategy before : List ℕ} (given : Certifiable t even odd strategy before) where
   abbrev vs : ℕ
   vs = vertices t
 
@@ -205,7 +211,8 @@ module _ (t : Tables) (even odd strategy before : List ℕ) (given : Certifiable
       }
 
   pub entries-ready : Given (t .owners) (t .offsets) (t .targets) even strategy
-  entries-ready = record { edges = accepted-edges t (given .accepted); strategy-long = given .strategy-long; even-long = covers }
+  entries-ready =
+      record { edges = accepted-edges t (given .accepted); strategy-long = given .strategy-long; even-long = covers }
 
   -- 22 and 23 as the code checks them
   pub check22-is :
@@ -226,74 +233,98 @@ module _ (t : Tables) (even odd strategy before : List ℕ) (given : Certifiable
         entries =
             λ v l own.
             let edge = after22 (gameOf t) even strategy ok .0 v l (same-true (gameOf t .owner v) (winnerOf even v) own) in
-            subst (λ (x : ℕ). x < vs) (sym (entry-is (t .owners) (t .offsets) (t .targets) even strategy entries-ready v l))
+            subst (λ (x : ℕ). x < vs) (sym (entry-is entries-ready v l))
             (accepted-total t (given .accepted) .ends v (entry strategy v) edge);
       }
 
-  pub cycles-given : check22 (gameOf t) even strategy ≡ none → check23 (gameOf t) even strategy ≡ none → CyclesReady t even strategy before
-  cycles-given ok22 ok23 = record { accepted = given .accepted; sets = covers; ok22 = ok22; ok23 = ok23; room = given .room }
+  pub cycles-given :
+      check22 (gameOf t) even strategy ≡ none → check23 (gameOf t) even strategy ≡ none → CyclesReady t even strategy before
+  cycles-given ok22 ok23 =
+      record { accepted = given .accepted; sets = covers; ok22 = ok22; ok23 = ok23; room = given .room }
 
-  -- 21, 22 or 23: the work area was not touched
-  pub certify-stops : (o : Outcome) → o ≡ outcome (certificateChecks (gameOf t) even odd strategy) (answered 0) → Certifies t even odd strategy before before o
-  certify-stops o e = record { gives = e; long = refl; beyond = λ i l. refl }
+  -- the kinds, in the order of the code
+  abbrev in-order : Verdict
+  in-order =
+      check21 vs even odd then
+      (check22 (gameOf t) even strategy then (check23 (gameOf t) even strategy then check24 (gameOf t) even strategy))
 
   -- the outcome from each kind on
   pub from21 :
-      (o : Outcome) →
-      o ≡
-      outcome
-      (check21 vs even odd then (check22 (gameOf t) even strategy then (check23 (gameOf t) even strategy then check24 (gameOf t) even strategy)))
-      (answered 0) →
+      {o : Outcome} →
+      o ≡ outcome in-order (answered 0) →
       o ≡ outcome (certificateChecks (gameOf t) even odd strategy) (answered 0)
   unfolding certificateChecks gameOf
-  from21 o e = e
+  from21 e = e
+
+  -- 21, 22 or 23: the work area was not touched
+  pub certify-stops : {o : Outcome} → o ≡ outcome in-order (answered 0) → Certifies t even odd strategy before before o
+  certify-stops e = record { gives = from21 e; long = refl; beyond = λ i l. refl }
 
 -- ---- the whole
 
-module _ (t : Tables) (even odd strategy before : List ℕ) where
-  abbrev R : Verdict
-  R = checksBy t (length even) (length odd) (length strategy) (length before)
+-- the checks before the kinds
+abbrev pub refusals : Tables → List ℕ → List ℕ → List ℕ → List ℕ → Verdict
+refusals t even odd strategy before = checksBy t (length even) (length odd) (length strategy) (length before)
 
+module _ {t : Tables} {even odd strategy before : List ℕ} where
   pub checks-refused :
-      (o : Outcome) →
-      o ≡ outcome (R then certificateChecks (gameOf t) even odd strategy) (answered 0) →
-      o ≡ outcome R (answered 0) →
+      {o : Outcome} →
+      o ≡ outcome (refusals t even odd strategy before then certificateChecks (gameOf t) even odd strategy) (answered 0) →
+      o ≡ outcome (refusals t even odd strategy before) (answered 0) →
       (o .number ≡ 0 → ⊥) →
       Checks t even odd strategy before before o
-  checks-refused o e h d =
-      record { gives = e; work = untouched R (λ z. d (ap (λ (x : Outcome). x .number) (h ∙ ap (λ (v : Verdict). outcome v (answered 0)) z))) }
+  checks-refused e h d =
+      record {
+        gives = e;
+        work =
+            untouched (refusals t even odd strategy before)
+            (λ z. d (ap (λ (x : Outcome). x .number) (h ∙ ap (λ (v : Verdict). outcome v (answered 0)) z)));
+      }
     where
       untouched : (v : Verdict) → (v ≡ none → ⊥) → before ≡ leftBy v t before
       untouched none f = absurd (f refl)
       untouched (refused k p) f = refl
 
-  pub certify-given : R ≡ none → Certifiable t even odd strategy before
+  pub certify-given : refusals t even odd strategy before ≡ none → Certifiable t even odd strategy before
   certify-given e =
       let p = checks-passed t (length even) (length odd) (length strategy) (length before) e in
-      record { accepted = p .accepted; even-long = p .even-size; odd-long = p .odd-size; strategy-long = p .strategy-size; room = p .work-size }
+      record {
+        accepted = p .accepted;
+        even-long = p .even-size;
+        odd-long = p .odd-size;
+        strategy-long = p .strategy-size;
+        room = p .work-size;
+      }
 
-  pub work-fits : R ≡ none → (vertices t ≤ 4096) × (edgesIn t ≤ 16384)
-  work-fits e =
-      let s = accepted-sound t (certify-given e .accepted) in
+  pub work-fits : Certifiable t even odd strategy before → (vertices t ≤ 4096) × (edgesIn t ≤ 16384)
+  work-fits given =
+      let s = accepted-sound t (given .accepted) in
       (s .few-vertices, s .few-edges)
 
+  -- **past the checks, with the work area cleared**
   pub checks-done :
-      (ok : R ≡ none) (middle after : List ℕ) (o : Outcome) →
+      (ok : refusals t even odd strategy before ≡ none) {middle after : List ℕ} {o : Outcome} →
       Certifies t even odd strategy before middle o →
-      Cleared 0 (workWords (vertices t) (edgesIn t)) middle after →
+      {cleared-to : ℕ} → cleared-to ≡ workWords (vertices t) (edgesIn t) →
+      Cleared 0 cleared-to middle after →
       Checks t even odd strategy before after o
-  checks-done ok middle after o c z =
+  checks-done ok {middle} {after} {o} c is zeros =
       record {
-        gives = past o (answered 0) R (certificateChecks (gameOf t) even odd strategy) ok (c .gives);
+        gives = past (certificateChecks (gameOf t) even odd strategy) ok (c .gives);
         work = all-clear ∙ ap (λ (v : Verdict). leftBy v t before) (sym ok);
       }
     where
+      W : ℕ
+      W = workWords (vertices t) (edgesIn t)
+
+      z : Cleared 0 W middle after
+      z = subst (λ (k : ℕ). Cleared 0 k middle after) is zeros
+
       long : length after ≡ length (cleared t before)
       long =
           let room = certify-given ok .room in
           z .within .long ∙ c .long ∙ sym
-          (length-append (replicate (workWords (vertices t) (edgesIn t)) 0) (drop (workWords (vertices t) (edgesIn t)) before) ∙ simp
-          (length-replicate, length-drop) (omega arith))
+          (length-append (replicate W 0) (drop W before) ∙ simp (length-replicate, length-drop) (omega arith))
 
       word : (i : ℕ) → i < length after → getD after i 0 ≡ getD (cleared t before) i 0
       word i l =
@@ -301,19 +332,18 @@ module _ (t : Tables) (even odd strategy before : List ℕ) where
           (λ k.
           z .zeros i (omega arith) k ∙
           sym
-          (List·getD-append (replicate (workWords (vertices t) (edgesIn t)) 0) (drop (workWords (vertices t) (edgesIn t)) before) 0 i
-          (rw (length-replicate {A = ℕ} (workWords (vertices t) (edgesIn t)) 0) k) ∙ getD-replicate (workWords (vertices t) (edgesIn t)) i 0 0 k))
-          (λ (k : workWords (vertices t) (edgesIn t) ≤ i).
-          let at : length (replicate {A = ℕ} (workWords (vertices t) (edgesIn t)) 0) + (i - (workWords (vertices t) (edgesIn t))) ≡ i = rw
-          (length-replicate {A = ℕ} (workWords (vertices t) (edgesIn t)) 0) (omega arith) in
-          let back : (workWords (vertices t) (edgesIn t)) + (i - (workWords (vertices t) (edgesIn t))) ≡ i = omega arith in
+          (List·getD-append (replicate W 0) (drop W before) 0 i
+          (rw (length-replicate {A = ℕ} W 0) k) ∙ getD-replicate W i 0 0 k))
+          (λ (k : W ≤ i).
+          let at : length (replicate {A = ℕ} W 0) + (i - W) ≡ i = rw (length-replicate {A = ℕ} W 0) (omega arith) in
+          let back : W + (i - W) ≡ i = omega arith in
           z .within .rest i (inr k) ∙ c .beyond i k ∙
           sym
-          (sym (ap (λ (j : ℕ). getD (cleared t before) j 0) at) ∙ getD-append-add (replicate (workWords (vertices t) (edgesIn t)) 0)
-          (drop (workWords (vertices t) (edgesIn t)) before) (i - (workWords (vertices t) (edgesIn t))) 0 ∙ getD-drop
-          (workWords (vertices t) (edgesIn t)) before (i - (workWords (vertices t) (edgesIn t))) 0 ∙
+          (sym (ap (λ (j : ℕ). getD (cleared t before) j 0) at) ∙ getD-append-add (replicate W 0)
+          (drop W before) (i - W) 0 ∙ getD-drop
+          W before (i - W) 0 ∙
           ap (λ (j : ℕ). getD before j 0) back))
-          (lt-or-ge i (workWords (vertices t) (edgesIn t)))
+          (lt-or-ge i W)
 
       all-clear : after ≡ cleared t before
       all-clear = ext-getD 0 after (cleared t before) long word

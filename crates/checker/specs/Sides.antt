@@ -75,11 +75,15 @@ module _ (n : ℕ) (even odd : List ℕ) (given : Sets n even odd) where
       (b : ℕ) → b < 64 * length even → FailsBelow b (strayAt n even odd) → strayAt n even odd b ≡ true →
       refusal 21 b ≡ outcome (check21 n even odd) (answered 0)
   unfolding check21 strayAt
-  partition-found b l h e = outcome-found 21 (64 * words n) (strayAt n even odd) (answered 0) b (omega (arith, given .even-long)) h e
+  partition-found b l h e =
+      outcome-found 21 (64 * words n) (strayAt n even odd) (answered 0) b (omega (arith, given .even-long)) h e
 
-  pub partition-none : (b : ℕ) → 64 * length even ≤ b → FailsBelow b (strayAt n even odd) → answered 0 ≡ outcome (check21 n even odd) (answered 0)
+  pub partition-none :
+      (b : ℕ) → 64 * length even ≤ b → FailsBelow b (strayAt n even odd) →
+      answered 0 ≡ outcome (check21 n even odd) (answered 0)
   unfolding check21 strayAt
-  partition-none b l h = outcome-none 21 (64 * words n) (strayAt n even odd) (answered 0) (λ k m. h k (omega (arith, given .even-long)))
+  partition-none b l h =
+      outcome-none 21 (64 * words n) (strayAt n even odd) (answered 0) (λ k m. h k (omega (arith, given .even-long)))
 
 -- ---- 22 and 23
 
@@ -109,18 +113,22 @@ pub record Sided (owners offsets targets even strategy : List ℕ) : Type 0 wher
   pub entries : (v : ℕ) → v < length owners → ownBy owners even v ≡ true → getD strategy v 0 < length owners
 
 -- the edges of v in the table of targets
-module _ (n : ℕ) (offsets targets : List ℕ) (sound : SoundEdges n offsets targets) (v : ℕ) (l : v < n) where
+module _ {n : ℕ} {offsets targets : List ℕ} (sound : SoundEdges n offsets targets) (v : ℕ) (l : v < n) where
   abbrev tables : Tables
   tables = record { owners = offsets; priorities = offsets; offsets = offsets; targets = targets }
 
   pub edges-end : getD offsets (v + 1) 0 ≤ length targets
   edges-end = offset-within n offsets targets sound (v + 1) (omega arith)
 
-  target-place : (w : ℕ) → List·Memᴰ w (targetsOf offsets targets v) → (e : ℕ) × (getD offsets v 0 ≤ e) × (e < getD offsets (v + 1) 0) × (getD targets e 0 ≡ w)
+  target-place :
+      (w : ℕ) → List·Memᴰ w (targetsOf offsets targets v) →
+      (e : ℕ) × (getD offsets v 0 ≤ e) × (e < getD offsets (v + 1) 0) × (getD targets e 0 ≡ w)
   unfolding gameOf
   target-place w m = let (e, a, b, c, is) = edge-place tables v w m in (e, a, b, is)
 
-  target-member : (e : ℕ) → getD offsets v 0 ≤ e → e < getD offsets (v + 1) 0 → List·Memᴰ (getD targets e 0) (targetsOf offsets targets v)
+  target-member :
+      (e : ℕ) → getD offsets v 0 ≤ e → e < getD offsets (v + 1) 0 →
+      List·Memᴰ (getD targets e 0) (targetsOf offsets targets v)
   unfolding gameOf
   target-member e a b = place-edge tables v e a b (omega (arith, edges-end))
 
@@ -171,73 +179,82 @@ pub from-more :
     test i ≡ value
 from-more test value from e h p i a b = ⊎-elim (λ (q : i ≡ e). ap test q ∙ p) (λ k. h i a k) (below-suc (rw add-one at b))
 
-module _ (owners offsets targets even strategy : List ℕ) (given : Given owners offsets targets even strategy) (v : ℕ) (l : v < length owners) where
-  pub entry-is : getD strategy v 0 ≡ entry strategy v
-  entry-is = getD-within strategy v 0 noEntry (omega (arith, given .strategy-long))
+module _ {owners offsets targets even strategy : List ℕ} (given : Given owners offsets targets even strategy) (v : ℕ)
+    (l : v < length owners)
+  where
+    pub entry-is : getD strategy v 0 ≡ entry strategy v
+    entry-is = getD-within strategy v 0 noEntry (omega (arith, given .strategy-long))
 
-  pub entry-other : ownBy owners even v ≡ false → (getD strategy v 0 ≡ 65535 → ⊥) → wrongEntry owners offsets targets even strategy v ≡ true
-  unfolding wrongEntry
-  entry-other e d = rw (e, sym entry-is, ne-eqb (getD strategy v 0) noEntry d)
+    pub entry-other :
+        ownBy owners even v ≡ false → (getD strategy v 0 ≡ 65535 → ⊥) →
+        wrongEntry owners offsets targets even strategy v ≡ true
+    unfolding wrongEntry
+    entry-other e d = rw (e, sym entry-is, ne-eqb (getD strategy v 0) noEntry d)
 
-  pub entry-none : ownBy owners even v ≡ false → getD strategy v 0 ≡ 65535 → wrongEntry owners offsets targets even strategy v ≡ false
-  unfolding wrongEntry
-  entry-none e d = rw (e, sym entry-is, eq-eqb (getD strategy v 0) noEntry d)
+    pub entry-none :
+        ownBy owners even v ≡ false → getD strategy v 0 ≡ 65535 → wrongEntry owners offsets targets even strategy v ≡ false
+    unfolding wrongEntry
+    entry-none e d = rw (e, sym entry-is, eq-eqb (getD strategy v 0) noEntry d)
 
-  pub entry-target :
-      ownBy owners even v ≡ true →
-      (e : ℕ) →
-      getD offsets v 0 ≤ e →
-      e < getD offsets (v + 1) 0 →
-      getD targets e 0 ≡ getD strategy v 0 →
-      wrongEntry owners offsets targets even strategy v ≡ false
-  unfolding wrongEntry
-  entry-target o e a b is =
-      rw (
-        o,
-        some-target (length owners) offsets targets (given .edges) v l (eqb (entry strategy v)) e a b
-            (eq-eqb (entry strategy v) (getD targets e 0) (sym entry-is ∙ sym is)),
-      )
+    pub entry-target :
+        ownBy owners even v ≡ true →
+        (e : ℕ) →
+        getD offsets v 0 ≤ e →
+        e < getD offsets (v + 1) 0 →
+        getD targets e 0 ≡ getD strategy v 0 →
+        wrongEntry owners offsets targets even strategy v ≡ false
+    unfolding wrongEntry
+    entry-target o e a b is =
+        rw (
+          o,
+          some-target (given .edges) v l (eqb (entry strategy v)) e a b
+              (eq-eqb (entry strategy v) (getD targets e 0) (sym entry-is ∙ sym is)),
+        )
 
-  pub entry-no-target :
-      ownBy owners even v ≡ true →
-      (e : ℕ) →
-      getD offsets (v + 1) 0 ≤ e →
-      ((i : ℕ) → getD offsets v 0 ≤ i → i < e → eqb (getD strategy v 0) (getD targets i 0) ≡ false) →
-      wrongEntry owners offsets targets even strategy v ≡ true
-  unfolding wrongEntry
-  entry-no-target o e a h =
-      rw (
-        o,
-        no-target (length owners) offsets targets (given .edges) v l (eqb (entry strategy v)) e a
-            (λ i b c. ap (λ (x : ℕ). eqb x (getD targets i 0)) (sym entry-is) ∙ h i b c),
-      )
+    pub entry-no-target :
+        ownBy owners even v ≡ true →
+        (e : ℕ) →
+        getD offsets (v + 1) 0 ≤ e →
+        ((i : ℕ) → getD offsets v 0 ≤ i → i < e → eqb (getD strategy v 0) (getD targets i 0) ≡ false) →
+        wrongEntry owners offsets targets even strategy v ≡ true
+    unfolding wrongEntry
+    entry-no-target o e a h =
+        rw (
+          o,
+          no-target (given .edges) v l (eqb (entry strategy v)) e a
+              (λ i b c. ap (λ (x : ℕ). eqb x (getD targets i 0)) (sym entry-is) ∙ h i b c),
+        )
 
-  pub own-stays : ownBy owners even v ≡ true → sideOf even v (getD strategy v 0) ≡ true → leavesSet owners offsets targets even strategy v ≡ false
-  unfolding leavesSet
-  own-stays o p = rw (o, sym entry-is, p)
+    pub own-stays :
+        ownBy owners even v ≡ true → sideOf even v (getD strategy v 0) ≡ true →
+        leavesSet owners offsets targets even strategy v ≡ false
+    unfolding leavesSet
+    own-stays o p = rw (o, sym entry-is, p)
 
-  pub own-leaves : ownBy owners even v ≡ true → sideOf even v (getD strategy v 0) ≡ false → leavesSet owners offsets targets even strategy v ≡ true
-  unfolding leavesSet
-  own-leaves o p = rw (o, sym entry-is, p)
+    pub own-leaves :
+        ownBy owners even v ≡ true → sideOf even v (getD strategy v 0) ≡ false →
+        leavesSet owners offsets targets even strategy v ≡ true
+    unfolding leavesSet
+    own-leaves o p = rw (o, sym entry-is, p)
 
-  pub other-leaves :
-      ownBy owners even v ≡ false →
-      (e : ℕ) →
-      getD offsets v 0 ≤ e →
-      e < getD offsets (v + 1) 0 →
-      sideOf even v (getD targets e 0) ≡ false →
-      leavesSet owners offsets targets even strategy v ≡ true
-  unfolding leavesSet
-  other-leaves o e a b p = rw (o, not-every (length owners) offsets targets (given .edges) v l (sideOf even v) e a b p)
+    pub other-leaves :
+        ownBy owners even v ≡ false →
+        (e : ℕ) →
+        getD offsets v 0 ≤ e →
+        e < getD offsets (v + 1) 0 →
+        sideOf even v (getD targets e 0) ≡ false →
+        leavesSet owners offsets targets even strategy v ≡ true
+    unfolding leavesSet
+    other-leaves o e a b p = rw (o, not-every (given .edges) v l (sideOf even v) e a b p)
 
-  pub other-stays :
-      ownBy owners even v ≡ false →
-      (e : ℕ) →
-      getD offsets (v + 1) 0 ≤ e →
-      ((i : ℕ) → getD offsets v 0 ≤ i → i < e → sideOf even v (getD targets i 0) ≡ true) →
-      leavesSet owners offsets targets even strategy v ≡ false
-  unfolding leavesSet
-  other-stays o e a h = rw (o, every-target (length owners) offsets targets (given .edges) v l (sideOf even v) e a h)
+    pub other-stays :
+        ownBy owners even v ≡ false →
+        (e : ℕ) →
+        getD offsets (v + 1) 0 ≤ e →
+        ((i : ℕ) → getD offsets v 0 ≤ i → i < e → sideOf even v (getD targets i 0) ≡ true) →
+        leavesSet owners offsets targets even strategy v ≡ false
+    unfolding leavesSet
+    other-stays o e a h = rw (o, every-target (given .edges) v l (sideOf even v) e a h)
 
 module _ (even : List ℕ) (v w : ℕ) where
   pub side-even : setOf even v ≡ true → setOf even w ≡ sideOf even v w

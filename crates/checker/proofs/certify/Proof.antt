@@ -5,7 +5,6 @@ use Rattle.rules.specs.Tables.{Tables, vertices, gameOf, tablesOf}
 use Rattle.rules.specs.Checker.{check21, check22, check23, check24}
 use Rattle.parity_game.specs.Laws.{numbered-givenAt}
 use Rattle.parity_game.proofs.Matched.{went-on, stopped}
-use Rattle.parity_game.specs.Said.{said}
 use Rattle.checker.specs.Checks.{partition-ready, entries-ready, sides-ready, cycles-given, certify-stops}
 use Rattle.checker.specs.Checks.{from21, check22-is, check23-is, past, numbered21}
 use native.Mathlib.Omega.{arith}
@@ -29,47 +28,47 @@ v23 s = check23 (gameOf (tables s)) (s .args .even .now) (s .args .strategy .now
 abbrev v24 : tie.Start → Verdict
 v24 s = check24 (gameOf (tables s)) (s .args .even .now) (s .args .strategy .now)
 
--- past each kind
-ok21 :
-    (c : tie.After-enum-told) →
-    check21 (vertices (tables (c .before .before .before .before .before .before .before .before .before .before .before)))
-    (c .before .before .before .before .before .before .before .before .before .before .before .args .even .now)
-    (c .before .before .before .before .before .before .before .before .before .before .before .args .odd .now) ≡ none
+-- what follows 21, and 22
+abbrev from22 : tie.Start → Verdict
+from22 s = v22 s then (v23 s then v24 s)
+
+abbrev from23 : tie.Start → Verdict
+from23 s = v23 s then v24 s
+
+-- where the function begins, from past each kind
+abbrev past21 : tie.After-enum-told → tie.Start
+past21 c = c .before .before .before .before .before .before .before .before .before .before .before
+
+abbrev past22 : tie.After-enum-told2 → tie.Start
+past22 c = past21 (c .before .before .before)
+
+abbrev past23 : tie.After-enum-told3 → tie.Start
+past23 c = past22 (c .before .before .before)
+
+-- there the kind gave nothing
+ok21 : (c : tie.After-enum-told) → v21 (past21 c) ≡ none
 ok21 c =
     let f = c .before .before .check-partition in
     went-on (f .result) _ (c .before .match .keys1) (numbered21 _ _ _) (f .ensures)
 
-ok22 :
-    (c : tie.After-enum-told2) →
-    check22 (gameOf (tables (c .before .before .before .before .before .before .before .before .before .before .before .before .before .before)))
-    (c .before .before .before .before .before .before .before .before .before .before .before .before .before .before .args .even .now)
-    (c .before .before .before .before .before .before .before .before .before .before .before .before .before .before .args .strategy .now) ≡ none
+ok22 : (c : tie.After-enum-told2) → v22 (past22 c) ≡ none
 ok22 c =
     let f = c .before .before .check-entries in
-    sym (check22-is (tables (c .before .before .before .before .before .before .before .before .before .before .before .before .before .before))
-    (c .before .before .before .before .before .before .before .before .before .before .before .before .before .before .args .even .now)
-    (c .before .before .before .before .before .before .before .before .before .before .before .before .before .before .args .odd .now)
-    (c .before .before .before .before .before .before .before .before .before .before .before .before .before .before .args .strategy .now)
-    (c .before .before .before .before .before .before .before .before .before .before .before .before .before .before .args .work .now)
-    (c .before .before .before .before .before .before .before .before .before .before .before .before .before .before .pre)) ∙
+    sym (check22-is (past22 c .pre)) ∙
     went-on (f .result) _ (c .before .match2 .keys1) (numbered-givenAt 22 _ _ (omega arith)) (f .ensures)
 
-ok23 :
-    (c : tie.After-enum-told3) →
-    check23 (gameOf (tables
-    (c .before .before .before .before .before .before .before .before .before .before .before .before .before .before .before .before .before)))
-    (c .before .before .before .before .before .before .before .before .before .before .before .before .before .before .before .before .before .args .even .now) (c .before .before .before .before .before .before .before .before .before .before .before .before .before .before .before .before .before .args .strategy .now) ≡ none
+ok23 : (c : tie.After-enum-told3) → v23 (past23 c) ≡ none
 ok23 c =
     let f = c .before .before .check-sides in
-    sym (check23-is (tables
-    (c .before .before .before .before .before .before .before .before .before .before .before .before .before .before .before .before .before))
-    (c .before .before .before .before .before .before .before .before .before .before .before .before .before .before .before .before .before .args .even .now) (c .before .before .before .before .before .before .before .before .before .before .before .before .before .before .before .before .before .args .odd .now) (c .before .before .before .before .before .before .before .before .before .before .before .before .before .before .before .before .before .args .strategy .now) (c .before .before .before .before .before .before .before .before .before .before .before .before .before .before .before .before .before .args .work .now) (c .before .before .before .before .before .before .before .before .before .before .before .before .before .before .before .before .before .pre)) ∙
+    sym (check23-is (past23 c .pre)) ∙
     went-on (f .result) _ (c .before .match3 .keys1) (numbered-givenAt 23 _ _ (omega arith)) (f .ensures)
 
+-- equal verdicts give equal outcomes
+out : {u v : Verdict} → u ≡ v → outcome u (answered 0) ≡ outcome v (answered 0)
+out e = ap (λ (v : Verdict). outcome v (answered 0)) e
+
 check-partition-requires : tie.Need-check-partition-requires
-check-partition-requires c κs =
-    let s = c .before .before .before .before .before .before .before .before in partition-ready (tables s) (s .args .even .now) (s .args .odd .now)
-    (s .args .strategy .now) (s .args .work .now) (s .pre)
+check-partition-requires c κs = partition-ready (c .before .before .before .before .before .before .before .before .pre)
 
 enum-told : tie.Need-enum-told
 enum-told c = search needs
@@ -78,67 +77,58 @@ returns : tie.Need-returns
 returns c =
     let s = c .before .before .before .before .before .before .before .before .before .before in
     let f = c .before .check-partition in
-    certify-stops (tables s) (s .args .even .now) (s .args .odd .now) (s .args .strategy .now) (s .args .work .now) (s .pre) (said (f .result))
-    (from21 (tables s) (s .args .even .now) (s .args .odd .now) (s .args .strategy .now) (s .args .work .now) (s .pre) (said (f .result))
-    (stopped (f .result) (v21 s) (v22 s then (v23 s then v24 s)) (answered 0) (c .match .keys2) (f .ensures)))
+    certify-stops (s .pre) (stopped (f .result) (v21 s) (from22 s) (answered 0) (c .match .keys2) (f .ensures))
 
 check-entries-requires : tie.Need-check-entries-requires
-check-entries-requires c κs =
-    let s = c .before .before .before .before .before .before .before .before .before .before .before in entries-ready (tables s) (s .args .even .now)
-    (s .args .odd .now) (s .args .strategy .now) (s .args .work .now) (s .pre)
+check-entries-requires c κs = entries-ready (past21 c .pre)
 
 enum-told-2 : tie.Need-enum-told-2
 enum-told-2 c = search needs
 
 returns-2 : tie.Need-returns-2
 returns-2 c =
-    let s = c .before .before .before .before .before .before .before .before .before .before .before .before .before in
+    let d = c .before .before in
+    let s = past21 d in
     let f = c .before .check-entries in
-    certify-stops (tables s) (s .args .even .now) (s .args .odd .now) (s .args .strategy .now) (s .args .work .now) (s .pre) (said (f .result))
-    (from21 (tables s) (s .args .even .now) (s .args .odd .now) (s .args .strategy .now) (s .args .work .now) (s .pre) (said (f .result))
-    (past (said (f .result)) (answered 0) (v21 s) (v22 s then (v23 s then v24 s)) (ok21 (c .before .before))
-    (stopped (f .result) (v22 s) (v23 s then v24 s) (answered 0) (c .match2 .keys2)
-    (f .ensures ∙ ap (λ (v : Verdict). outcome v (answered 0))
-    (check22-is (tables s) (s .args .even .now) (s .args .odd .now) (s .args .strategy .now) (s .args .work .now) (s .pre))))))
+    certify-stops (s .pre)
+    (past (from22 s) (ok21 d)
+    (stopped (f .result) (v22 s) (from23 s) (answered 0) (c .match2 .keys2) (f .ensures ∙ out (check22-is (s .pre)))))
 
 check-sides-requires : tie.Need-check-sides-requires
-check-sides-requires c κs =
-    let s = c .before .before .before .before .before .before .before .before .before .before .before .before .before .before in sides-ready
-    (tables s) (s .args .even .now) (s .args .odd .now) (s .args .strategy .now) (s .args .work .now) (s .pre) (ok22 c)
+check-sides-requires c κs = sides-ready (past22 c .pre) (ok22 c)
 
 enum-told-3 : tie.Need-enum-told-3
 enum-told-3 c = search needs
 
 returns-3 : tie.Need-returns-3
 returns-3 c =
-    let s = c .before .before .before .before .before .before .before .before .before .before .before .before .before .before .before .before in
+    let d = c .before .before in
+    let s = past22 d in
     let f = c .before .check-sides in
-    certify-stops (tables s) (s .args .even .now) (s .args .odd .now) (s .args .strategy .now) (s .args .work .now) (s .pre) (said (f .result))
-    (from21 (tables s) (s .args .even .now) (s .args .odd .now) (s .args .strategy .now) (s .args .work .now) (s .pre) (said (f .result))
-    (past (said (f .result)) (answered 0) (v21 s) (v22 s then (v23 s then v24 s)) (ok21 (c .before .before .before .before .before))
-    (past (said (f .result)) (answered 0) (v22 s) (v23 s then v24 s) (ok22 (c .before .before))
-    (stopped (f .result) (v23 s) (v24 s) (answered 0) (c .match3 .keys2)
-    (f .ensures ∙ ap (λ (v : Verdict). outcome v (answered 0))
-    (check23-is (tables s) (s .args .even .now) (s .args .odd .now) (s .args .strategy .now) (s .args .work .now) (s .pre)))))))
+    certify-stops (s .pre)
+    (past (from22 s) (ok21 (d .before .before .before))
+    (past (from23 s) (ok22 d)
+    (stopped (f .result) (v23 s) (v24 s) (answered 0) (c .match3 .keys2) (f .ensures ∙ out (check23-is (s .pre))))))
 
 check-cycles-requires : tie.Need-check-cycles-requires
 check-cycles-requires c κs =
-    let s = c .before .before .before .before .before .before .before .before .before .before .before .before .before .before .before .before .before .before in cycles-given (tables s) (s .args .even .now) (s .args .odd .now) (s .args .strategy .now) (s .args .work .now) (s .pre) (ok22 (c .before .before .before .before)) (ok23 (c .before))
+    let d = c .before in cycles-given (past23 d .pre) (ok22 (d .before .before .before)) (ok23 d)
 
 same-length : tie.Need-same-length
 same-length c = search needs
 
 returns-4 : tie.Need-returns-4
 returns-4 c =
-    let s = c .before .before .before .before .before .before .before .before .before .before .before .before .before .before .before .before .before .before .before .before .before in
+    let d = c .before .before .before .before in
+    let e = d .before .before .before in
+    let s = past23 d in
     let f = c .before .before .check-cycles in
     record {
       gives =
-          from21 (tables s) (s .args .even .now) (s .args .odd .now) (s .args .strategy .now) (s .args .work .now) (s .pre) (said (f .result))
-          (past (said (f .result)) (answered 0) (v21 s) (v22 s then (v23 s then v24 s))
-          (ok21 (c .before .before .before .before .before .before .before .before .before .before))
-          (past (said (f .result)) (answered 0) (v22 s) (v23 s then v24 s) (ok22 (c .before .before .before .before .before .before .before))
-          (past (said (f .result)) (answered 0) (v23 s) (v24 s) (ok23 (c .before .before .before .before)) (f .ensures .gives))));
+          from21 (s .pre)
+          (past (from22 s) (ok21 (e .before .before .before))
+          (past (from23 s) (ok22 e)
+          (past (v24 s) (ok23 d) (f .ensures .gives))));
       long = f .ensures .long;
       beyond = f .ensures .beyond;
     }

@@ -1,15 +1,11 @@
 -- `check` meets its contract: after a refusal nothing was touched, and else the work area is cleared.
-use mathlib.Core.Path.{_≡_, subst}
-use Prim.Native.Nat.{ℕ}
-use lib.ListN.{length}
-use Rattle.rules.specs.Outcome.{none, answered}
+use mathlib.Core.Path.{_≡_}
+use Rattle.rules.specs.Outcome.{Verdict, none, answered}
 use Rattle.rules.specs.Checker.{certificateChecks}
 use Rattle.rules.specs.Tables.{Tables, gameOf, tablesOf}
 use Rattle.parity_game.proofs.Matched.{went-on, stopped, refusal-not-zero}
-use Rattle.parity_game.specs.Said.{said}
-use Rattle.parts.specs.Area.{Cleared}
-use Rattle.solver.specs.Checks.{checksBy, numbered-by}
-use Rattle.checker.specs.Checks.{checks-refused, certify-given, work-fits, checks-done}
+use Rattle.solver.specs.Checks.{numbered-by}
+use Rattle.checker.specs.Checks.{Certifiable, refusals, checks-refused, certify-given, work-fits, checks-done}
 use native.Mathlib.Omega.{arith}
 use borrow.Author.Needs.{needs}
 use Rattle.checker.proofs.check.Statement.{statement}
@@ -18,17 +14,26 @@ use Rattle.checker.proofs.check.Tie as tie
 abbrev tables : tie.Start → Tables
 tables s = tablesOf (s .args .owners .now) (s .args .priorities .now) (s .args .offsets .now) (s .args .targets .now)
 
--- past the checks
-ok :
-    (c : tie.After-enum-told) →
-    checksBy (tables (c .before .before .before .before .before .before .before .before .before .before .before))
-    (length (c .before .before .before .before .before .before .before .before .before .before .before .args .even .now))
-    (length (c .before .before .before .before .before .before .before .before .before .before .before .args .odd .now))
-    (length (c .before .before .before .before .before .before .before .before .before .before .before .args .strategy .now))
-    (length (c .before .before .before .before .before .before .before .before .before .before .before .args .work .now)) ≡ none
-ok c =
-    let f = c .before .before .check-all in
-    went-on (f .result) _ (c .before .match .keys1) (numbered-by _ _ _ _ _) (f .ensures)
+-- the checks before the kinds
+abbrev first : tie.Start → Verdict
+first s = refusals (tables s) (s .args .even .now) (s .args .odd .now) (s .args .strategy .now) (s .args .work .now)
+
+-- where the function begins, from past them
+abbrev start : tie.After-enum-told → tie.Start
+start d = d .before .before .before .before .before .before .before .before .before .before .before
+
+-- there they gave nothing
+ok : (d : tie.After-enum-told) → first (start d) ≡ none
+ok d =
+    let f = d .before .before .check-all in
+    went-on (f .result) _ (d .before .match .keys1) (numbered-by _ _ _ _ _) (f .ensures)
+
+-- so the kinds may be checked
+certifiable :
+    (d : tie.After-enum-told) →
+    let a = start d .args in
+    Certifiable (tables (start d)) (a .even .now) (a .odd .now) (a .strategy .now) (a .work .now)
+certifiable d = certify-given (ok d)
 
 check-all-requires : tie.Need-check-all-requires
 check-all-requires c κs = search needs
@@ -39,30 +44,24 @@ enum-told c = search needs
 returns : tie.Need-returns
 returns c =
     let s = c .before .before .before .before .before .before .before .before .before .before in
+    let a = s .args in
     let f = c .before .check-all in
-    checks-refused (tables s) (s .args .even .now) (s .args .odd .now) (s .args .strategy .now) (s .args .work .now) (said (f .result))
-    (stopped (f .result) (checksBy (tables s) (length (s .args .even .now)) (length (s .args .odd .now)) (length (s .args .strategy .now))
-    (length (s .args .work .now)))
-    (certificateChecks (gameOf (tables s)) (s .args .even .now) (s .args .odd .now) (s .args .strategy .now)) (answered 0) (c .match .keys2)
-    (f .ensures)) (f .ensures) (refusal-not-zero (f .result) (c .match .keys2))
+    checks-refused
+    (stopped (f .result) (first s) (certificateChecks (gameOf (tables s)) (a .even .now) (a .odd .now) (a .strategy .now))
+    (answered 0) (c .match .keys2) (f .ensures))
+    (f .ensures)
+    (refusal-not-zero (f .result) (c .match .keys2))
 
 certify-requires : tie.Need-certify-requires
-certify-requires c κs =
-    let s = c .before .before .before .before .before .before .before .before .before .before .before .before in certify-given (tables s)
-    (s .args .even .now) (s .args .odd .now) (s .args .strategy .now) (s .args .work .now) (ok (c .before))
+certify-requires c κs = certifiable (c .before)
 
 work-words-requires : tie.Need-work-words-requires
-work-words-requires c κs =
-    let s = c .before .before .before .before .before .before .before .before .before .before .before .before .before .before .before .before in
-    work-fits (tables s) (s .args .even .now) (s .args .odd .now) (s .args .strategy .now) (s .args .work .now)
-    (ok (c .before .before .before .before .before))
+work-words-requires c κs = work-fits (certifiable (c .before .before .before .before .before))
 
 clear-requires : tie.Need-clear-requires
 clear-requires c κs =
-    let s = c .before .before .before .before .before .before .before .before .before .before .before .before .before .before .before .before .before in
     let f = c .before .before .before .before .certify in
-    let room = certify-given (tables s) (s .args .even .now) (s .args .odd .now) (s .args .strategy .now) (s .args .work .now)
-    (ok (c .before .before .before .before .before .before)) .room in
+    let room = certifiable (c .before .before .before .before .before .before) .room in
     (omega arith, omega (arith, f .ensures .long, c .work-words .ensures))
 
 same-length : tie.Need-same-length
@@ -70,13 +69,9 @@ same-length c = search needs
 
 returns-2 : tie.Need-returns-2
 returns-2 c =
-    let s = c .before .before .before .before .before .before .before .before .before .before .before .before .before .before .before .before .before .before .before .before in
-    let f = c .before .before .before .before .before .before .before .certify in
-    let z = c .before .before .clear in
-    checks-done (tables s) (s .args .even .now) (s .args .odd .now) (s .args .strategy .now) (s .args .work .now)
-    (ok (c .before .before .before .before .before .before .before .before .before)) (f .last .1 .1 .1 .1 .1 .1 .1 .0) (z .last .0) (said (f .result))
-    (f .ensures)
-    (subst (λ (k : ℕ). Cleared 0 k (f .last .1 .1 .1 .1 .1 .1 .1 .0) (z .last .0)) (c .before .before .before .work-words .ensures) (z .ensures))
+    let z = c .before .before in
+    let e = z .before .before .before .before .before in
+    checks-done (ok (e .before .before)) (e .certify .ensures) (z .before .work-words .ensures) (z .clear .ensures)
 
 pub check-spec : {M : Type 1} → statement M
 check-spec =

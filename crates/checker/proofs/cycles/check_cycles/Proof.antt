@@ -1,19 +1,28 @@
 -- `check_cycles` meets its contract: the search over the marks is the rule's 24.
-use Rattle.rules.specs.Tables.{Tables, tablesOf}
-use Rattle.parity_game.specs.Said.{said}
+use lib.ListN.{length}
+use Rattle.parts.specs.Area.{behind}
+use Rattle.checker.specs.Cycles.{Scannable}
 use Rattle.checker.specs.Checks.{cycles-ready, scan-ready, cycles-told}
 use native.Mathlib.Omega.{arith}
 use borrow.Author.Needs.{needs}
 use Rattle.checker.proofs.cycles.check_cycles.Statement.{statement}
 use Rattle.checker.proofs.cycles.check_cycles.Tie as tie
 
-abbrev tables : tie.Start → Tables
-tables s = tablesOf (s .args .owners .now) (s .args .priorities .now) (s .args .offsets .now) (s .args .targets .now)
+-- where the function begins
+abbrev start : tie.After-mark-cycles → tie.Start
+start d = d .before .before .before .before .before .before .before .before .before
+
+-- the rows of marks may be searched
+scannable :
+    (d : tie.After-mark-cycles) →
+    let a = start d .args in
+    let n = length (a .priorities .now) in
+    Scannable (a .even .now) (d .mark-cycles .last .1 .1 .1 .1 .1 .0) (behind n (length (a .targets .now))) n
+scannable d = scan-ready (start d .pre) (d .mark-cycles .ensures)
 
 mark-cycles-requires : tie.Need-mark-cycles-requires
 mark-cycles-requires c κs =
-    let s = c .before .before .before .before .before .before .before .before in
-    cycles-ready (tables s) (s .args .even .now) (s .args .strategy .now) (s .args .work .now) (s .pre)
+    let s = c .before .before .before .before .before .before .before .before in cycles-ready (s .pre)
 
 add-find-losing : tie.Need-add-find-losing
 add-find-losing c = search needs
@@ -29,47 +38,38 @@ add-find-losing-4 c = search needs
 
 add-find-losing-5 : tie.Need-add-find-losing-5
 add-find-losing-5 c =
-    let s = c .before .before .before .before .before .before .before .before .before .before .before .before in
-    let f = c .before .before .before .mark-cycles in
-    let h = scan-ready (tables s) (s .args .even .now) (s .args .strategy .now) (s .args .work .now) (s .pre) (f .last .1 .1 .1 .1 .1 .0) (f .ensures) .room in
-    omega (arith, f .ensures .long)
+    let d = c .before .before .before in
+    let s = start d in
+    omega (arith, scannable d .room, d .mark-cycles .ensures .long)
 
 add-find-losing-6 : tie.Need-add-find-losing-6
 add-find-losing-6 c =
-    let s = c .before .before .before .before .before .before .before .before .before .before .before .before in
-    let f = c .before .before .before .mark-cycles in
-    let h = scan-ready (tables s) (s .args .even .now) (s .args .strategy .now) (s .args .work .now) (s .pre) (f .last .1 .1 .1 .1 .1 .0) (f .ensures) .room in
-    omega (arith, f .ensures .long)
+    let d = c .before .before .before in
+    let s = start d in
+    omega (arith, scannable d .room, d .mark-cycles .ensures .long)
 
 add-find-losing-7 : tie.Need-add-find-losing-7
 add-find-losing-7 c =
-    let s = c .before .before .before .before .before .before .before .before .before .before .before .before in
-    let f = c .before .before .before .mark-cycles in
-    let h = scan-ready (tables s) (s .args .even .now) (s .args .strategy .now) (s .args .work .now) (s .pre) (f .last .1 .1 .1 .1 .1 .0) (f .ensures) .room in
-    omega (arith, f .ensures .long)
+    let d = c .before .before .before in
+    let s = start d in
+    omega (arith, scannable d .room, d .mark-cycles .ensures .long)
 
 add-find-losing-8 : tie.Need-add-find-losing-8
 add-find-losing-8 c =
-    let s = c .before .before .before .before .before .before .before .before .before .before .before .before in
-    let f = c .before .before .before .mark-cycles in
-    let h = scan-ready (tables s) (s .args .even .now) (s .args .strategy .now) (s .args .work .now) (s .pre) (f .last .1 .1 .1 .1 .1 .0) (f .ensures) .room in
-    omega (arith, f .ensures .long)
+    let d = c .before .before .before in
+    let s = start d in
+    omega (arith, scannable d .room, d .mark-cycles .ensures .long)
 
 find-losing-requires : tie.Need-find-losing-requires
-find-losing-requires c κs =
-    let s = c .before .before .before .before .before .before .before .before .before .before .before .before in
-    let f = c .before .before .before .mark-cycles in
-    scan-ready (tables s) (s .args .even .now) (s .args .strategy .now) (s .args .work .now) (s .pre) (f .last .1 .1 .1 .1 .1 .0) (f .ensures)
+find-losing-requires c κs = scannable (c .before .before .before)
 
 same-length : tie.Need-same-length
 same-length c = search needs
 
 returns : tie.Need-returns
 returns c =
-    let s = c .before .before .before .before .before .before .before .before .before .before .before .before .before in
-    let f = c .before .before .before .before .mark-cycles in
-    cycles-told (tables s) (s .args .even .now) (s .args .strategy .now) (s .args .work .now) (s .pre) (f .last .1 .1 .1 .1 .1 .0) (f .ensures)
-    (said (c .find-losing .result)) (c .find-losing .ensures)
+    let d = c .before .before .before .before in
+    cycles-told (start d .pre) (d .mark-cycles .ensures) (c .find-losing .ensures)
 
 pub check-cycles-spec : {M : Type 1} → statement M
 check-cycles-spec =

@@ -21,13 +21,16 @@ loop-holds : tie.Need-loop-holds Inv-loop μ-loop
 loop-holds c = (search needs, below-none _)
 
 is-losing-requires : tie.Need-is-losing-requires Inv-loop μ-loop
-is-losing-requires c κs = let s = c .before .before .before .before in (omega (arith, s .pre .sets), omega arith, omega (arith, s .pre .room))
+is-losing-requires c κs =
+    let s = c .before .before .before .before in
+    (omega (arith, s .pre .sets), omega arith, omega (arith, s .pre .room))
 
 returns : tie.Need-returns Inv-loop μ-loop
 returns c =
     let s = c .before .before .before .before .before .before in
     let l = c .before .before .before .loop in
-    outcome-found 24 _ (losingAt (s .args .even .now) (s .args .work .now) (s .args .rows) (s .args .n)) (answered 0) (l .v) (omega arith) (l .inv .1)
+    outcome-found 24 _ (losingAt (s .args .even .now) (s .args .work .now) (s .args .rows) (s .args .n)) (answered 0) (l .v)
+    (omega arith) (l .inv .1)
     (sym (c .before .is-losing .ensures) ∙ c .if1 .taken)
 
 add-v : tie.Need-add-v Inv-loop μ-loop
@@ -37,13 +40,16 @@ loop-less : tie.Need-loop-less Inv-loop μ-loop
 loop-less c = search needs
 
 loop-again : tie.Need-loop-again Inv-loop μ-loop
-loop-again c = let l = c .before .before .before .loop in (omega arith, below-more _ _ (l .inv .1) (sym (c .before .is-losing .ensures) ∙ c .if1 .left))
+loop-again c =
+    let l = c .before .before .before .loop in
+    (omega arith, below-more _ _ (l .inv .1) (sym (c .before .is-losing .ensures) ∙ c .if1 .left))
 
 returns-2 : tie.Need-returns-2 Inv-loop μ-loop
 returns-2 c =
     let s = c .before .before .before .before in
     let l = c .before .loop in
-    outcome-none 24 _ (losingAt (s .args .even .now) (s .args .work .now) (s .args .rows) (s .args .n)) (answered 0) (λ k h. l .inv .1 k (omega arith))
+    outcome-none 24 _ (losingAt (s .args .even .now) (s .args .work .now) (s .args .rows) (s .args .n)) (answered 0)
+    (λ k h. l .inv .1 k (omega arith))
 
 pub find-losing-spec : {M : Type 1} → statement M
 find-losing-spec =

@@ -24,7 +24,8 @@ shared-slice-read-result c = search needs
 returns : tie.Need-returns
 returns c =
     let a = c .before .before .before .before .before .args in
-    losing-even (a .even .now) (a .work .now) (a .rows) (a .n) (a .v) (sym (c .before .before .contains .ensures) ∙ c .before .if1 .taken)
+    losing-even (a .even .now) (a .work .now) (a .rows) (a .n) (a .v)
+    (sym (c .before .before .contains .ensures) ∙ c .before .if1 .taken)
 
 add-result-3 : tie.Need-add-result-3
 add-result-3 c = search needs
@@ -38,7 +39,8 @@ shared-slice-read-result-2 c = search needs
 returns-2 : tie.Need-returns-2
 returns-2 c =
     let a = c .before .before .before .before .before .args in
-    losing-odd (a .even .now) (a .work .now) (a .rows) (a .n) (a .v) (sym (c .before .before .contains .ensures) ∙ c .before .if1 .left)
+    losing-odd (a .even .now) (a .work .now) (a .rows) (a .n) (a .v)
+    (sym (c .before .before .contains .ensures) ∙ c .before .if1 .left)
 
 pub is-losing-spec : {M : Type 1} → statement M
 is-losing-spec =

@@ -1,9 +1,31 @@
 -- `mark_cycles` meets its contract: each stage leaves what the next one needs.
-use Rattle.checker.specs.Cycles.{build-ready, evens-ready, odds-ready, cycles-marked}
+use Rattle.checker.specs.Cycles.{CyclesMarked, build-ready, evens-ready, odds-ready, cycles-marked}
 use native.Mathlib.Omega.{arith}
 use borrow.Author.Needs.{needs}
 use Rattle.checker.proofs.cycles.mark_cycles.Statement.{statement}
 use Rattle.checker.proofs.cycles.mark_cycles.Tie as tie
+
+-- where the function begins, where the rows are cleared, and where the table is built
+abbrev start : tie.After-clear → tie.Start
+start k = k .before .before .before .before .before .before .before .before
+
+abbrev cleared : tie.After-build → tie.After-clear
+cleared b = b .before .before .before .before
+
+abbrev built : tie.After-mark-parity → tie.After-build
+built e = e .before .before .before .before
+
+-- both rows are marked
+all-marked :
+    (o : tie.After-mark-parity2) →
+    let a = start (cleared (built (o .before .before .before .before))) .args in
+    CyclesMarked (a .owners .now) (a .priorities .now) (a .offsets .now) (a .targets .now) (a .strategy .now) (a .work .now)
+    (o .mark-parity2 .last .1 .1 .1 .1 .1 .0)
+all-marked o =
+    let e = o .before .before .before .before in
+    let b = built e in
+    let k = cleared b in
+    cycles-marked (start k .pre) (k .clear .ensures) (b .build .ensures) (e .mark-parity .ensures) (o .mark-parity2 .ensures)
 
 add-rows : tie.Need-add-rows
 add-rows c = search needs
@@ -40,57 +62,29 @@ clear-requires c κs = search needs
 
 build-requires : tie.Need-build-requires
 build-requires c κs =
-    let s = c .before .before .before .before .before .before .before .before .before .before .before in
-    let a = s .args in
-    let f1 = c .before .before .before .clear in
-    build-ready (a .owners .now) (a .priorities .now) (a .offsets .now) (a .targets .now) (a .strategy .now) (a .work .now) (s .pre) (f1 .last .0) (f1 .ensures)
+    let k = c .before .before .before in build-ready (start k .pre) (k .clear .ensures)
 
 mark-parity-requires : tie.Need-mark-parity-requires
 mark-parity-requires c κs =
-    let s = c .before .before .before .before .before .before .before .before .before .before .before .before .before .before .before in
-    let a = s .args in
-    let f1 = c .before .before .before .before .before .before .before .clear in
-    let f2 = c .before .before .before .build in
-    evens-ready (a .owners .now) (a .priorities .now) (a .offsets .now) (a .targets .now) (a .strategy .now) (a .work .now) (s .pre) (f1 .last .0)
-    (f1 .ensures) (f2 .last .1 .1 .1 .0) (f2 .ensures)
+    let b = c .before .before .before in
+    let k = cleared b in
+    evens-ready (start k .pre) (k .clear .ensures) (b .build .ensures)
 
 add-mark-parity : tie.Need-add-mark-parity
 add-mark-parity c = search needs
 
 mark-parity-requires-2 : tie.Need-mark-parity-requires-2
 mark-parity-requires-2 c κs =
-    let s = c .before .before .before .before .before .before .before .before .before .before .before .before .before .before .before .before .before .before .before in
-    let a = s .args in
-    let f1 = c .before .before .before .before .before .before .before .before .before .before .before .clear in
-    let f2 = c .before .before .before .before .before .before .before .build in
-    let f3 = c .before .before .before .mark-parity in
-    odds-ready (a .owners .now) (a .priorities .now) (a .offsets .now) (a .targets .now) (a .strategy .now) (a .work .now) (s .pre) (f1 .last .0)
-    (f1 .ensures) (f2 .last .1 .1 .1 .0) (f2 .ensures)
-    (f3 .last .1 .1 .1 .1 .1 .0) (f3 .ensures)
+    let e = c .before .before .before in
+    let b = built e in
+    let k = cleared b in
+    odds-ready (start k .pre) (k .clear .ensures) (b .build .ensures) (e .mark-parity .ensures)
 
 same-length : tie.Need-same-length
-same-length c =
-    let s = c .before .before .before .before .before .before .before .before .before .before .before .before .before .before .before .before .before .before .before .before .before .before in
-    let a = s .args in
-    let f1 = c .before .before .before .before .before .before .before .before .before .before .before .before .before .before .clear in
-    let f2 = c .before .before .before .before .before .before .before .before .before .before .build in
-    let f3 = c .before .before .before .before .before .before .mark-parity in
-    let f4 = c .before .before .mark-parity2 in
-    cycles-marked (a .owners .now) (a .priorities .now) (a .offsets .now) (a .targets .now) (a .strategy .now) (a .work .now) (s .pre) (f1 .last .0)
-    (f1 .ensures) (f2 .last .1 .1 .1 .0) (f2 .ensures)
-    (f3 .last .1 .1 .1 .1 .1 .0) (f3 .ensures) (f4 .last .1 .1 .1 .1 .1 .0) (f4 .ensures) .long
+same-length c = all-marked (c .before .before) .long
 
 returns : tie.Need-returns
-returns c =
-    let s = c .before .before .before .before .before .before .before .before .before .before .before .before .before .before .before .before .before .before .before .before .before .before in
-    let a = s .args in
-    let f1 = c .before .before .before .before .before .before .before .before .before .before .before .before .before .before .clear in
-    let f2 = c .before .before .before .before .before .before .before .before .before .before .build in
-    let f3 = c .before .before .before .before .before .before .mark-parity in
-    let f4 = c .before .before .mark-parity2 in
-    cycles-marked (a .owners .now) (a .priorities .now) (a .offsets .now) (a .targets .now) (a .strategy .now) (a .work .now) (s .pre) (f1 .last .0)
-    (f1 .ensures) (f2 .last .1 .1 .1 .0) (f2 .ensures)
-    (f3 .last .1 .1 .1 .1 .1 .0) (f3 .ensures) (f4 .last .1 .1 .1 .1 .1 .0) (f4 .ensures)
+returns c = all-marked (c .before .before)
 
 pub mark-cycles-spec : {M : Type 1} → statement M
 mark-cycles-spec =

@@ -1,4 +1,5 @@
--- `check_entries` meets its contract. The loop over vertices: no entry passed is wrong. The loop over a vertex's edges: none passed is the entry.
+-- `check_entries` meets its contract. The loop over vertices: no entry passed is wrong. The loop over a vertex's edges: none
+-- passed is the entry.
 use mathlib.Core.Bool.{false}
 use mathlib.Core.Path.{_≡_, refl, sym, ap, _∙_}
 use Prim.Native.Nat.{ℕ, _+_, _-_, _≤_, _<_}
@@ -7,6 +8,7 @@ use borrow.Author.Count.{below-none, below-more}
 use borrow.Author.Tests.{not-true, not-false, ne-eqb}
 use lib.Dec.{eqb}
 use lib.ListN.{length, getD}
+use Rattle.rules.specs.Counting.{Set}
 use Rattle.rules.specs.Outcome.{answered}
 use Rattle.parity_game.specs.Search.{FailsBelow, outcome-found, outcome-none}
 use Rattle.checker.specs.Sides.{wrongEntry, edges-end, from-more, entry-other, entry-none, entry-target, entry-no-target}
@@ -30,11 +32,28 @@ Inv-vertices owners offsets targets even strategy v₀ v-end v =
 abbrev μ-vertices : tie.MeasureT-vertices
 μ-vertices owners offsets targets even strategy v₀ v-end v = v-end - v
 
+-- where the function begins, and the vertex of a turn, from where its owner is known
+abbrev start : tie.After-is-own Inv-loop μ-loop Inv-vertices μ-vertices → tie.Start Inv-loop μ-loop Inv-vertices μ-vertices
+start d = d .before .before .before .before .before .before .before .before
+
+abbrev turn : tie.After-is-own Inv-loop μ-loop Inv-vertices μ-vertices → tie.At-vertices Inv-loop μ-loop Inv-vertices μ-vertices
+turn d = d .before .before
+
+-- where its owner is known, from a turn over its edges
+abbrev owned : tie.At-loop Inv-loop μ-loop Inv-vertices μ-vertices → tie.After-is-own Inv-loop μ-loop Inv-vertices μ-vertices
+owned e = e .before .before .before .before
+
+-- the vertices whose entries are wrong
+abbrev wrong : tie.Start Inv-loop μ-loop Inv-vertices μ-vertices → Set
+wrong s =
+    let a = s .args in wrongEntry (a .owners .now) (a .offsets .now) (a .targets .now) (a .even .now) (a .strategy .now)
+
 vertices-holds : tie.Need-vertices-holds Inv-loop μ-loop Inv-vertices μ-vertices
 vertices-holds c = (search needs, refl, below-none _)
 
 is-own-requires : tie.Need-is-own-requires Inv-loop μ-loop Inv-vertices μ-vertices
-is-own-requires c κs = let s = c .before .before .before .before .before .before .before in (omega arith, omega (arith, s .pre .even-long))
+is-own-requires c κs =
+    let s = c .before .before .before .before .before .before .before in (omega arith, omega (arith, s .pre .even-long))
 
 mul-if2 : tie.Need-mul-if2 Inv-loop μ-loop Inv-vertices μ-vertices
 mul-if2 c = search needs
@@ -44,12 +63,12 @@ shared-slice-read-if2 c = search needs
 
 returns : tie.Need-returns Inv-loop μ-loop Inv-vertices μ-vertices
 returns c =
-    let s = c .before .before .before .before .before .before .before .before .before .before .before in
-    let l = c .before .before .before .before .before .vertices in
-    outcome-found 22 _ (wrongEntry (s .args .owners .now) (s .args .offsets .now) (s .args .targets .now) (s .args .even .now)
-    (s .args .strategy .now)) (answered 0) (l .v) (omega arith) (l .inv .2)
-    (entry-other (s .args .owners .now) (s .args .offsets .now) (s .args .targets .now) (s .args .even .now) (s .args .strategy .now) (s .pre) (l .v)
-    (omega arith) (sym (c .before .before .before .is-own .ensures) ∙ not-true _ (c .before .before .if1 .taken)) (c .if2 .taken))
+    let d = c .before .before .before in
+    let s = start d in
+    let l = turn d .vertices in
+    outcome-found 22 _ (wrong s) (answered 0) (l .v) (omega arith) (l .inv .2)
+    (entry-other (s .pre) (l .v) (omega arith) (sym (d .is-own .ensures) ∙ not-true _ (c .before .before .if1 .taken))
+    (c .if2 .taken))
 
 add-v : tie.Need-add-v Inv-loop μ-loop Inv-vertices μ-vertices
 add-v c = search needs
@@ -59,13 +78,13 @@ vertices-less c = search needs
 
 vertices-again : tie.Need-vertices-again Inv-loop μ-loop Inv-vertices μ-vertices
 vertices-again c =
-    let s = c .before .before .before .before .before .before .before .before .before .before .before in
-    let l = c .before .before .before .before .before .vertices in (
+    let d = c .before .before .before in
+    let l = turn d .vertices in (
       omega arith,
       refl,
       below-more _ _ (l .inv .2)
-          (entry-none (s .args .owners .now) (s .args .offsets .now) (s .args .targets .now) (s .args .even .now) (s .args .strategy .now) (s .pre) (l .v)
-          (omega arith) (sym (c .before .before .before .is-own .ensures) ∙ not-true _ (c .before .before .if1 .taken)) (c .if2 .left)),
+          (entry-none (start d .pre) (l .v) (omega arith)
+          (sym (d .is-own .ensures) ∙ not-true _ (c .before .before .if1 .taken)) (c .if2 .left)),
     )
 
 mul-e : tie.Need-mul-e Inv-loop μ-loop Inv-vertices μ-vertices
@@ -91,13 +110,14 @@ cast-e-end c = omega (arith, c .shared-slice-known8 .given (c .before .before .b
 
 loop-holds : tie.Need-loop-holds Inv-loop μ-loop Inv-vertices μ-vertices
 loop-holds c =
-    let s = c .before .before .before .before .before .before .before .before .before .before .before in
-    let l = c .before .before .before .before .before .vertices in (
+    let d = c .before .before .before in
+    let s = start d in
+    let l = turn d .vertices in (
       refl,
       le-refl _,
       s .pre .edges .offset-next (l .v) (omega arith),
       refl,
-      edges-end _ _ _ (s .pre .edges) (l .v) (omega arith),
+      edges-end (s .pre .edges) (l .v) (omega arith),
       λ i a b. absurd (omega arith),
     )
 
@@ -121,17 +141,18 @@ vertices-less-2 c = search needs
 
 vertices-again-2 : tie.Need-vertices-again-2 Inv-loop μ-loop Inv-vertices μ-vertices
 vertices-again-2 c =
-    let s = c .before .before .before .before .before .before .before .before .before .before .before .before .before .before .before .before in
-    let l = c .before .before .before .before .before .before .before .before .before .before .vertices in
-    let i = c .before .before .before .before .loop in
+    let e = c .before .before .before .before in
+    let d = owned e in
+    let s = start d in
+    let l = turn d .vertices in
+    let i = e .loop in
     let is : i .v ≡ l .v = i .inv .0 in (
       omega arith,
       refl,
       rw is
           (below-more _ _ (l .inv .2)
-          (entry-target (s .args .owners .now) (s .args .offsets .now) (s .args .targets .now) (s .args .even .now) (s .args .strategy .now) (s .pre)
-          (l .v) (omega arith) (sym (c .before .before .before .before .before .before .before .before .is-own .ensures) ∙ not-false _
-          (c .before .before .before .before .before .before .before .if1 .left)) (i .e) (i .inv .1) (omega arith)
+          (entry-target (s .pre) (l .v) (omega arith)
+          (sym (d .is-own .ensures) ∙ not-false _ (e .before .before .before .if1 .left)) (i .e) (i .inv .1) (omega arith)
           (c .if3 .taken ∙ ap (λ (k : ℕ). getD (s .args .strategy .now) k 0) is))),
     )
 
@@ -143,37 +164,39 @@ loop-less c = search needs
 
 loop-again : tie.Need-loop-again Inv-loop μ-loop Inv-vertices μ-vertices
 loop-again c =
-    let s = c .before .before .before .before .before .before .before .before .before .before .before .before .before .before .before .before in
-    let l = c .before .before .before .before .before .before .before .before .before .before .vertices in
-    let i = c .before .before .before .before .loop in (
+    let e = c .before .before .before .before in
+    let d = owned e in
+    let s = start d in
+    let l = turn d .vertices in
+    let i = e .loop in (
       i .inv .0,
       omega arith,
       omega arith,
       refl,
       i .inv .4,
-      from-more (λ (k : ℕ). eqb (getD (s .args .strategy .now) (l .v) 0) (getD (s .args .targets .now) k 0)) false _ (i .e) (i .inv .5)
+      from-more (λ (k : ℕ). eqb (getD (s .args .strategy .now) (l .v) 0) (getD (s .args .targets .now) k 0)) false _ (i .e)
+          (i .inv .5)
           (ne-eqb _ _ (λ q. c .if3 .left (sym q ∙ ap (λ (k : ℕ). getD (s .args .strategy .now) k 0) (sym (i .inv .0))))),
     )
 
 returns-2 : tie.Need-returns-2 Inv-loop μ-loop Inv-vertices μ-vertices
 returns-2 c =
-    let s = c .before .before .before .before .before .before .before .before .before .before .before .before .before in
-    let l = c .before .before .before .before .before .before .before .vertices in
-    let i = c .before .loop in
+    let e = c .before in
+    let d = owned e in
+    let s = start d in
+    let l = turn d .vertices in
+    let i = e .loop in
     let is : i .v ≡ l .v = i .inv .0 in
     rw is
-    (outcome-found 22 _ (wrongEntry (s .args .owners .now) (s .args .offsets .now) (s .args .targets .now) (s .args .even .now)
-    (s .args .strategy .now)) (answered 0) (l .v) (omega arith) (l .inv .2)
-    (entry-no-target (s .args .owners .now) (s .args .offsets .now) (s .args .targets .now) (s .args .even .now) (s .args .strategy .now) (s .pre)
-    (l .v) (omega arith) (sym (c .before .before .before .before .before .is-own .ensures) ∙ not-false _
-    (c .before .before .before .before .if1 .left)) (i .e) (omega arith) (i .inv .5)))
+    (outcome-found 22 _ (wrong s) (answered 0) (l .v) (omega arith) (l .inv .2)
+    (entry-no-target (s .pre) (l .v) (omega arith)
+    (sym (d .is-own .ensures) ∙ not-false _ (e .before .before .before .if1 .left)) (i .e) (omega arith) (i .inv .5)))
 
 returns-3 : tie.Need-returns-3 Inv-loop μ-loop Inv-vertices μ-vertices
 returns-3 c =
     let s = c .before .before .before .before .before .before .before in
     let l = c .before .vertices in
-    outcome-none 22 _ (wrongEntry (s .args .owners .now) (s .args .offsets .now) (s .args .targets .now) (s .args .even .now)
-    (s .args .strategy .now)) (answered 0) (λ k h. l .inv .2 k (omega arith))
+    outcome-none 22 _ (wrong s) (answered 0) (λ k h. l .inv .2 k (omega arith))
 
 pub check-entries-spec : {M : Type 1} → statement M
 check-entries-spec =

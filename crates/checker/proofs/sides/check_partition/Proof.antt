@@ -24,7 +24,8 @@ loop-holds : tie.Need-loop-holds Inv-loop μ-loop
 loop-holds c = (search needs, refl, below-none _)
 
 is-stray-requires : tie.Need-is-stray-requires Inv-loop μ-loop
-is-stray-requires c κs = let s = c .before .before .before .before in (omega arith, omega (arith, s .pre .even-long, s .pre .odd-long))
+is-stray-requires c κs =
+    let s = c .before .before .before .before in (omega arith, omega (arith, s .pre .even-long, s .pre .odd-long))
 
 returns : tie.Need-returns Inv-loop μ-loop
 returns c =

@@ -1,4 +1,5 @@
--- `check_sides` meets its contract. The loop over vertices: none passed leads out of its set. The loop over a vertex's edges: none passed does.
+-- `check_sides` meets its contract. The loop over vertices: none passed leads out of its set. The loop over a vertex's edges:
+-- none passed does.
 use mathlib.Core.Bool.{true}
 use mathlib.Core.Path.{_≡_, refl, sym, _∙_}
 use Prim.Native.Nat.{ℕ, _+_, _-_, _≤_, _<_}
@@ -6,6 +7,7 @@ use native.Mathlib.Nat.{le-refl}
 use borrow.Author.Count.{below-none, below-more}
 use borrow.Author.Tests.{not-true, not-false}
 use lib.ListN.{length, getD}
+use Rattle.rules.specs.Counting.{Set}
 use Rattle.rules.specs.Outcome.{answered}
 use Rattle.parity_game.specs.Search.{FailsBelow, outcome-found, outcome-none}
 use Rattle.checker.specs.Sides.{leavesSet, sideOf, edges-end, from-more, own-stays, own-leaves, other-leaves, other-stays}
@@ -16,7 +18,8 @@ use Rattle.checker.proofs.sides.check_sides.Tie as tie
 
 abbrev Inv-loop : tie.InvT-loop
 Inv-loop owners offsets targets even strategy v e₀ v-end e-end e =
-    (e₀ ≤ e) × (e ≤ e-end) × (e-end ≡ getD offsets (v + 1) 0) × (e-end ≤ length targets) × ((i : ℕ) → e₀ ≤ i → i < e → sideOf even v (getD targets i 0) ≡ true)
+    (e₀ ≤ e) × (e ≤ e-end) × (e-end ≡ getD offsets (v + 1) 0) × (e-end ≤ length targets) ×
+    ((i : ℕ) → e₀ ≤ i → i < e → sideOf even v (getD targets i 0) ≡ true)
 
 abbrev μ-loop : tie.MeasureT-loop
 μ-loop owners offsets targets even strategy v e₀ v-end e-end e = e-end - e
@@ -28,11 +31,28 @@ Inv-vertices owners offsets targets even strategy v₀ v-end v =
 abbrev μ-vertices : tie.MeasureT-vertices
 μ-vertices owners offsets targets even strategy v₀ v-end v = v-end - v
 
+-- where the function begins, and the vertex of a turn, from where its owner is known
+abbrev start : tie.After-is-own Inv-loop μ-loop Inv-vertices μ-vertices → tie.Start Inv-loop μ-loop Inv-vertices μ-vertices
+start d = d .before .before .before .before .before .before .before .before
+
+abbrev turn : tie.After-is-own Inv-loop μ-loop Inv-vertices μ-vertices → tie.At-vertices Inv-loop μ-loop Inv-vertices μ-vertices
+turn d = d .before .before
+
+-- where its owner is known, from a turn over its edges
+abbrev owned : tie.At-loop Inv-loop μ-loop Inv-vertices μ-vertices → tie.After-is-own Inv-loop μ-loop Inv-vertices μ-vertices
+owned e = e .before .before .before .before
+
+-- the vertices that lead out of their sets
+abbrev leaves : tie.Start Inv-loop μ-loop Inv-vertices μ-vertices → Set
+leaves s =
+    let a = s .args in leavesSet (a .owners .now) (a .offsets .now) (a .targets .now) (a .even .now) (a .strategy .now)
+
 vertices-holds : tie.Need-vertices-holds Inv-loop μ-loop Inv-vertices μ-vertices
 vertices-holds c = (search needs, refl, below-none _)
 
 is-own-requires : tie.Need-is-own-requires Inv-loop μ-loop Inv-vertices μ-vertices
-is-own-requires c κs = let s = c .before .before .before .before .before .before .before in (omega arith, omega (arith, s .pre .given .even-long))
+is-own-requires c κs =
+    let s = c .before .before .before .before .before .before .before in (omega arith, omega (arith, s .pre .given .even-long))
 
 mul-stays : tie.Need-mul-stays Inv-loop μ-loop Inv-vertices μ-vertices
 mul-stays c = search needs
@@ -45,9 +65,10 @@ cast-stays c = omega (arith, c .shared-slice-known6 .given (c .before .before .b
 
 stays-requires : tie.Need-stays-requires Inv-loop μ-loop Inv-vertices μ-vertices
 stays-requires c κs =
-    let s = c .before .before .before .before .before .before .before .before .before .before in
-    let l = c .before .before .before .before .vertices in
-    let small = s .pre .entries (l .v) (omega arith) (sym (c .before .before .is-own .ensures) ∙ c .before .if1 .taken) in
+    let d = c .before .before in
+    let s = start d in
+    let l = turn d .vertices in
+    let small = s .pre .entries (l .v) (omega arith) (sym (d .is-own .ensures) ∙ c .before .if1 .taken) in
     (omega (arith, s .pre .given .even-long), omega (arith, s .pre .given .even-long))
 
 add-v : tie.Need-add-v Inv-loop μ-loop Inv-vertices μ-vertices
@@ -58,24 +79,22 @@ vertices-less c = search needs
 
 vertices-again : tie.Need-vertices-again Inv-loop μ-loop Inv-vertices μ-vertices
 vertices-again c =
-    let s = c .before .before .before .before .before .before .before .before .before .before .before .before in
-    let l = c .before .before .before .before .before .before .vertices in (
+    let d = c .before .before .before .before in
+    let l = turn d .vertices in (
       omega arith,
       refl,
       below-more _ _ (l .inv .2)
-          (own-stays (s .args .owners .now) (s .args .offsets .now) (s .args .targets .now) (s .args .even .now) (s .args .strategy .now) (s .pre .given)
-          (l .v) (omega arith) (sym (c .before .before .before .before .is-own .ensures) ∙ c .before .before .before .if1 .taken)
+          (own-stays (start d .pre .given) (l .v) (omega arith) (sym (d .is-own .ensures) ∙ c .before .before .before .if1 .taken)
           (sym (c .before .stays .ensures) ∙ c .if2 .taken)),
     )
 
 returns : tie.Need-returns Inv-loop μ-loop Inv-vertices μ-vertices
 returns c =
-    let s = c .before .before .before .before .before .before .before .before .before .before .before .before in
-    let l = c .before .before .before .before .before .before .vertices in
-    outcome-found 23 _ (leavesSet (s .args .owners .now) (s .args .offsets .now) (s .args .targets .now) (s .args .even .now)
-    (s .args .strategy .now)) (answered 0) (l .v) (omega arith) (l .inv .2)
-    (own-leaves (s .args .owners .now) (s .args .offsets .now) (s .args .targets .now) (s .args .even .now) (s .args .strategy .now) (s .pre .given)
-    (l .v) (omega arith) (sym (c .before .before .before .before .is-own .ensures) ∙ c .before .before .before .if1 .taken)
+    let d = c .before .before .before .before in
+    let s = start d in
+    let l = turn d .vertices in
+    outcome-found 23 _ (leaves s) (answered 0) (l .v) (omega arith) (l .inv .2)
+    (own-leaves (s .pre .given) (l .v) (omega arith) (sym (d .is-own .ensures) ∙ c .before .before .before .if1 .taken)
     (sym (c .before .stays .ensures) ∙ c .if2 .left))
 
 mul-e : tie.Need-mul-e Inv-loop μ-loop Inv-vertices μ-vertices
@@ -101,12 +120,13 @@ cast-e-end c = omega (arith, c .shared-slice-known8 .given (c .before .before .b
 
 loop-holds : tie.Need-loop-holds Inv-loop μ-loop Inv-vertices μ-vertices
 loop-holds c =
-    let s = c .before .before .before .before .before .before .before .before .before .before .before in
-    let l = c .before .before .before .before .before .vertices in (
+    let d = c .before .before .before in
+    let s = start d in
+    let l = turn d .vertices in (
       le-refl _,
       s .pre .given .edges .offset-next (l .v) (omega arith),
       refl,
-      edges-end _ _ _ (s .pre .given .edges) (l .v) (omega arith),
+      edges-end (s .pre .given .edges) (l .v) (omega arith),
       λ i a b. absurd (omega arith),
     )
 
@@ -122,22 +142,24 @@ cast-stays-2 c = omega (arith, c .shared-slice-known9 .given (c .before .before 
 
 stays-requires-2 : tie.Need-stays-requires-2 Inv-loop μ-loop Inv-vertices μ-vertices
 stays-requires-2 c κs =
-    let s = c .before .before .before .before .before .before .before .before .before .before .before .before .before .before in
-    let l = c .before .before .before .before .before .before .before .before .vertices in
-    let i = c .before .before .loop in
+    let e = c .before .before in
+    let d = owned e in
+    let s = start d in
+    let l = turn d .vertices in
+    let i = e .loop in
     let small = s .pre .given .edges .target-below (i .e) (omega arith) in
     (omega (arith, s .pre .given .even-long), omega (arith, s .pre .given .even-long))
 
 returns-2 : tie.Need-returns-2 Inv-loop μ-loop Inv-vertices μ-vertices
 returns-2 c =
-    let s = c .before .before .before .before .before .before .before .before .before .before .before .before .before .before .before .before in
-    let l = c .before .before .before .before .before .before .before .before .before .before .vertices in
-    let i = c .before .before .before .before .loop in
-    outcome-found 23 _ (leavesSet (s .args .owners .now) (s .args .offsets .now) (s .args .targets .now) (s .args .even .now)
-    (s .args .strategy .now)) (answered 0) (l .v) (omega arith) (l .inv .2)
-    (other-leaves (s .args .owners .now) (s .args .offsets .now) (s .args .targets .now) (s .args .even .now) (s .args .strategy .now) (s .pre .given)
-    (l .v) (omega arith) (sym (c .before .before .before .before .before .before .before .before .is-own .ensures) ∙
-    c .before .before .before .before .before .before .before .if1 .left) (i .e) (i .inv .0) (omega arith)
+    let e = c .before .before .before .before in
+    let d = owned e in
+    let s = start d in
+    let l = turn d .vertices in
+    let i = e .loop in
+    outcome-found 23 _ (leaves s) (answered 0) (l .v) (omega arith) (l .inv .2)
+    (other-leaves (s .pre .given) (l .v) (omega arith) (sym (d .is-own .ensures) ∙ e .before .before .before .if1 .left) (i .e)
+    (i .inv .0) (omega arith)
     (sym (c .before .stays2 .ensures) ∙ not-true _ (c .if3 .taken)))
 
 add-e : tie.Need-add-e Inv-loop μ-loop Inv-vertices μ-vertices
@@ -148,9 +170,11 @@ loop-less c = search needs
 
 loop-again : tie.Need-loop-again Inv-loop μ-loop Inv-vertices μ-vertices
 loop-again c =
-    let s = c .before .before .before .before .before .before .before .before .before .before .before .before .before .before .before .before in
-    let l = c .before .before .before .before .before .before .before .before .before .before .vertices in
-    let i = c .before .before .before .before .loop in (
+    let e = c .before .before .before .before in
+    let d = owned e in
+    let s = start d in
+    let l = turn d .vertices in
+    let i = e .loop in (
       omega arith,
       omega arith,
       refl,
@@ -167,23 +191,22 @@ vertices-less-2 c = search needs
 
 vertices-again-2 : tie.Need-vertices-again-2 Inv-loop μ-loop Inv-vertices μ-vertices
 vertices-again-2 c =
-    let s = c .before .before .before .before .before .before .before .before .before .before .before .before .before in
-    let l = c .before .before .before .before .before .before .before .vertices in
-    let i = c .before .loop in (
+    let e = c .before in
+    let d = owned e in
+    let l = turn d .vertices in
+    let i = e .loop in (
       omega arith,
       refl,
       below-more _ _ (l .inv .2)
-          (other-stays (s .args .owners .now) (s .args .offsets .now) (s .args .targets .now) (s .args .even .now) (s .args .strategy .now)
-          (s .pre .given) (l .v) (omega arith)
-          (sym (c .before .before .before .before .before .is-own .ensures) ∙ c .before .before .before .before .if1 .left) (i .e) (omega arith) (i .inv .4)),
+          (other-stays (start d .pre .given) (l .v) (omega arith)
+          (sym (d .is-own .ensures) ∙ e .before .before .before .if1 .left) (i .e) (omega arith) (i .inv .4)),
     )
 
 returns-3 : tie.Need-returns-3 Inv-loop μ-loop Inv-vertices μ-vertices
 returns-3 c =
     let s = c .before .before .before .before .before .before .before in
     let l = c .before .vertices in
-    outcome-none 23 _ (leavesSet (s .args .owners .now) (s .args .offsets .now) (s .args .targets .now) (s .args .even .now) (s .args .strategy .now))
-    (answered 0) (λ k h. l .inv .2 k (omega arith))
+    outcome-none 23 _ (leaves s) (answered 0) (λ k h. l .inv .2 k (omega arith))
 
 pub check-sides-spec : {M : Type 1} → statement M
 check-sides-spec =

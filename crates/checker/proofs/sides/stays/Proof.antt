@@ -16,7 +16,8 @@ contains-requires-2 c κs = search needs
 returns : tie.Need-returns
 returns c =
     let a = c .before .before .before .before .args in
-    c .contains2 .ensures ∙ side-even (a .even .now) (a .v) (a .w) (sym (c .before .before .contains .ensures) ∙ c .before .if1 .taken)
+    c .contains2 .ensures ∙
+    side-even (a .even .now) (a .v) (a .w) (sym (c .before .before .contains .ensures) ∙ c .before .if1 .taken)
 
 contains-requires-3 : tie.Need-contains-requires-3
 contains-requires-3 c κs = search needs
@@ -24,7 +25,8 @@ contains-requires-3 c κs = search needs
 returns-2 : tie.Need-returns-2
 returns-2 c =
     let a = c .before .before .before .before .args in
-    ap not (c .contains3 .ensures) ∙ side-odd (a .even .now) (a .v) (a .w) (sym (c .before .before .contains .ensures) ∙ c .before .if1 .left)
+    ap not (c .contains3 .ensures) ∙
+    side-odd (a .even .now) (a .v) (a .w) (sym (c .before .before .contains .ensures) ∙ c .before .if1 .left)
 
 pub stays-spec : {M : Type 1} → statement M
 stays-spec =
