@@ -126,7 +126,8 @@ module _ (priorities : List ℕ) (m s : ℕ) (w0 : List ℕ) (given : Beginnable
 
     pub begun-more :
         {next : List ℕ} →
-        Becomes priorities (regionsAt (length priorities) m s) (entries (length priorities) m) i (getD priorities i 0) noEntry after next →
+        Becomes priorities (regionsAt (length priorities) m s) (entries (length priorities) m) i (getD priorities i 0) noEntry after
+        next →
         BegunTo priorities m s (i + 1) before next
     begun-more {next} ch =
         record {
@@ -165,16 +166,22 @@ module _ (priorities : List ℕ) (m s : ℕ) (w0 : List ℕ) (given : Beginnable
     (all : length priorities ≤ i)
   where
     outside :
-        (j : ℕ) → Aside (length priorities) (regionsAt (length priorities) m s) (entries (length priorities) m) j → getD after j 0 ≡ getD w1 j 0
+        (j : ℕ) → Aside (length priorities) (regionsAt (length priorities) m s) (entries (length priorities) m) j →
+        getD after j 0 ≡ getD w1 j 0
     outside j out =
         b .keeps .rest j out ∙
         getD-set-other w1 (regionsAt (length priorities) m s + length priorities) j (length priorities) 0
         (λ e. ⊎-elim (λ h. omega arith) (λ h. omega arith) (out .1))
 
-    pub begun-all : {current : ℕ} → current ≡ highestUnder (length priorities) (regionsAt (length priorities) m s) 256 after → Begun priorities m s w0 after current
+    pub begun-all :
+        {current : ℕ} →
+        current ≡ highestUnder (length priorities) (regionsAt (length priorities) m s) 256 after →
+        Begun priorities m s w0 after current
     begun-all top =
         record {
-          long = b .keeps .long ∙ length-set w1 (regionsAt (length priorities) m s + length priorities) (length priorities) ∙ c .long;
+          long =
+              b .keeps .long ∙ length-set w1 (regionsAt (length priorities) m s + length priorities) (length priorities) ∙
+              c .long;
           tallied = b .keeps .good;
           region = λ v l. b .region v (omega arith);
           entry = λ v l. b .entry v (omega arith);

@@ -1,4 +1,5 @@
--- The region counts always add up to the unsolved vertices: in whatever state the work area shows, so in all that the loop reaches.
+-- The region counts always add up to the unsolved vertices: in whatever state the work area shows, so in all that the loop
+-- reaches.
 use mathlib.Core.Bool.{Bool, _&&_}
 use mathlib.Core.List.{List}
 use mathlib.Core.Logic.{⊎-elim}
@@ -88,7 +89,7 @@ module _ (owners priorities offsets targets : List ℕ) (s : ℕ) where
   shown-add-up shows =
       record {
         counts = counts-add-up (shows .ready) ∙ sym (shows .left);
-        unsolved = shows .left ∙ count-cong (length owners) _ _ (left-is owners priorities offsets targets s shows);
+        unsolved = shows .left ∙ count-cong (length owners) _ _ (left-is shows);
       }
 
   -- **so in every state that the loop reaches, the first and the last included,**

@@ -66,7 +66,8 @@ count-moved (suc n) v x f f' l others here q =
     omega arith)
     (λ (k : v < n).
     let before = count-moved n v x f f' k (λ u j d. others u (le-step j) d) here q in
-    let last : flag (eqb (f' n) q) ≡ flag (eqb (f n) q) = ap (λ (y : ℕ). flag (eqb y q)) (others n (omega arith) (λ d. omega arith)) in
+    let last : flag (eqb (f' n) q) ≡ flag (eqb (f n) q) =
+    ap (λ (y : ℕ). flag (eqb y q)) (others n (omega arith) (λ d. omega arith)) in
     omega arith)
     (below-suc l)
 
@@ -115,12 +116,14 @@ module _ (n regions v region : ℕ) (work : List ℕ) (given : Movable n regions
           let here : getD taken (regions + n + q) 0 ≡ getD work (regions + n + old) 0 - 1 =
           ap (λ (x : ℕ). getD taken (regions + n + x) 0) e ∙
           getD-set-same work (regions + n + old) (getD work (regions + n + old) 0 - 1) 0 (omega (arith, old-most)) in
-          let same : getD work (regions + n + q) 0 ≡ getD work (regions + n + old) 0 = ap (λ (x : ℕ). getD work (regions + n + x) 0) e in
+          let same : getD work (regions + n + q) 0 ≡ getD work (regions + n + old) 0 =
+          ap (λ (x : ℕ). getD work (regions + n + x) 0) e in
           omega arith
       go (no d) =
           let none = flag-zero (eqb old q) (ne-eqb old q (λ e. d (sym e))) in
           let same =
-          getD-set-other work (regions + n + old) (regions + n + q) (getD work (regions + n + old) 0 - 1) 0 (λ e. d (omega arith)) in
+          getD-set-other work (regions + n + old) (regions + n + q) (getD work (regions + n + old) 0 - 1) 0
+          (λ e. d (omega arith)) in
           omega arith
 
   pub taken-few : (q : ℕ) → q ≤ 256 → getD taken (regions + n + q) 0 ≤ 4096
@@ -133,16 +136,23 @@ module _ (n regions v region : ℕ) (work : List ℕ) (given : Movable n regions
       go (yes e) =
           let one = flag-one (eqb region q) (eq-eqb region q (sym e)) in
           let fits : regions + n + region < length taken =
-          omega (arith, given .tallied .room, given .most, length-set work (regions + n + old) (getD work (regions + n + old) 0 - 1)) in
+          omega (
+            arith,
+            given .tallied .room,
+            given .most,
+            length-set work (regions + n + old) (getD work (regions + n + old) 0 - 1),
+          ) in
           let here : getD added (regions + n + q) 0 ≡ getD taken (regions + n + region) 0 + 1 =
           ap (λ (x : ℕ). getD added (regions + n + x) 0) e ∙
           getD-set-same taken (regions + n + region) (getD taken (regions + n + region) 0 + 1) 0 fits in
-          let same : getD taken (regions + n + q) 0 ≡ getD taken (regions + n + region) 0 = ap (λ (x : ℕ). getD taken (regions + n + x) 0) e in
+          let same : getD taken (regions + n + q) 0 ≡ getD taken (regions + n + region) 0 =
+          ap (λ (x : ℕ). getD taken (regions + n + x) 0) e in
           omega arith
       go (no d) =
           let none = flag-zero (eqb region q) (ne-eqb region q (λ e. d (sym e))) in
           let same =
-          getD-set-other taken (regions + n + region) (regions + n + q) (getD taken (regions + n + region) 0 + 1) 0 (λ e. d (omega arith)) in
+          getD-set-other taken (regions + n + region) (regions + n + q) (getD taken (regions + n + region) 0 + 1) 0
+          (λ e. d (omega arith)) in
           omega arith
 
   long : length moved ≡ length work
@@ -183,7 +193,8 @@ module _ (n regions v region : ℕ) (work : List ℕ) (given : Movable n regions
       let plus = added-at q l in
       let minus = taken-at q l in
       let was = given .tallied .counts q l in
-      let now = count-moved n v region (regionAt regions work) (regionAt regions moved) (given .small) region-there region-here q in
+      let now =
+      count-moved n v region (regionAt regions work) (regionAt regions moved) (given .small) region-there region-here q in
       omega arith
 
   -- **the stores move v to the region**
@@ -216,7 +227,9 @@ NoneFrom n regions under work q = (v : ℕ) → v < n → regionAt regions work 
 
 module _ (n regions under : ℕ) (work : List ℕ) (given : Tallied n regions work) (most : under ≤ 256) where
   -- one region more that nobody has
-  pub none-further : (q : ℕ) → q < under → NoneFrom n regions under work (suc q) → getD work (regions + n + q) 0 ≡ 0 → NoneFrom n regions under work q
+  pub none-further :
+      (q : ℕ) → q < under → NoneFrom n regions under work (suc q) →
+      getD work (regions + n + q) 0 ≡ 0 → NoneFrom n regions under work q
   none-further q l none empty v k below = go (ℕ-discrete (regionAt regions work v) q)
     where
       go : Dec (regionAt regions work v ≡ q) → regionAt regions work v < q
@@ -227,7 +240,9 @@ module _ (n regions under : ℕ) (work : List ℕ) (given : Tallied n regions wo
       go (no d) = let less = none v k below in omega (arith, d)
 
   -- a region that somebody has
-  pub found-highest : (q : ℕ) → q < under → NoneFrom n regions under work (suc q) → (getD work (regions + n + q) 0 ≡ 0 → ⊥) → q ≡ highestUnder n regions under work
+  pub found-highest :
+      (q : ℕ) → q < under → NoneFrom n regions under work (suc q) →
+      (getD work (regions + n + q) 0 ≡ 0 → ⊥) → q ≡ highestUnder n regions under work
   found-highest q l none there =
       let is = given .counts q (omega arith) in
       let (v, k, e) = count-some n (λ u. eqb (regionAt regions work u) q) (omega (arith, there)) in
@@ -244,7 +259,8 @@ module _ (n regions under : ℕ) (work : List ℕ) (given : Tallied n regions wo
   none-highest none =
       sym
       (greatest-none n (λ u. ltb (regionAt regions work u) under) (regionAt regions work)
-      (false-some n (λ u. ltb (regionAt regions work u) under) (λ v l. go v l (bool-cases (ltb (regionAt regions work v) under)))))
+      (false-some n (λ u. ltb (regionAt regions work u) under)
+      (λ v l. go v l (bool-cases (ltb (regionAt regions work v) under)))))
     where
       go :
           (v : ℕ) →

@@ -338,16 +338,16 @@ module _ {owners priorities offsets targets : List ℕ} (ok : Accepted (tablesOf
           closed = open-read g total r small T agrees1 ∙ not-open
 
           pub round-promote-ready : PromoteAll priorities q s (free n m) H Rg (entries n m) w1
-          round-promote-ready = promote-ready owners priorities offsets targets ok q s w1 (c1 .ready) (low .most)
+          round-promote-ready = promote-ready owners priorities ok q (c1 .ready) (low .most)
 
           -- **a promotion**
           module _ (less : q < 256) {w2 : List ℕ} (made2 : PromotedAll priorities q (free n m) H Rg (entries n m) w1 w2) where
             sets2 : (i : ℕ) → free n m ≤ i → Elsewhere n Rg i → getD w2 i 0 ≡ getD w1 i 0
-            sets2 = promoted-sets owners priorities offsets targets ok q s w1 (c1 .ready) (low .most) made2
+            sets2 = promoted-sets owners priorities ok q (c1 .ready) (low .most) made2
 
             pub promoted-same : (length w2 ≡ length w1) × ((i : ℕ) → Rg + n + 257 ≤ i → getD w2 i 0 ≡ getD w1 i 0)
             promoted-same = (
-              promoted-long owners priorities offsets targets ok q s w1 (c1 .ready) (low .most) made2,
+              promoted-long owners priorities ok q (c1 .ready) (low .most) made2,
               λ i l. sets2 i (omega arith) (inr l),
             )
 
@@ -357,7 +357,7 @@ module _ {owners priorities offsets targets : List ℕ} (ok : Accepted (tablesOf
 
             region2 : (v : ℕ) → v < n → regionAt Rg w2 v ≡ promotedTo q v
             region2 v l =
-                promoted-region owners priorities offsets targets ok q s w1 (c1 .ready) (low .most) made2 part1 v l ∙
+                promoted-region owners priorities ok q (c1 .ready) (low .most) made2 part1 v l ∙
                 ap (λ (b : Bool). cond b q (cond (ltb (T v) q) (getD priorities v 0) (T v))) (held-is v l)
 
             -- its entry then
@@ -366,7 +366,7 @@ module _ {owners priorities offsets targets : List ℕ} (ok : Accepted (tablesOf
 
             entry2 : (v : ℕ) → v < n → entryOf n m w2 v ≡ entryTo q v
             entry2 v l =
-                promoted-entry owners priorities offsets targets ok q s w1 (c1 .ready) (low .most) made2 part1 v l ∙
+                promoted-entry owners priorities ok q (c1 .ready) (low .most) made2 part1 v l ∙
                 ap (λ (b : Bool). cond b (entryOf n m w1 v) (cond (ltb (T v) q) noEntry (entryOf n m w1 v))) (held-is v l)
 
             set2 : (v : ℕ) → setAt n (free n m) w2 v ≡ setAt n (free n m) w1 v
@@ -410,8 +410,8 @@ module _ {owners priorities offsets targets : List ℕ} (ok : Accepted (tablesOf
                         record {
                           size = c1 .ready .size;
                           edges = c1 .ready .edges;
-                          tallied = promoted-tallied owners priorities offsets targets ok q s w1 (c1 .ready) (low .most) made2;
-                          listed = promoted-listed owners priorities offsets targets ok q s w1 (c1 .ready) (low .most) made2;
+                          tallied = promoted-tallied owners priorities ok q (c1 .ready) (low .most) made2;
+                          listed = promoted-listed owners priorities ok q (c1 .ready) (low .most) made2;
                           unsolved = unsolved2;
                         };
                     current = q-is ∙ sym now;

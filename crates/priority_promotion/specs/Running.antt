@@ -66,15 +66,15 @@ module _ {owners priorities offsets targets : List ℕ} {s budget at many made :
 
     -- more rounds are needed than the budget
     pub run-over : 0 < many → budget < roundsNeeded (gameOf (tablesOf owners priorities offsets targets)) budget
-    run-over more = let is = ended-over owners priorities offsets targets s ended more in omega arith
+    run-over more = let is = ended-over ended more in omega arith
 
     module _ (all : many ≡ 0) where
       -- the rounds made are those needed
       pub run-rounds : made ≡ roundsNeeded (gameOf (tablesOf owners priorities offsets targets)) budget
-      run-rounds = sym (ended-needed owners priorities offsets targets s ended all)
+      run-rounds = sym (ended-needed ended all)
 
       solved : allSolved (gameOf t) (afterRounds (gameOf t) made) ≡ true
-      solved = none-left owners priorities offsets targets s (ended .reached .shows) all
+      solved = none-left (ended .reached .shows) all
 
       won-place :
           (c : Player) →

@@ -1,5 +1,5 @@
 -- Rounds one after another until all vertices are solved or the budget is used up, and what that says of the rounds needed.
-use mathlib.Core.Bool.{true, false, _&&_, not}
+use mathlib.Core.Bool.{Bool, true, false, _&&_, not}
 use mathlib.Core.List.{List}
 use mathlib.Core.Path.{_≡_, sym, ap, subst, _∙_}
 use Prim.Native.Nat.{ℕ, suc, _+_, _≤_, _<_}
@@ -8,7 +8,7 @@ use native.Mathlib.Numerals.{add-one}
 use native.Mathlib.Omega.{arith}
 use lib.Dec.{ltb}
 use lib.ListN.{length, getD}
-use Rattle.rules.specs.Counting.{count}
+use Rattle.rules.specs.Counting.{Set, count}
 use Rattle.rules.specs.Game.{Game}
 use Rattle.rules.specs.Tables.{gameOf, Accepted, tablesOf}
 use Rattle.rules.specs.Promotion.{Regions, unsolved, afterRounds, allSolved, roundsNeeded}
@@ -22,15 +22,25 @@ use Rattle.priority_promotion.specs.Rounds.{RoundReady, RoundDone}
 abbrev gameBy : List ℕ → List ℕ → List ℕ → List ℕ → Game
 gameBy owners priorities offsets targets = gameOf (tablesOf owners priorities offsets targets)
 
--- so many rounds were made, none of the states before had all solved, and the work area and the small state show the state after them
+-- whether all are solved after k rounds
+abbrev solvedAfter : List ℕ → List ℕ → List ℕ → List ℕ → ℕ → Bool
+solvedAfter owners priorities offsets targets k =
+    let g = gameBy owners priorities offsets targets in allSolved g (afterRounds g k)
+
+-- so many rounds were made, none of the states before had all solved, and the work area and the small state show the state
+-- after them
 pub record Reached (owners priorities offsets targets : List ℕ) (s at many made : ℕ) (work : List ℕ) : Type 0 where
   pub accepted : Accepted (tablesOf owners priorities offsets targets)
-  pub shows : Shows owners priorities offsets targets s (afterRounds (gameOf (tablesOf owners priorities offsets targets)) made) at many work
+  pub shows :
+      Shows owners priorities offsets targets s (afterRounds (gameOf (tablesOf owners priorities offsets targets)) made) at many
+      work
   pub entries :
-      Rounded (gameOf (tablesOf owners priorities offsets targets)) (afterRounds (gameOf (tablesOf owners priorities offsets targets)) made)
-      (entryOf (length owners) (length targets) work)
+      Rounded (gameOf (tablesOf owners priorities offsets targets))
+      (afterRounds (gameOf (tablesOf owners priorities offsets targets)) made) (entryOf (length owners) (length targets) work)
   pub unfinished :
-      (j : ℕ) → j < made → allSolved (gameOf (tablesOf owners priorities offsets targets)) (afterRounds (gameOf (tablesOf owners priorities offsets targets)) j) ≡ false
+      (j : ℕ) → j < made →
+      allSolved (gameOf (tablesOf owners priorities offsets targets))
+      (afterRounds (gameOf (tablesOf owners priorities offsets targets)) j) ≡ false
 
 -- the rounds end: all are solved within the budget, or the budget is used up
 pub record Ended (owners priorities offsets targets : List ℕ) (s budget at many made : ℕ) (before after : List ℕ) : Type 0 where
@@ -41,30 +51,40 @@ pub record Ended (owners priorities offsets targets : List ℕ) (s budget at man
   pub rest :
       (i : ℕ) → regionsAt (length owners) (length targets) s + length owners + 257 ≤ i → getD after i 0 ≡ getD before i 0
 
-module _ (owners priorities offsets targets : List ℕ) (s : ℕ) where
+module _ {owners priorities offsets targets : List ℕ} {s : ℕ} where
   -- whether all are solved, by the number of unsolved vertices
   module _ {r : Regions} {at many : ℕ} {work : List ℕ} (shows : Shows owners priorities offsets targets s r at many work) where
-    pub left-is : (v : ℕ) → v < length owners → setAt (length owners) (free (length owners) (length targets)) work v ≡ unsolved (gameBy owners priorities offsets targets) (r .region) v
+    abbrev n : ℕ
+    n = length owners
+
+    abbrev m : ℕ
+    m = length targets
+
+    -- the unsolved vertices, in the work area and by the rules
+    abbrev left : Set
+    left = setAt n (free n m) work
+
+    abbrev leftBy : Set
+    leftBy = unsolved (gameBy owners priorities offsets targets) (r .region)
+
+    pub left-is : (v : ℕ) → v < n → left v ≡ leftBy v
     unfolding gameOf
     left-is v l =
         shows .ready .unsolved v ∙
-        ap (λ (x : ℕ). ltb v (length owners) && ltb x 256) (table-below (length owners) (length targets) s work v l ∙ shows .region v l)
+        ap (λ (x : ℕ). ltb v n && ltb x 256) (table-below n m s work v l ∙ shows .region v l)
 
     pub none-left : many ≡ 0 → allSolved (gameOf (tablesOf owners priorities offsets targets)) r ≡ true
     unfolding allSolved gameOf
     none-left e =
         ap not
-        (false-some (length owners) (unsolved (gameBy owners priorities offsets targets) (r .region))
-        (λ v l.
-        sym (left-is v l) ∙
-        count-zero (length owners) (setAt (length owners) (free (length owners) (length targets)) work) (sym (shows .left) ∙ e) v l))
+        (false-some n leftBy (λ v l. sym (left-is v l) ∙ count-zero n left (sym (shows .left) ∙ e) v l))
 
     pub some-left : 0 < many → allSolved (gameOf (tablesOf owners priorities offsets targets)) r ≡ false
     unfolding allSolved gameOf
     some-left more =
-        let here : 0 < count (length owners) (setAt (length owners) (free (length owners) (length targets)) work) = rw (shows .left) at more in
-        let (v, l, i) = count-some (length owners) (setAt (length owners) (free (length owners) (length targets)) work) here in
-        ap not (some-intro (length owners) (unsolved (gameBy owners priorities offsets targets) (r .region)) v l (sym (left-is v l) ∙ i))
+        let here : 0 < count n left = rw (shows .left) at more in
+        let (v, l, i) = count-some n left here in
+        ap not (some-intro n leftBy v l (sym (left-is v l) ∙ i))
 
   -- one round more
   pub reached-ready :
@@ -95,9 +115,9 @@ module _ (owners priorities offsets targets : List ℕ) (s : ℕ) where
           (j : ℕ) →
           j < suc made →
           Dec (j ≡ made) →
-          allSolved (gameBy owners priorities offsets targets) (afterRounds (gameBy owners priorities offsets targets) j) ≡ false
+          solvedAfter owners priorities offsets targets j ≡ false
       go j l (yes e) =
-          ap (λ (k : ℕ). allSolved (gameBy owners priorities offsets targets) (afterRounds (gameBy owners priorities offsets targets) k)) e ∙
+          ap (λ (k : ℕ). solvedAfter owners priorities offsets targets k) e ∙
           some-left (r .shows) left
       go j l (no n) = r .unfinished j (omega (arith, n))
 
@@ -125,15 +145,15 @@ module _ (owners priorities offsets targets : List ℕ) (s : ℕ) where
   unfolding roundsNeeded
   ended-over {budget} {made = made} e more =
       lowest-none (suc budget) _
-      (false-some (suc budget) (λ k. allSolved (gameBy owners priorities offsets targets) (afterRounds (gameBy owners priorities offsets targets) k))
+      (false-some (suc budget) (λ k. solvedAfter owners priorities offsets targets k)
       (λ j l. go j l (ℕ-discrete j made)))
     where
       go :
           (j : ℕ) →
           j < suc budget →
           Dec (j ≡ made) →
-          allSolved (gameBy owners priorities offsets targets) (afterRounds (gameBy owners priorities offsets targets) j) ≡ false
+          solvedAfter owners priorities offsets targets j ≡ false
       go j l (yes q) =
-          ap (λ (k : ℕ). allSolved (gameBy owners priorities offsets targets) (afterRounds (gameBy owners priorities offsets targets) k)) q ∙
+          ap (λ (k : ℕ). solvedAfter owners priorities offsets targets k) q ∙
           some-left (e .reached .shows) more
       go j l (no n) = e .reached .unfinished j (omega (arith, n, e .over more))

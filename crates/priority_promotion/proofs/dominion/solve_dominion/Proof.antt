@@ -17,7 +17,10 @@ abbrev drawn : tie.Joined1 → tie.After-attract
 drawn c = c .before .before .before
 
 -- the set that was picked is the player's
-picked : (c : tie.Joined1) → let a = first (drawn c) .args in c .if1 .won ≡ wonAt (length (a .owners .now)) (length (a .targets .now)) (a .s) (parity (a .p))
+picked :
+    (c : tie.Joined1) →
+    let a = first (drawn c) .args in
+    c .if1 .won ≡ wonAt (length (a .owners .now)) (length (a .targets .now)) (a .s) (parity (a .p))
 picked c =
     let a = first (drawn c) .args in
     won-picked (length (a .owners .now)) (length (a .targets .now)) (a .s) (a .p) (c .if1 .won)
@@ -55,9 +58,7 @@ cast-alpha c = search needs
 
 attract-requires : tie.Need-attract-requires
 attract-requires c κs =
-    let g = c .before .before .before .before .before .before in
-    let a = g .args in
-    attract-ready (a .owners .now) (a .priorities .now) (a .offsets .now) (a .targets .now) (a .s) (a .p) (a .work .now) (g .pre)
+    let g = c .before .before .before .before .before .before in attract-ready (g .pre)
 
 add-won : tie.Need-add-won
 add-won c = search needs
@@ -73,9 +74,7 @@ union-with-requires c κs =
     let j = c .before in
     let d = drawn j in
     let g = first d in
-    let a = g .args in
-    union-parts (a .owners .now) (a .priorities .now) (a .offsets .now) (a .targets .now) (a .s) (a .p) (a .work .now) (g .pre)
-    (d .attract .ensures (a .priorities .now) (g .pre .accepted)) (j .if1 .won) (picked j)
+    union-parts (g .pre) (d .attract .ensures (g .args .priorities .now) (g .pre .accepted)) (picked j)
 
 apply-priority-promotion-requires : tie.Need-apply-priority-promotion-requires
 apply-priority-promotion-requires c κs =
@@ -83,9 +82,8 @@ apply-priority-promotion-requires c κs =
     let j = u .before .before in
     let d = drawn j in
     let g = first d in
-    let a = g .args in
-    promote-ready2 (a .owners .now) (a .priorities .now) (a .offsets .now) (a .targets .now) (a .s) (a .p) (a .work .now) (g .pre)
-    (d .attract .ensures (a .priorities .now) (g .pre .accepted)) (j .if1 .won) (picked j) (u .union-with .ensures)
+    promote-ready2 (g .pre) (d .attract .ensures (g .args .priorities .now) (g .pre .accepted)) (picked j)
+    (u .union-with .ensures)
 
 difference-with-requires : tie.Need-difference-with-requires
 difference-with-requires c κs =
@@ -94,10 +92,8 @@ difference-with-requires c κs =
     let j = u .before .before in
     let d = drawn j in
     let g = first d in
-    let a = g .args in
-    difference-parts (a .owners .now) (a .priorities .now) (a .offsets .now) (a .targets .now) (a .s) (a .p) (a .work .now) (g .pre)
-    (d .attract .ensures (a .priorities .now) (g .pre .accepted)) (j .if1 .won) (picked j) (u .union-with .ensures)
-    (e .apply-priority-promotion .ensures)
+    difference-parts (g .pre) (d .attract .ensures (g .args .priorities .now) (g .pre .accepted)) (picked j)
+    (u .union-with .ensures) (e .apply-priority-promotion .ensures)
 
 same-length : tie.Need-same-length
 same-length c = search needs
@@ -110,10 +106,8 @@ returns c =
     let j = u .before .before in
     let d = drawn j in
     let g = first d in
-    let a = g .args in
-    dominated (a .owners .now) (a .priorities .now) (a .offsets .now) (a .targets .now) (a .s) (a .p) (a .work .now) (g .pre)
-    (d .attract .ensures (a .priorities .now) (g .pre .accepted)) (j .if1 .won) (picked j) (u .union-with .ensures)
-    (e .apply-priority-promotion .ensures) (f .difference-with .ensures)
+    dominated (g .pre) (d .attract .ensures (g .args .priorities .now) (g .pre .accepted)) (picked j)
+    (u .union-with .ensures) (e .apply-priority-promotion .ensures) (f .difference-with .ensures)
 
 pub solve-dominion-spec : {M : Type 1} → statement M
 solve-dominion-spec =

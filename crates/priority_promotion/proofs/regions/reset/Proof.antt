@@ -1,5 +1,5 @@
-use lib.ListN.{length}
 -- `reset` meets its contract.
+use lib.ListN.{length}
 use Rattle.priority_promotion.specs.Cells.{changes-both}
 use borrow.Author.Needs.{needs}
 use Rattle.priority_promotion.proofs.regions.reset.Statement.{statement}
@@ -32,8 +32,9 @@ same-length c = search needs
 returns : tie.Need-returns
 returns c =
     let g = c .before .before .before .before .before .before .before in
-    changes-both (length (g .args .priorities .now)) (g .args .regions) (g .args .entries) (g .args .v) (g .args .work .now) (g .pre .room) (g .pre .small) 65535
-    (c .before .before .set-region .ensures)
+    let a = g .args in
+    changes-both (length (a .priorities .now)) (a .regions) (a .entries) (a .v) (a .work .now) (g .pre .room) (g .pre .small)
+    65535 (c .before .before .set-region .ensures)
 
 pub reset-spec : {M : Type 1} → statement M
 reset-spec =
