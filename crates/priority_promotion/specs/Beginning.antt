@@ -126,8 +126,8 @@ module _ (priorities : List ℕ) (m s : ℕ) (w0 : List ℕ) (given : Beginnable
 
     pub begun-more :
         {next : List ℕ} →
-        Becomes priorities (regionsAt (length priorities) m s) (entries (length priorities) m) i (getD priorities i 0) noEntry after
-        next →
+        Becomes priorities (regionsAt (length priorities) m s) (entries (length priorities) m) i (getD priorities i 0) noEntry
+        after next →
         BegunTo priorities m s (i + 1) before next
     begun-more {next} ch =
         record {

@@ -1,5 +1,5 @@
--- R is attracted: what the calls of `query` ask for and leave behind, one after the other, and that R, its regions and entries are then as
--- a round of the rules asks.
+-- R is attracted: what the calls of `query` ask for and leave behind, one after the other, and that R, its regions and entries
+-- are then as a round of the rules asks.
 use mathlib.Core.Bool.{Bool, true, false, _&&_, cond}
 use mathlib.Core.List.{List}
 use mathlib.Core.Logic.{_⊎_, inl, inr, ⊎-elim}
@@ -11,7 +11,7 @@ use lib.Dec.{eqb, leb, ltb}
 use lib.ListN.{length, getD}
 use Rattle.rules.specs.Counting.{Set, someOf}
 use Rattle.rules.specs.Game.{Game, Edge, parity}
-use Rattle.rules.specs.Tables.{words, gameOf, Accepted, tablesOf}
+use Rattle.rules.specs.Tables.{Tables, words, gameOf, Accepted, tablesOf}
 use Rattle.rules.specs.Words.{noEntry, setOf}
 use Rattle.rules.specs.Attractor.{attractor}
 use Rattle.rules.specs.Promotion.{unsolved}
@@ -54,7 +54,8 @@ pub record Queried (owners priorities offsets targets : List ℕ) (s p : ℕ) (b
       let n = length owners in
       let m = length targets in
       let g = gameOf (tablesOf owners priorities offsets targets) in
-      Attracts g (unsolved g (tableAt n m s before)) (tableAt n m s before) p (setAt n (heldAt n m s) after) (entryOf n m before) (entryOf n m after)
+      Attracts g (unsolved g (tableAt n m s before)) (tableAt n m s before) p (setAt n (heldAt n m s) after)
+      (entryOf n m before) (entryOf n m after)
   pub rest :
       let n = length owners in
       let m = length targets in
@@ -86,8 +87,8 @@ chosen-is : (b : Bool) → cond b true false ≡ b
 chosen-is true = refl
 chosen-is false = refl
 
-module _ (owners priorities offsets targets : List ℕ) (ok : Accepted (tablesOf owners priorities offsets targets)) (s p : ℕ) (w0 : List ℕ)
-    (ready : Ready (length owners) offsets targets s w0) (small : p < 256)
+module _ (owners priorities : List ℕ) {offsets targets : List ℕ} (ok : Accepted (tablesOf owners priorities offsets targets))
+    {s : ℕ} (p : ℕ) {w0 : List ℕ} (ready : Ready (length owners) offsets targets s w0) (small : p < 256)
   where
     abbrev n : ℕ
     n = length owners
@@ -95,8 +96,11 @@ module _ (owners priorities offsets targets : List ℕ) (ok : Accepted (tablesOf
     abbrev m : ℕ
     m = length targets
 
+    abbrev t : Tables
+    t = tablesOf owners priorities offsets targets
+
     abbrev g : Game
-    g = gameOf (tablesOf owners priorities offsets targets)
+    g = gameOf t
 
     -- the bases
     abbrev U : ℕ
@@ -128,10 +132,10 @@ module _ (owners priorities offsets targets : List ℕ) (ok : Accepted (tablesOf
     room : Rg + n + 257 ≤ length w0
     room = ready .tallied .room
 
-    pub clear-fits : lowerAt (length owners) (length targets) s + 2 * s ≤ length w0
+    pub clear-fits : X + 2 * s ≤ length w0
     clear-fits = omega (arith, room)
 
-    module _ {w1 : List ℕ} (c1 : Cleared (lowerAt (length owners) (length targets) s) (2 * s) w0 w1) where
+    module _ {w1 : List ℕ} (c1 : Cleared X (2 * s) w0 w1) where
       set1 : (v : ℕ) → setAt n U w1 v ≡ setAt n U w0 v
       set1 = set-kept n U w0 w1 (λ i low high. c1 .rest i (inl (omega (arith, size))))
 
@@ -144,9 +148,7 @@ module _ (owners priorities offsets targets : List ℕ) (ok : Accepted (tablesOf
       held1 : (v : ℕ) → setAt n H w1 v ≡ false
       held1 = set-cleared n X (2 * s) H c1 (omega arith) (omega (arith, size))
 
-      pub collect-ready :
-          Collects (length owners) s (free (length owners) (length targets)) (lowerAt (length owners) (length targets) s)
-          (heldAt (length owners) (length targets) s) (regionsAt (length owners) (length targets) s) w1
+      pub collect-ready : Collects n s U X H Rg w1
       collect-ready =
           record {
             size = size;
@@ -160,9 +162,7 @@ module _ (owners priorities offsets targets : List ℕ) (ok : Accepted (tablesOf
           }
 
       module _ {w2 : List ℕ}
-          (c2 :
-          Collected (length owners) p (free (length owners) (length targets)) (lowerAt (length owners) (length targets) s)
-          (heldAt (length owners) (length targets) s) (regionsAt (length owners) (length targets) s) w1 w2)
+          (c2 : Collected n p U X H Rg w1 w2)
         where
           long2 : length w2 ≡ length w0
           long2 = c2 .keeps .long ∙ c1 .long
@@ -170,7 +170,8 @@ module _ (owners priorities offsets targets : List ℕ) (ok : Accepted (tablesOf
           -- words outside X and R
           same2 : (i : ℕ) → (i < X) ⊎ (evenAt n m s ≤ i) → getD w2 i 0 ≡ getD w0 i 0
           same2 i (inl l) = c2 .keeps .rest i (inl l, inl (omega arith)) ∙ c1 .rest i (inl l)
-          same2 i (inr l) = c2 .keeps .rest i (inr (omega (arith, size)), inr (omega (arith, size))) ∙ c1 .rest i (inr (omega arith))
+          same2 i (inr l) =
+              c2 .keeps .rest i (inr (omega (arith, size)), inr (omega (arith, size))) ∙ c1 .rest i (inr (omega arith))
 
           -- a set that was sorted into: the unsolved vertices that pass a test on their region
           sorted2 :
@@ -189,7 +190,8 @@ module _ (owners priorities offsets targets : List ℕ) (ok : Accepted (tablesOf
                   setAt n base w2 v ≡ (unsolved g T v && test (T v))
               go (inl i) l =
                   inside v (set1 v ∙ i) ∙
-                  ap₂ (λ (x : ℕ) (b : Bool). cond (test x) true b) (region1 v ∙ sym (table-below n m s w0 v (unsolved-small ready v i))) (none v) ∙
+                  ap₂ (λ (x : ℕ) (b : Bool). cond (test x) true b)
+                  (region1 v ∙ sym (table-below n m s w0 v (unsolved-small ready v i))) (none v) ∙
                   chosen-is (test (T v)) ∙
                   sym (ap (λ (b : Bool). b && test (T v)) (left-is v ∙ i))
               go (inr i) (inl l) =
@@ -210,8 +212,7 @@ module _ (owners priorities offsets targets : List ℕ) (ok : Accepted (tablesOf
           lower-small v i =
               unsolved-small ready v (sym (left-is v) ∙ and-left (unsolved g T v) (leb (T v) p) (sym (lower2 v) ∙ i))
 
-          pub attract-ready :
-              Attractable owners offsets targets (p % 2) (lowerAt (length owners) (length targets) s) (heldAt (length owners) (length targets) s) w2
+          pub attract-ready : Attractable owners offsets targets (p % 2) X H w2
           attract-ready =
               record {
                 placed =
@@ -237,9 +238,7 @@ module _ (owners priorities offsets targets : List ℕ) (ok : Accepted (tablesOf
               }
 
           module _ {w3 : List ℕ} {looks : ℕ}
-              (c3 :
-              Attracted (tablesOf owners priorities offsets targets) (parity p) (lowerAt (length owners) (length targets) s)
-              (heldAt (length owners) (length targets) s) w2 w3 looks)
+              (c3 : Attracted t (parity p) X H w2 w3 looks)
             where
               long3 : length w3 ≡ length w0
               long3 = c3 .long ∙ long2
@@ -250,7 +249,7 @@ module _ (owners priorities offsets targets : List ℕ) (ok : Accepted (tablesOf
               held-bare : (v : ℕ) → n ≤ v → setAt n H w3 v ≡ false
               held-bare v l = bit-other (wordsAt n H w3) v (c3 .holds .clear v l)
 
-              pub held-small : (v : ℕ) → setAt (length owners) (heldAt (length owners) (length targets) s) w3 v ≡ true → v < length owners
+              pub held-small : (v : ℕ) → setAt n H w3 v ≡ true → v < n
               held-small v i = ⊎-elim (λ l. l) (λ l. absurd (clash i (held-bare v l))) (lt-or-ge v n)
 
               held3 : (v : ℕ) → S v ≡ setAt n H w3 v
@@ -278,9 +277,7 @@ module _ (owners priorities offsets targets : List ℕ) (ok : Accepted (tablesOf
               between : Between n Rg E H
               between = record { low = omega arith; high = omega (arith, size) }
 
-              pub settle-ready :
-                  SettleAll owners offsets targets p s (heldAt (length owners) (length targets) s) (regionsAt (length owners) (length targets) s)
-                  (entries (length owners) (length targets)) w3
+              pub settle-ready : SettleAll owners offsets targets p s H Rg E w3
               settle-ready =
                   record {
                     size = size;
@@ -296,9 +293,7 @@ module _ (owners priorities offsets targets : List ℕ) (ok : Accepted (tablesOf
                   }
 
               module _ {w4 : List ℕ}
-                  (c4 :
-                  SettledAll owners offsets targets (p % 2) p (heldAt (length owners) (length targets) s)
-                  (regionsAt (length owners) (length targets) s) (entries (length owners) (length targets)) w3 w4)
+                  (c4 : SettledAll owners offsets targets (p % 2) p H Rg E w3 w4)
                 where
                   abbrev R : Set
                   R = setAt n H w4
@@ -315,7 +310,9 @@ module _ (owners priorities offsets targets : List ℕ) (ok : Accepted (tablesOf
                   long4 : length w4 ≡ length w0
                   long4 = c4 .keeps .long ∙ long3
 
-                  pulled4 : Pulled g (parity p) (upTo (unsolved g T) T p) (atRegion (unsolved g T) T p) R (entryOf n m w2) (entryOf n m w3)
+                  pulled4 :
+                      Pulled g (parity p) (upTo (unsolved g T) T p) (atRegion (unsolved g T) T p) R (entryOf n m w2)
+                      (entryOf n m w3)
                   unfolding gameOf
                   pulled4 =
                       pulled-as lower2 held2 (λ v. held3 v ∙ held4-at v)
@@ -324,12 +321,18 @@ module _ (owners priorities offsets targets : List ℕ) (ok : Accepted (tablesOf
                   small4 : (v : ℕ) → R v ≡ true → v < n
                   small4 v i = held-small v (held4-at v ∙ i)
 
-                  region4 : (v : ℕ) → v < n → regionAt Rg w4 v ≡ cond (R v) p (regionAt Rg w0 v)
+                  -- the region of v, where b says whether it is in R
+                  abbrev regionWhere : Bool → ℕ → ℕ
+                  regionWhere b v = cond b p (regionAt Rg w0 v)
+
+                  region4 : (v : ℕ) → v < n → regionAt Rg w4 v ≡ regionWhere (R v) v
                   region4 v l =
                       ⊎-elim
-                      (λ (i : R v ≡ true). c4 .inside v (held4-at v ∙ i) .region ∙ sym (ap (λ (b : Bool). cond b p (regionAt Rg w0 v)) i))
+                      (λ (i : R v ≡ true).
+                      c4 .inside v (held4-at v ∙ i) .region ∙ sym (ap (λ (b : Bool). regionWhere b v) i))
                       (λ (i : R v ≡ false).
-                      ap (λ (c : ℕ × ℕ). c .0) (c4 .outside v l (held4-at v ∙ i)) ∙ region3 v ∙ sym (ap (λ (b : Bool). cond b p (regionAt Rg w0 v)) i))
+                      ap (λ (c : ℕ × ℕ). c .0) (c4 .outside v l (held4-at v ∙ i)) ∙ region3 v ∙
+                      sym (ap (λ (b : Bool). regionWhere b v) i))
                       (bool-cases (R v))
 
                   -- words of the table of predecessors, of the unsolved set, and behind R
@@ -354,18 +357,20 @@ module _ (owners priorities offsets targets : List ℕ) (ok : Accepted (tablesOf
                       (λ l. rw (le-ltb v n l))
                       (lt-or-ge v n)
                     where
-                      now : v < n → tableAt n m s w4 v ≡ cond (R v) p (regionAt Rg w0 v)
-                      now l = table-below n m s w4 v l ∙ region4 v l
+                      now : v < n → {b : Bool} → R v ≡ b → tableAt n m s w4 v ≡ regionWhere b v
+                      now l i = table-below n m s w4 v l ∙ region4 v l ∙ ap (λ (b : Bool). regionWhere b v) i
 
                       same-side : v < n → (R v ≡ true) ⊎ (R v ≡ false) → ltb (T v) 256 ≡ ltb (tableAt n m s w4 v) 256
                       same-side l (inl i) =
                           let up = pulled4 .certificate .inside v i in
                           let at = ready .unsolved v ∙ refl in
-                          let low = and-right (ltb v n) (ltb (T v) 256) (sym at ∙ sym (left-is v) ∙ and-left (unsolved g T v) (leb (T v) p) up) in
-                          low ∙ sym (lt-ltb (tableAt n m s w4 v) 256 (rw (now l ∙ ap (λ (b : Bool). cond b p (regionAt Rg w0 v)) i) small))
+                          let low =
+                          and-right (ltb v n) (ltb (T v) 256)
+                          (sym at ∙ sym (left-is v) ∙ and-left (unsolved g T v) (leb (T v) p) up) in
+                          low ∙ sym (lt-ltb (tableAt n m s w4 v) 256 (rw (now l i) small))
                       same-side l (inr i) =
                           ap (λ (x : ℕ). ltb x 256)
-                          (table-below n m s w0 v l ∙ sym (now l ∙ ap (λ (b : Bool). cond b p (regionAt Rg w0 v)) i))
+                          (table-below n m s w0 v l ∙ sym (now l i))
 
                   -- an entry is no vertex number
                   no-vertex : (x : ℕ) → x < n → x ≡ noEntry → ⊥
@@ -381,7 +386,7 @@ module _ (owners priorities offsets targets : List ℕ) (ok : Accepted (tablesOf
                             let l = small4 v i in
                             let is = pulled4 .entered v i out o in
                             let edge = pulled4 .certificate .pulled v i out o .0 in
-                            let end = accepted-total (tablesOf owners priorities offsets targets) ok .ends v (pulled4 .certificate .pull v) edge in
+                            let end = accepted-total t ok .ends v (pulled4 .certificate .pull v) edge in
                             c4 .inside v (held4-at v ∙ i) .kept
                             (λ own none. no-vertex (pulled4 .certificate .pull v) end (sym is ∙ none)) ∙
                             is;
@@ -398,14 +403,14 @@ module _ (owners priorities offsets targets : List ℕ) (ok : Accepted (tablesOf
                             (λ (S' : Set).
                             someOf (g .targets v) S' ≡ true → Edge g v (entryOf n m w4 v) × (S' (entryOf n m w4 v) ≡ true))
                             held4
-                            (c4 .inside v (held4-at v ∙ r) .found (owner-number (tablesOf owners priorities offsets targets) ok p v l o) (stays3 v i ∙ none))
+                            (c4 .inside v (held4-at v ∙ r) .found (owner-number t ok p v l o) (stays3 v i ∙ none))
                             has;
                         missing =
                             λ v i o none out.
                             let r = pulled4 .certificate .closed .target v i in
                             let l = small4 v r in
                             subst (λ (S' : Set). someOf (g .targets v) S' ≡ false → entryOf n m w4 v ≡ noEntry) held4
-                            (c4 .inside v (held4-at v ∙ r) .missing (owner-number (tablesOf owners priorities offsets targets) ok p v l o) (stays3 v i ∙ none))
+                            (c4 .inside v (held4-at v ∙ r) .missing (owner-number t ok p v l o) (stays3 v i ∙ none))
                             out;
                         elsewhere =
                             λ v l out.

@@ -1,9 +1,12 @@
--- `solve_priority_promotion` meets its contract: a refusal is returned with nothing written; past the checks the run is done in the first W words.
+-- `solve_priority_promotion` meets its contract: a refusal is returned with nothing written; past the checks the run is done in
+-- the first W words.
 use mathlib.Core.List.{_++_}
 use mathlib.Core.Path.{_≡_, subst}
 use Prim.Native.Nat.{ℕ, _-_}
 use native.Mathlib.Omega.{arith}
 use lib.ListN.{length, take, drop}
+use Rattle.rules.specs.Counting.{Set}
+use Rattle.rules.specs.Game.{Player}
 use Rattle.rules.specs.Outcome.{none}
 use Rattle.rules.specs.Solver.{Lent, solverChecks, Solves}
 use Rattle.rules.specs.Tables.{Tables, gameOf, tablesOf}
@@ -24,8 +27,17 @@ abbrev tables : tie.Start → Tables
 tables g = tablesOf (g .args .owners .now) (g .args .priorities .now) (g .args .offsets .now) (g .args .targets .now)
 
 abbrev lent : tie.Start → Lent
-lent g = record { even = g .args .even .now; odd = g .args .odd .now; strategy = g .args .strategy .now; work = g .args .work .now }
+lent g =
+    let a = g .args in record { even = a .even .now; odd = a .odd .now; strategy = a .strategy .now; work = a .work .now }
 
+-- the rounds needed, and the sets that they win
+abbrev needed : tie.Start → ℕ
+needed g = roundsNeeded (gameOf (tables g)) (g .args .budget)
+
+abbrev won : tie.Start → Player → Set
+won g = wonIn (tables g) (g .args .budget)
+
+-- where the function begins
 abbrev start : tie.After-enum-told → tie.Start
 start d = d .before .before .before .before .before .before .before .before .before .before .before
 
@@ -33,21 +45,25 @@ start d = d .before .before .before .before .before .before .before .before .bef
 no-refusal : (d : tie.After-enum-told) → solverChecks (tables (start d)) (lent (start d)) ≡ none
 no-refusal d =
     let g = start d in
-    went-on (d .before .before .check-all .result) (solverChecks (tables g) (lent g)) (d .before .match .keys1) (numbered-checks (tables g) (lent g))
-    (d .before .before .check-all .ensures)
+    let f = d .before .before .check-all in
+    went-on (f .result) (solverChecks (tables g) (lent g)) (d .before .match .keys1) (numbered-checks (tables g) (lent g))
+    (f .ensures)
 
 passed :
     (d : tie.After-enum-told) →
-    let g = start d in
-    Passed (tables g) (length (g .args .even .now)) (length (g .args .odd .now)) (length (g .args .strategy .now)) (length (g .args .work .now))
+    let a = start d .args in
+    Passed (tables (start d)) (length (a .even .now)) (length (a .odd .now)) (length (a .strategy .now)) (length (a .work .now))
 passed d =
-    let g = start d in
-    checks-passed (tables g) (length (g .args .even .now)) (length (g .args .odd .now)) (length (g .args .strategy .now)) (length (g .args .work .now))
-    (no-refusal d)
+    let a = start d .args in
+    checks-passed (tables (start d)) (length (a .even .now)) (length (a .odd .now)) (length (a .strategy .now))
+    (length (a .work .now)) (no-refusal d)
 
 -- what the run left
+abbrev checked : tie.After-run → tie.After-enum-told
+checked r = r .before .before .before .before .before .before
+
 abbrev began : tie.After-run → tie.Start
-began r = start (r .before .before .before .before .before .before)
+began r = start (checked r)
 
 abbrev words : tie.After-run → ℕ
 words r = r .before .before .before .before .before .work-words .result
@@ -68,19 +84,18 @@ solved :
     (r : tie.After-run) {x : Ran} →
     r .run .result ≡ x →
     let g = began r in
-    Solves (g .args .compute-strategy) (g .args .budget) (tables g) (roundsNeeded (gameOf (tables g)) (g .args .budget))
-    (wonIn (tables g) (g .args .budget)) (lent g) (after r) (ranOutcome (g .args .budget) x)
+    Solves (g .args .compute-strategy) (g .args .budget) (tables g) (needed g) (won g) (lent g) (after r)
+    (ranOutcome (g .args .budget) x)
 solved r {x} e =
     let g = began r in
-    solves-ran (g .args .compute-strategy) (g .args .budget) (tables g) (roundsNeeded (gameOf (tables g)) (g .args .budget))
-    (wonIn (tables g) (g .args .budget)) (lent g) (after r) x (no-refusal (r .before .before .before .before .before .before))
+    solves-ran (g .args .compute-strategy) (g .args .budget) (tables g) (needed g) (won g) (lent g) (after r) x
+    (no-refusal (checked r))
     (subst
-    (Runs (g .args .compute-strategy) (g .args .budget) (tables g) (roundsNeeded (gameOf (tables g)) (g .args .budget))
-    (wonIn (tables g) (g .args .budget)) (outputsOf (lent g)) (outputsOf (after r)))
+    (Runs (g .args .compute-strategy) (g .args .budget) (tables g) (needed g) (won g) (outputsOf (lent g)) (outputsOf (after r)))
     e
     (r .run .ensures .1))
     (work-cleared (tables g) (words r) (g .args .work .now) (r .run .last .1 .1 .1 .1 .1 .1 .1 .1 .1 .0)
-    (r .before .before .before .before .before .work-words .ensures) (passed (r .before .before .before .before .before .before) .work-size) (r .run .ensures .0))
+    (r .before .before .before .before .before .work-words .ensures) (passed (checked r) .work-size) (r .run .ensures .0))
 
 check-all-requires : tie.Need-check-all-requires
 check-all-requires c κs = search needs
@@ -91,8 +106,7 @@ enum-told c = search needs
 returns : tie.Need-returns
 returns c =
     let g = c .before .before .before .before .before .before .before .before .before .before in
-    solves-refused (g .args .compute-strategy) (g .args .budget) (tables g) (roundsNeeded (gameOf (tables g)) (g .args .budget))
-    (wonIn (tables g) (g .args .budget)) (lent g) _
+    solves-refused (g .args .compute-strategy) (g .args .budget) (tables g) (needed g) (won g) (lent g) _
     (c .before .check-all .ensures) (refusal-not-zero (c .before .check-all .result) (c .match .keys2))
 
 work-words-requires : tie.Need-work-words-requires
@@ -106,14 +120,16 @@ part-run-start : tie.Need-part-run-start
 part-run-start c = search needs
 
 part-run-end : tie.Need-part-run-end
-part-run-end c = omega (arith, passed (c .before .before .before .before) .work-size, c .before .before .before .work-words .ensures)
+part-run-end c =
+    omega (arith, passed (c .before .before .before .before) .work-size, c .before .before .before .work-words .ensures)
 
 run-requires : tie.Need-run-requires
 run-requires c κs =
     let d = c .before .before .before .before .before in
     let a = start d .args in
     let w = c .before .before .before .before .work-words in
-    run-ready (tables (start d)) (w .result) (a .even .now) (a .odd .now) (a .strategy .now) (a .work .now) (w .ensures) (passed d)
+    run-ready (tables (start d)) (w .result) (a .even .now) (a .odd .now) (a .strategy .now) (a .work .now) (w .ensures)
+    (passed d)
 
 enum-known-ran : tie.Need-enum-known-ran
 enum-known-ran c = search needs
@@ -134,7 +150,8 @@ same-length-4 : tie.Need-same-length-4
 same-length-4 c = search needs
 
 returns-2 : tie.Need-returns-2
-returns-2 c = solved (c .before .before .before .before .before .before .before .before .before .before) (c .enum-told2 .given .1)
+returns-2 c =
+    solved (c .before .before .before .before .before .before .before .before .before .before) (c .enum-told2 .given .1)
 
 same-length-5 : tie.Need-same-length-5
 same-length-5 c = search needs
@@ -149,7 +166,8 @@ same-length-8 : tie.Need-same-length-8
 same-length-8 c = search needs
 
 returns-3 : tie.Need-returns-3
-returns-3 c = solved (c .before .before .before .before .before .before .before .before .before .before .before) (c .before .ran .given .1)
+returns-3 c =
+    solved (c .before .before .before .before .before .before .before .before .before .before .before) (c .before .ran .given .1)
 
 pub solve-priority-promotion-spec : {M : Type 1} → statement M
 solve-priority-promotion-spec =

@@ -49,8 +49,8 @@ collect-requires c κs =
     let d = c .before .before .before in
     let g = first d in
     let a = g .args in
-    collect-ready (a .owners .now) (g .pre .priorities) (a .offsets .now) (a .targets .now) (g .pre .accepted) (a .s) (a .p) (a .work .now) (g .pre .ready)
-    (g .pre .small) (d .clear .ensures)
+    collect-ready (a .owners .now) (g .pre .priorities) (g .pre .accepted) (a .p) (g .pre .ready) (g .pre .small)
+    (d .clear .ensures)
 
 attract-requires : tie.Need-attract-requires
 attract-requires c κs =
@@ -58,8 +58,8 @@ attract-requires c κs =
     let d = e .before .before .before .before in
     let g = first d in
     let a = g .args in
-    attract-ready (a .owners .now) (g .pre .priorities) (a .offsets .now) (a .targets .now) (g .pre .accepted) (a .s) (a .p) (a .work .now) (g .pre .ready)
-    (g .pre .small) (d .clear .ensures) (e .collect .ensures)
+    attract-ready (a .owners .now) (g .pre .priorities) (g .pre .accepted) (a .p) (g .pre .ready) (g .pre .small)
+    (d .clear .ensures) (e .collect .ensures)
 
 assign-missing-strategies-requires : tie.Need-assign-missing-strategies-requires
 assign-missing-strategies-requires c κs =
@@ -68,8 +68,8 @@ assign-missing-strategies-requires c κs =
     let d = e .before .before .before .before in
     let g = first d in
     let a = g .args in
-    settle-ready (a .owners .now) (g .pre .priorities) (a .offsets .now) (a .targets .now) (g .pre .accepted) (a .s) (a .p) (a .work .now) (g .pre .ready)
-    (g .pre .small) (d .clear .ensures) (e .collect .ensures) (f .attract .ensures (g .pre .priorities) (g .pre .accepted))
+    settle-ready (a .owners .now) (g .pre .priorities) (g .pre .accepted) (a .p) (g .pre .ready) (g .pre .small)
+    (d .clear .ensures) (e .collect .ensures) (f .attract .ensures (g .pre .priorities) (g .pre .accepted))
 
 same-length : tie.Need-same-length
 same-length c = search needs
@@ -82,7 +82,7 @@ returns c priorities ok =
     let d = e .before .before .before .before in
     let g = first d in
     let a = g .args in
-    queried (a .owners .now) priorities (a .offsets .now) (a .targets .now) ok (a .s) (a .p) (a .work .now) (g .pre .ready) (g .pre .small)
+    queried (a .owners .now) priorities ok (a .p) (g .pre .ready) (g .pre .small)
     (d .clear .ensures) (e .collect .ensures) (f .attract .ensures priorities ok) (h .assign-missing-strategies .ensures)
 
 pub query-spec : {M : Type 1} → statement M
