@@ -143,12 +143,12 @@ module _ {owners offsets targets : List ℕ} {p s held regions entries : ℕ} {w
         pub settle-turn :
             {alpha v : ℕ} {after : List ℕ} →
             Settled owners offsets targets alpha p held regions entries v now after →
-            Turn (length owners) (Aside (length owners) regions entries) (Tallied (length owners) regions) (cellAt regions entries)
-            (Settles owners offsets targets alpha p (setAt (length owners) held work)) v now after
+            Turn (length owners) (Aside (length owners) regions entries) (Tallied (length owners) regions)
+            (cellAt regions entries) (Settles owners offsets targets alpha p (setAt (length owners) held work)) v now after
         settle-turn {alpha} {v} {after} t =
             subst
             (λ (xs : List ℕ).
-            Turn (length owners) (Aside (length owners) regions entries) (Tallied (length owners) regions) (cellAt regions entries)
-            (Settles owners offsets targets alpha p (setOf xs)) v now after)
+            Turn (length owners) (Aside (length owners) regions entries) (Tallied (length owners) regions)
+            (cellAt regions entries) (Settles owners offsets targets alpha p (setOf xs)) v now after)
             (between-words (given .between) keeps)
             t

@@ -31,6 +31,16 @@ past3 c = past2 (c .before .before .before)
 abbrev past4 : tie.After-enum-told4 → tie.Start
 past4 c = past3 (c .before .before .before)
 
+-- the checks of the outputs' sizes
+abbrev check2 : tie.Start → Verdict
+check2 c = oneSet (vertices (tables c)) (c .args .even)
+
+abbrev check3 : tie.Start → Verdict
+check3 c = oneSet (vertices (tables c)) (c .args .odd)
+
+abbrev check4 : tie.Start → Verdict
+check4 c = oneTable (vertices (tables c)) (c .args .strategy)
+
 -- the whole verdict, and what is left of it past each check
 abbrev whole : tie.Start → Verdict
 whole c = checksBy (tables c) (c .args .even) (c .args .odd) (c .args .strategy) (c .args .work)
@@ -57,22 +67,23 @@ out e = ap (λ (v : Verdict). outcome v (answered 0)) e
 none1 : (c : tie.After-enum-told) → tableChecks (tables (past1 c)) ≡ none
 none1 c =
     let called = c .before .before .check-tables in
-    went-on (called .result) (tableChecks (tables (past1 c))) (c .before .match .keys1) (numbered-tables (tables (past1 c))) (called .ensures)
+    went-on (called .result) (tableChecks (tables (past1 c))) (c .before .match .keys1) (numbered-tables (tables (past1 c)))
+    (called .ensures)
 
-none2 : (c : tie.After-enum-told2) → oneSet (vertices (tables (past2 c))) (past2 c .args .even) ≡ none
+none2 : (c : tie.After-enum-told2) → check2 (past2 c) ≡ none
 none2 c =
     let called = c .before .before .check-set in
-    went-on (called .result) (oneSet (vertices (tables (past2 c))) (past2 c .args .even)) (c .before .match2 .keys1) (numbered-check9 _ _ _) (called .ensures)
+    went-on (called .result) (check2 (past2 c)) (c .before .match2 .keys1) (numbered-check9 _ _ _) (called .ensures)
 
-none3 : (c : tie.After-enum-told3) → oneSet (vertices (tables (past3 c))) (past3 c .args .odd) ≡ none
+none3 : (c : tie.After-enum-told3) → check3 (past3 c) ≡ none
 none3 c =
     let called = c .before .before .check-set2 in
-    went-on (called .result) (oneSet (vertices (tables (past3 c))) (past3 c .args .odd)) (c .before .match3 .keys1) (numbered-check9 _ _ _) (called .ensures)
+    went-on (called .result) (check3 (past3 c)) (c .before .match3 .keys1) (numbered-check9 _ _ _) (called .ensures)
 
-none4 : (c : tie.After-enum-told4) → oneTable (vertices (tables (past4 c))) (past4 c .args .strategy) ≡ none
+none4 : (c : tie.After-enum-told4) → check4 (past4 c) ≡ none
 none4 c =
     let called = c .before .before .check-table in
-    went-on (called .result) (oneTable (vertices (tables (past4 c))) (past4 c .args .strategy)) (c .before .match4 .keys1) (numbered-check9 _ _ _)
+    went-on (called .result) (check4 (past4 c)) (c .before .match4 .keys1) (numbered-check9 _ _ _)
     (called .ensures)
 
 -- what is left past each check is the whole verdict
@@ -81,15 +92,15 @@ is1 c = passed (tableChecks (tables (past1 c))) (left1 (past1 c)) (whole (past1 
 
 is2 : (c : tie.After-enum-told2) → left2 (past2 c) ≡ whole (past2 c)
 is2 c =
-    passed (oneSet (vertices (tables (past2 c))) (past2 c .args .even)) (left2 (past2 c)) (whole (past2 c)) (none2 c) (is1 (c .before .before .before))
+    passed (check2 (past2 c)) (left2 (past2 c)) (whole (past2 c)) (none2 c) (is1 (c .before .before .before))
 
 is3 : (c : tie.After-enum-told3) → left3 (past3 c) ≡ whole (past3 c)
 is3 c =
-    passed (oneSet (vertices (tables (past3 c))) (past3 c .args .odd)) (left3 (past3 c)) (whole (past3 c)) (none3 c) (is2 (c .before .before .before))
+    passed (check3 (past3 c)) (left3 (past3 c)) (whole (past3 c)) (none3 c) (is2 (c .before .before .before))
 
 is4 : (c : tie.After-enum-told4) → left4 (past4 c) ≡ whole (past4 c)
 is4 c =
-    passed (oneTable (vertices (tables (past4 c))) (past4 c .args .strategy)) (left4 (past4 c)) (whole (past4 c)) (none4 c) (is3 (c .before .before .before))
+    passed (check4 (past4 c)) (left4 (past4 c)) (whole (past4 c)) (none4 c) (is3 (c .before .before .before))
 
 -- what is known of the tables past the first check
 sound : (c : tie.After-enum-told) → Sound (tables (past1 c))
@@ -105,7 +116,8 @@ enum-told c = search needs
 returns : tie.Need-returns
 returns c =
     let g = at1 (c .before) in
-    stopped (c .before .check-tables .result) (tableChecks (tables g)) (left1 g) (answered 0) (c .match .keys2) (c .before .check-tables .ensures) ∙
+    stopped (c .before .check-tables .result) (tableChecks (tables g)) (left1 g) (answered 0) (c .match .keys2)
+    (c .before .check-tables .ensures) ∙
     out (in-order g)
 
 check-set-requires : tie.Need-check-set-requires
@@ -117,7 +129,7 @@ enum-told-2 c = search needs
 returns-2 : tie.Need-returns-2
 returns-2 c =
     let g = past1 (c .before .before) in
-    stopped (c .before .check-set .result) (oneSet (vertices (tables g)) (g .args .even)) (left2 g) (answered 0) (c .match2 .keys2)
+    stopped (c .before .check-set .result) (check2 g) (left2 g) (answered 0) (c .match2 .keys2)
     (c .before .check-set .ensures) ∙
     out (is1 (c .before .before))
 
@@ -130,7 +142,7 @@ enum-told-3 c = search needs
 returns-3 : tie.Need-returns-3
 returns-3 c =
     let g = past2 (c .before .before) in
-    stopped (c .before .check-set2 .result) (oneSet (vertices (tables g)) (g .args .odd)) (left3 g) (answered 0) (c .match3 .keys2)
+    stopped (c .before .check-set2 .result) (check3 g) (left3 g) (answered 0) (c .match3 .keys2)
     (c .before .check-set2 .ensures) ∙
     out (is2 (c .before .before))
 
@@ -143,7 +155,7 @@ enum-told-4 c = search needs
 returns-4 : tie.Need-returns-4
 returns-4 c =
     let g = past3 (c .before .before) in
-    stopped (c .before .check-table .result) (oneTable (vertices (tables g)) (g .args .strategy)) (left4 g) (answered 0) (c .match4 .keys2)
+    stopped (c .before .check-table .result) (check4 g) (left4 g) (answered 0) (c .match4 .keys2)
     (c .before .check-table .ensures) ∙
     out (is3 (c .before .before))
 
