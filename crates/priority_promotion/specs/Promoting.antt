@@ -111,34 +111,36 @@ module _ (priorities : List ℕ) (q s held regions entries v : ℕ) (work : List
 
 -- ---- the walk
 
-module _ (priorities : List ℕ) (q s unsolved held regions entries : ℕ) (work : List ℕ)
+module _ {priorities : List ℕ} {q s unsolved held regions entries : ℕ} {work : List ℕ}
     (given : PromoteAll priorities q s unsolved held regions entries work)
   where
     pub promote-walkable : Walkable (length priorities) s unsolved (Aside (length priorities) regions entries) work
     promote-walkable = between-walkable (given .size) (given .room) (given .between) (given .below)
 
-    module _ (now : List ℕ) (keeps : Keeps (Aside (length priorities) regions entries) (Tallied (length priorities) regions) work now) where
-      pub promote-ready : (v : ℕ) → v < length priorities → Promotable priorities q s held regions entries v now
-      promote-ready v small =
-          record {
-            size = given .size;
-            room = keeps-room (given .room) keeps;
-            holds = given .holds;
-            small = small;
-            low = given .low v small;
-            most = given .most;
-          }
+    module _ {now : List ℕ}
+        (keeps : Keeps (Aside (length priorities) regions entries) (Tallied (length priorities) regions) work now)
+      where
+        pub promote-ready : (v : ℕ) → v < length priorities → Promotable priorities q s held regions entries v now
+        promote-ready v small =
+            record {
+              size = given .size;
+              room = keeps-room (given .room) keeps;
+              holds = given .holds;
+              small = small;
+              low = given .low v small;
+              most = given .most;
+            }
 
-      -- what `promote_vertex` does is what the walk asks
-      pub promote-turn :
-          (v : ℕ) (after : List ℕ) →
-          Promoted priorities q held regions entries v now after →
-          Turn (length priorities) (Aside (length priorities) regions entries) (Tallied (length priorities) regions) (cellAt regions entries)
-          (Promotes priorities q (setAt (length priorities) held work)) v now after
-      promote-turn v after t =
-          subst
-          (λ (xs : List ℕ).
-          Turn (length priorities) (Aside (length priorities) regions entries) (Tallied (length priorities) regions)
-          (cellAt regions entries) (Promotes priorities q (setOf xs)) v now after)
-          (between-words (given .holds) keeps)
-          t
+        -- what `promote_vertex` does is what the walk asks
+        pub promote-turn :
+            {v : ℕ} {after : List ℕ} →
+            Promoted priorities q held regions entries v now after →
+            Turn (length priorities) (Aside (length priorities) regions entries) (Tallied (length priorities) regions)
+            (cellAt regions entries) (Promotes priorities q (setAt (length priorities) held work)) v now after
+        promote-turn {v} {after} t =
+            subst
+            (λ (xs : List ℕ).
+            Turn (length priorities) (Aside (length priorities) regions entries) (Tallied (length priorities) regions)
+            (cellAt regions entries) (Promotes priorities q (setOf xs)) v now after)
+            (between-words (given .holds) keeps)
+            t

@@ -16,11 +16,12 @@ use Rattle.priority_promotion.proofs.promote.apply_priority_promotion.T
 
 abbrev Inv-loop : tie.InvT-loop
 Inv-loop priorities q s work₀ unsolved held regions entries walk₀ work walk =
-    WalkedTo (length priorities) unsolved (Aside (length priorities) regions entries) (Tallied (length priorities) regions) (cellAt regions entries)
-    (Promotes priorities q (setAt (length priorities) held work₀)) work₀ walk work
+    WalkedTo (length priorities) unsolved (Aside (length priorities) regions entries) (Tallied (length priorities) regions)
+    (cellAt regions entries) (Promotes priorities q (setAt (length priorities) held work₀)) work₀ walk work
 
 abbrev μ-loop : tie.MeasureT-loop
-μ-loop priorities q s work₀ unsolved held regions entries walk₀ work walk = length (left (wordsAt (length priorities) unsolved work₀) walk)
+μ-loop priorities q s work₀ unsolved held regions entries walk₀ work walk =
+    length (left (wordsAt (length priorities) unsolved work₀) walk)
 
 -- where the function begins, and the loop's head of a turn
 abbrev start-of : tie.At-loop Inv-loop μ-loop → tie.Start Inv-loop μ-loop
@@ -50,8 +51,9 @@ moved c = subst (Walks (part (turn c)) (turn c .loop .walk)) (c .next2 .given .1
 walkable :
     (g : tie.Start Inv-loop μ-loop) →
     let a = g .args in
-    Walkable (length (a .priorities .now)) (a .s) (a .unsolved) (Aside (length (a .priorities .now)) (a .regions) (a .entries)) (a .work .now)
-walkable g = let a = g .args in promote-walkable (a .priorities .now) (a .q) (a .s) (a .unsolved) (a .held) (a .regions) (a .entries) (a .work .now) (g .pre)
+    Walkable (length (a .priorities .now)) (a .s) (a .unsolved) (Aside (length (a .priorities .now)) (a .regions) (a .entries))
+    (a .work .now)
+walkable g = promote-walkable (g .pre)
 
 small : (c : tie.After-next2 Inv-loop μ-loop) → vertex c < (let a = start-of (turn c) .args in length (a .priorities .now))
 small c = walked-small (walkable (start-of (turn c))) (turn c .loop .inv) (after c) (moved c)
@@ -75,7 +77,9 @@ new-requires : tie.Need-new-requires Inv-loop μ-loop
 new-requires c κs = search needs
 
 loop-holds : tie.Need-loop-holds Inv-loop μ-loop
-loop-holds c = let g = c .before .before .before .before .before in walked-none (walkable g) (g .pre .room .tallied) (c .new .result) (c .new .ensures)
+loop-holds c =
+    let g = c .before .before .before .before .before in
+    walked-none (walkable g) (g .pre .room .tallied) (c .new .result) (c .new .ensures)
 
 add-next : tie.Need-add-next Inv-loop μ-loop
 add-next c = search needs
@@ -114,10 +118,7 @@ returns c =
 promote-vertex-requires : tie.Need-promote-vertex-requires Inv-loop μ-loop
 promote-vertex-requires c κs =
     let d = c .before .before in
-    let g = start-of (turn d) in
-    let a = g .args in
-    promote-ready (a .priorities .now) (a .q) (a .s) (a .unsolved) (a .held) (a .regions) (a .entries) (a .work .now) (g .pre) (turn d .loop .work)
-    (turn d .loop .inv .keeps) (vertex d) (small d)
+    promote-ready (start-of (turn d) .pre) (turn d .loop .inv .keeps) (vertex d) (small d)
 
 loop-less : tie.Need-loop-less Inv-loop μ-loop
 loop-less c =
@@ -128,10 +129,8 @@ loop-again : tie.Need-loop-again Inv-loop μ-loop
 loop-again c =
     let d = c .before .before .before .before .before in
     let g = start-of (turn d) in
-    let a = g .args in
     walked-more (walkable g) (turn d .loop .inv) (after d) (moved d)
-    (promote-turn (a .priorities .now) (a .q) (a .s) (a .unsolved) (a .held) (a .regions) (a .entries) (a .work .now) (g .pre) (turn d .loop .work)
-    (turn d .loop .inv .keeps) (vertex d) _ (c .before .before .promote-vertex .ensures))
+    (promote-turn (g .pre) (turn d .loop .inv .keeps) (c .before .before .promote-vertex .ensures))
 
 pub apply-priority-promotion-spec : {M : Type 1} → statement M
 apply-priority-promotion-spec =
