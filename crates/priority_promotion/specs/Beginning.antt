@@ -58,7 +58,7 @@ count-all (suc n) f zeros q = go (count-all n f (λ v l. zeros v (omega arith)) 
         let was : count n (λ v. eqb (f v) q) ≡ 0 = before ∙ ap (λ (b : Bool). cond b n 0) (ne-eqb q 0 d) in
         rw (ne-eqb (f n) q (λ e. d (omega (arith, here))), ne-eqb q 0 d) (omega arith)
 
-module _ (priorities : List ℕ) (m s : ℕ) (w0 : List ℕ) (given : Beginnable priorities m s w0) where
+module _ {priorities : List ℕ} {m s : ℕ} {w0 : List ℕ} (given : Beginnable priorities m s w0) where
   abbrev n : ℕ
   n = length priorities
 
@@ -160,7 +160,7 @@ pub record BegunOf (n : ℕ) (priorities : List ℕ) (m s : ℕ) (before after :
 abbrev pub Begun : List ℕ → ℕ → ℕ → List ℕ → List ℕ → ℕ → Type 0
 Begun priorities = BegunOf (length priorities) priorities
 
-module _ (priorities : List ℕ) (m s : ℕ) (w0 : List ℕ) (given : Beginnable priorities m s w0) {w1 : List ℕ}
+module _ {priorities : List ℕ} {m s : ℕ} {w0 : List ℕ} (given : Beginnable priorities m s w0) {w1 : List ℕ}
     (c : Cleared (lowerAt (length priorities) m s) (4 * s + length priorities + 257) w0 w1) {i : ℕ} {after : List ℕ}
     (b : BegunTo priorities m s i (set w1 (regionsAt (length priorities) m s + length priorities) (length priorities)) after)
     (all : length priorities ≤ i)

@@ -1,5 +1,5 @@
--- R goes over to region q, and other vertices of a region below q get their own priorities back and lose their entries. With 256 for q
--- that is what a dominion does.
+-- R goes over to region q, and other vertices of a region below q get their own priorities back and lose their entries. With 256
+-- for q that is what a dominion does.
 use mathlib.Core.Bool.{true, false, cond}
 use mathlib.Core.List.{List}
 use mathlib.Core.Path.{_≡_, sym, ap, subst, _∙_}
@@ -48,18 +48,18 @@ pub record Promotable (priorities : List ℕ) (q s held regions entries v : ℕ)
 
 abbrev pub Promoted : List ℕ → ℕ → ℕ → ℕ → ℕ → ℕ → List ℕ → List ℕ → Type 0
 Promoted priorities q held regions entries v before after =
-    Turn (length priorities) (Aside (length priorities) regions entries) (Tallied (length priorities) regions) (cellAt regions entries)
-    (Promotes priorities q (setAt (length priorities) held before)) v before after
+    Turn (length priorities) (Aside (length priorities) regions entries) (Tallied (length priorities) regions)
+    (cellAt regions entries) (Promotes priorities q (setAt (length priorities) held before)) v before after
 
 abbrev pub PromotedAllOf : ℕ → List ℕ → ℕ → ℕ → ℕ → ℕ → ℕ → List ℕ → List ℕ → Type 0
 PromotedAllOf n priorities q unsolved held regions entries before after =
-    Walked n unsolved (Aside n regions entries) (Tallied n regions) (cellAt regions entries) (Promotes priorities q (setAt n held before)) before
-    after
+    Walked n unsolved (Aside n regions entries) (Tallied n regions) (cellAt regions entries)
+    (Promotes priorities q (setAt n held before)) before after
 
 abbrev pub PromotedAll : List ℕ → ℕ → ℕ → ℕ → ℕ → ℕ → List ℕ → List ℕ → Type 0
 PromotedAll priorities = PromotedAllOf (length priorities) priorities
 
-module _ (priorities : List ℕ) (q s held regions entries v : ℕ) (work : List ℕ)
+module _ {priorities : List ℕ} {q s held regions entries v : ℕ} {work : List ℕ}
     (given : Promotable priorities q s held regions entries v work)
   where
     pub held-bit : v < 64 * length (take ((held + s) - held) (drop held work))

@@ -59,11 +59,12 @@ pub record Collects (n s unsolved lower held regions : ℕ) (work : List ℕ) : 
 
 abbrev pub Collected : ℕ → ℕ → ℕ → ℕ → ℕ → ℕ → List ℕ → List ℕ → Type 0
 Collected n p unsolved lower held regions before after =
-    Walked n unsolved (Apart n lower held) (Bare n lower held) (pairAt n lower held) (Sorts p (regionAt regions before)) before after
+    Walked n unsolved (Apart n lower held) (Bare n lower held) (pairAt n lower held) (Sorts p (regionAt regions before)) before
+    after
 
 -- ---- the ends of `sort`
 
-module _ (n s p lower held regions v : ℕ) (work : List ℕ) (given : Sortable n s lower held regions v work) where
+module _ {n s : ℕ} (p : ℕ) {lower held regions v : ℕ} {work : List ℕ} (given : Sortable n s lower held regions v work) where
   -- the region is above p
   pub sorted-above : p < regionAt regions work v → Sorted n p lower held regions v work work
   sorted-above l =
@@ -73,7 +74,7 @@ module _ (n s p lower held regions v : ℕ) (work : List ℕ) (given : Sortable 
   pub lower-fits : lower + words n ≤ length work
   lower-fits = omega (arith, given .lower-held, given .held-regions, given .room)
 
-  module _ (ys : List ℕ) (put : Put v 1 (take ((lower + s) - lower) (drop lower work)) ys) where
+  module _ {ys : List ℕ} (put : Put v 1 (take ((lower + s) - lower) (drop lower work)) ys) where
     abbrev between : List ℕ
     between = back lower s work ys
 
@@ -97,7 +98,8 @@ module _ (n s p lower held regions v : ℕ) (work : List ℕ) (given : Sortable 
 
     -- the region is below p
     pub sorted-below :
-        regionAt regions work v ≤ p → (regionAt regions work v ≡ p → ⊥) → Sorted n p lower held regions v work (back lower s work ys)
+        regionAt regions work v ≤ p → (regionAt regions work v ≡ p → ⊥) →
+        Sorted n p lower held regions v work (back lower s work ys)
     sorted-below l d =
         record {
           keeps =
@@ -119,14 +121,15 @@ module _ (n s p lower held regions v : ℕ) (work : List ℕ) (given : Sortable 
     held-fits = omega (arith, given .held-regions, given .room, lower-long)
 
     -- and it is p
-    module _ (zs : List ℕ) (put' : Put v 1 (take ((held + s) - held) (drop held between)) zs) where
+    module _ {zs : List ℕ} (put' : Put v 1 (take ((held + s) - held) (drop held between)) zs) where
       held-there : (u : ℕ) → (u ≡ v → ⊥) → setAt n held (back held s between zs) u ≡ setAt n held between u
       held-there = inserted-there n s held v between zs (given .size) held-fits put'
 
       lower-same : setAt n lower (back held s between zs) ≡ setAt n lower between
       lower-same = inserted-other n s held v between zs (given .size) held-fits put' lower (inl (given .lower-held))
 
-      pub sorted-equal : regionAt regions work v ≡ p → Sorted n p lower held regions v work (back held s (back lower s work ys) zs)
+      pub sorted-equal :
+          regionAt regions work v ≡ p → Sorted n p lower held regions v work (back held s (back lower s work ys) zs)
       sorted-equal e =
           record {
             keeps =
@@ -153,7 +156,7 @@ module _ (n s p lower held regions v : ℕ) (work : List ℕ) (given : Sortable 
 
 -- ---- the walk of `collect`
 
-module _ (n s p unsolved lower held regions : ℕ) (work : List ℕ) (given : Collects n s unsolved lower held regions work) where
+module _ {n s unsolved lower held regions : ℕ} {work : List ℕ} (given : Collects n s unsolved lower held regions work) where
   pub collect-walkable : Walkable n s unsolved (Apart n lower held) work
   collect-walkable =
       record {
@@ -161,13 +164,18 @@ module _ (n s p unsolved lower held regions : ℕ) (work : List ℕ) (given : Co
         few = given .few;
         high = omega (arith, given .unsolved-lower, given .lower-held, given .held-regions, given .room);
         below = given .below;
-        out = λ i low high. (inl (omega (arith, given .unsolved-lower)), inl (omega (arith, given .unsolved-lower, given .lower-held)));
+        out = λ i low high. (
+          inl (omega (arith, given .unsolved-lower)),
+          inl (omega (arith, given .unsolved-lower, given .lower-held)),
+        );
       }
 
-  module _ (now : List ℕ) (keeps : Keeps (Apart n lower held) (Bare n lower held) work now) where
+  module _ {now : List ℕ} (keeps : Keeps (Apart n lower held) (Bare n lower held) work now) where
     -- a vertex's region is as it was
     pub region-kept : (v : ℕ) → regionAt regions now v ≡ regionAt regions work v
-    region-kept v = keeps .rest (regions + v) (inr (omega (arith, given .lower-held, given .held-regions)), inr (omega (arith, given .held-regions)))
+    region-kept v =
+        keeps .rest (regions + v)
+        (inr (omega (arith, given .lower-held, given .held-regions)), inr (omega (arith, given .held-regions)))
 
     pub sort-ready : (v : ℕ) → v < n → Sortable n s lower held regions v now
     sort-ready v small =
@@ -182,10 +190,10 @@ module _ (n s p unsolved lower held regions : ℕ) (work : List ℕ) (given : Co
 
     -- what `sort` does is what the walk asks
     pub sort-turn :
-        (v : ℕ) (after : List ℕ) →
+        (p : ℕ) {v : ℕ} {after : List ℕ} →
         Sorted n p lower held regions v now after →
         Turn n (Apart n lower held) (Bare n lower held) (pairAt n lower held) (Sorts p (regionAt regions work)) v now after
-    sort-turn v after t =
+    sort-turn p {v} {after} t =
         record {
           keeps = t .keeps;
           here =

@@ -72,14 +72,14 @@ loop-holds : tie.Need-loop-holds Inv-loop μ-loop
 loop-holds c =
     let d = c .before .before in
     let g = first d in
-    begun-none (g .args .priorities .now) (g .args .m) (g .args .s) (g .args .work .now) (g .pre) (d .clear .ensures)
+    begun-none (g .pre) (d .clear .ensures)
 
 reset-requires : tie.Need-reset-requires Inv-loop μ-loop
 reset-requires c κs =
     let i = c .before in
     let l = i .before in
     let g = first (cleared l) in
-    reset-ready (g .args .priorities .now) (g .args .m) (g .args .s) (g .args .work .now) (g .pre) (l .loop .inv) (i .loop-test .taken)
+    reset-ready (g .pre) (l .loop .inv) (i .loop-test .taken)
 
 add-v : tie.Need-add-v Inv-loop μ-loop
 add-v c = search needs
@@ -93,7 +93,7 @@ loop-again c =
     let i = r .before .before in
     let l = i .before in
     let g = first (cleared l) in
-    begun-more (g .args .priorities .now) (g .args .m) (g .args .s) (g .args .work .now) (g .pre) (l .loop .inv) (i .loop-test .taken) (r .reset .ensures)
+    begun-more (g .pre) (l .loop .inv) (i .loop-test .taken) (r .reset .ensures)
 
 next-priority-requires : tie.Need-next-priority-requires Inv-loop μ-loop
 next-priority-requires c κs = (c .before .before .loop .inv .keeps .good, omega arith)
@@ -103,7 +103,7 @@ same-length c =
     let l = c .before .before .before in
     let d = cleared l in
     let g = first d in
-    begun-all (g .args .priorities .now) (g .args .m) (g .args .s) (g .args .work .now) (g .pre) (d .clear .ensures) (l .loop .inv)
+    begun-all (g .pre) (d .clear .ensures) (l .loop .inv)
     (c .before .before .loop-test .left) (c .next-priority .ensures) .long
 
 returns : tie.Need-returns Inv-loop μ-loop
@@ -111,7 +111,7 @@ returns c =
     let l = c .before .before .before in
     let d = cleared l in
     let g = first d in (
-      begun-all (g .args .priorities .now) (g .args .m) (g .args .s) (g .args .work .now) (g .pre) (d .clear .ensures) (l .loop .inv)
+      begun-all (g .pre) (d .clear .ensures) (l .loop .inv)
           (c .before .before .loop-test .left) (c .next-priority .ensures),
       refl,
       refl,

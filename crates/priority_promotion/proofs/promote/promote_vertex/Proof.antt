@@ -23,8 +23,7 @@ part-contains-end c = search needs
 contains-requires : tie.Need-contains-requires
 contains-requires c κs =
     let g = c .before .before .before .before in
-    let a = g .args in
-    held-bit (a .priorities .now) (a .q) (a .s) (a .held) (a .regions) (a .entries) (a .v) (a .work .now) (g .pre)
+    held-bit (g .pre)
 
 set-region-requires : tie.Need-set-region-requires
 set-region-requires c κs = search needs
@@ -36,8 +35,7 @@ returns : tie.Need-returns
 returns c =
     let d = c .before .before .before .before .before in
     let g = d .before .before .before .before .before in
-    let a = g .args in
-    promoted-in (a .priorities .now) (a .q) (a .s) (a .held) (a .regions) (a .entries) (a .v) (a .work .now) (g .pre)
+    promoted-in (g .pre)
     (sym (d .contains .ensures) ∙ c .before .before .before .before .if1 .taken) (c .before .before .set-region .ensures)
 
 add-region : tie.Need-add-region
@@ -59,8 +57,7 @@ returns-2 : tie.Need-returns-2
 returns-2 c =
     let d = c .before .before .before .before .before .before .before in
     let g = d .before .before .before .before .before in
-    let a = g .args in
-    promoted-back (a .priorities .now) (a .q) (a .s) (a .held) (a .regions) (a .entries) (a .v) (a .work .now) (g .pre)
+    promoted-back (g .pre)
     (sym (d .contains .ensures) ∙ c .before .before .before .before .before .before .if1 .left)
     (c .before .before .before .before .if2 .taken) (c .before .before .reset .ensures)
 
@@ -71,8 +68,7 @@ returns-3 : tie.Need-returns-3
 returns-3 c =
     let d = c .before .before .before in
     let g = d .before .before .before .before .before in
-    let a = g .args in
-    promoted-not (a .priorities .now) (a .q) (a .s) (a .held) (a .regions) (a .entries) (a .v) (a .work .now) (g .pre)
+    promoted-not (g .pre)
     (sym (d .contains .ensures) ∙ c .before .before .if1 .left) (c .if2 .left)
 
 pub promote-vertex-spec : {M : Type 1} → statement M

@@ -15,7 +15,8 @@ use Rattle.priority_promotion.proofs.query.collect.Tie as tie
 
 abbrev Inv-loop : tie.InvT-loop
 Inv-loop n p s work₀ unsolved lower held regions walk₀ work walk =
-    WalkedTo n unsolved (Apart n lower held) (Bare n lower held) (pairAt n lower held) (Sorts p (regionAt regions work₀)) work₀ walk work
+    WalkedTo n unsolved (Apart n lower held) (Bare n lower held) (pairAt n lower held) (Sorts p (regionAt regions work₀)) work₀
+    walk work
 
 abbrev μ-loop : tie.MeasureT-loop
 μ-loop n p s work₀ unsolved lower held regions walk₀ work walk = length (left (wordsAt n unsolved work₀) walk)
@@ -47,10 +48,9 @@ moved c = subst (Walks (part (turn c)) (turn c .loop .walk)) (c .next2 .given .1
 
 walkable :
     (g : tie.Start Inv-loop μ-loop) →
-    Walkable (g .args .n) (g .args .s) (g .args .unsolved) (Apart (g .args .n) (g .args .lower) (g .args .held)) (g .args .work .now)
-walkable g =
     let a = g .args in
-    collect-walkable (a .n) (a .s) (a .p) (a .unsolved) (a .lower) (a .held) (a .regions) (a .work .now) (g .pre)
+    Walkable (a .n) (a .s) (a .unsolved) (Apart (a .n) (a .lower) (a .held)) (a .work .now)
+walkable g = collect-walkable (g .pre)
 
 small : (c : tie.After-next2 Inv-loop μ-loop) → vertex c < start-of (turn c) .args .n
 small c = walked-small (walkable (start-of (turn c))) (turn c .loop .inv) (after c) (moved c)
@@ -74,7 +74,9 @@ new-requires : tie.Need-new-requires Inv-loop μ-loop
 new-requires c κs = search needs
 
 loop-holds : tie.Need-loop-holds Inv-loop μ-loop
-loop-holds c = let g = c .before .before .before .before in walked-none (walkable g) (g .pre .bare) (c .new .result) (c .new .ensures)
+loop-holds c =
+    let g = c .before .before .before .before in
+    walked-none (walkable g) (g .pre .bare) (c .new .result) (c .new .ensures)
 
 add-next : tie.Need-add-next Inv-loop μ-loop
 add-next c = search needs
@@ -113,10 +115,7 @@ returns c =
 sort-requires : tie.Need-sort-requires Inv-loop μ-loop
 sort-requires c κs =
     let d = c .before .before in
-    let g = start-of (turn d) in
-    let a = g .args in
-    sort-ready (a .n) (a .s) (a .p) (a .unsolved) (a .lower) (a .held) (a .regions) (a .work .now) (g .pre) (turn d .loop .work)
-    (turn d .loop .inv .keeps) (vertex d) (small d)
+    sort-ready (start-of (turn d) .pre) (turn d .loop .inv .keeps) (vertex d) (small d)
 
 loop-less : tie.Need-loop-less Inv-loop μ-loop
 loop-less c =
@@ -127,10 +126,8 @@ loop-again : tie.Need-loop-again Inv-loop μ-loop
 loop-again c =
     let d = c .before .before .before .before .before in
     let g = start-of (turn d) in
-    let a = g .args in
     walked-more (walkable g) (turn d .loop .inv) (after d) (moved d)
-    (sort-turn (a .n) (a .s) (a .p) (a .unsolved) (a .lower) (a .held) (a .regions) (a .work .now) (g .pre) (turn d .loop .work)
-    (turn d .loop .inv .keeps) (vertex d) _ (c .before .before .sort .ensures))
+    (sort-turn (g .pre) (turn d .loop .inv .keeps) (g .args .p) (c .before .before .sort .ensures))
 
 pub collect-spec : {M : Type 1} → statement M
 collect-spec =

@@ -18,7 +18,7 @@ returns : tie.Need-returns
 returns c =
     let g = c .before .before .before in
     let a = g .args in
-    sorted-above (a .n) (a .s) (a .p) (a .lower) (a .held) (a .regions) (a .v) (a .work .now) (g .pre) (c .if1 .taken)
+    sorted-above (a .p) (g .pre) (c .if1 .taken)
 
 add-insert : tie.Need-add-insert
 add-insert c = search needs
@@ -40,7 +40,7 @@ insert-requires c κs =
     let g = c .before .before .before .before in
     let a = g .args in
     bit-fits (a .n) (a .s) (a .lower) (a .v) (a .work .now) (g .pre .size)
-    (lower-fits (a .n) (a .s) (a .p) (a .lower) (a .held) (a .regions) (a .v) (a .work .now) (g .pre)) (g .pre .small)
+    (lower-fits (a .p) (g .pre)) (g .pre .small)
 
 add-insert-2 : tie.Need-add-insert-2
 add-insert-2 c = search needs
@@ -63,7 +63,7 @@ insert-requires-2 c κs =
     let g = d .before .before .before .before .before in
     let a = g .args in
     bit-fits (a .n) (a .s) (a .held) (a .v) (back (a .lower) (a .s) (a .work .now) (d .insert .last .0)) (g .pre .size)
-    (held-fits (a .n) (a .s) (a .p) (a .lower) (a .held) (a .regions) (a .v) (a .work .now) (g .pre) (d .insert .last .0) (d .insert .ensures))
+    (held-fits (a .p) (g .pre) (d .insert .ensures))
     (g .pre .small)
 
 same-length : tie.Need-same-length
@@ -74,8 +74,8 @@ returns-2 c =
     let d = c .before .before .before .before .before .before .before in
     let g = d .before .before .before .before .before in
     let a = g .args in
-    sorted-equal (a .n) (a .s) (a .p) (a .lower) (a .held) (a .regions) (a .v) (a .work .now) (g .pre) (d .insert .last .0) (d .insert .ensures)
-    (c .before .before .insert2 .last .0) (c .before .before .insert2 .ensures) (c .before .before .before .before .if2 .taken)
+    sorted-equal (a .p) (g .pre) (d .insert .ensures)
+    (c .before .before .insert2 .ensures) (c .before .before .before .before .if2 .taken)
 
 same-length-2 : tie.Need-same-length-2
 same-length-2 c = search needs
@@ -85,7 +85,7 @@ returns-3 c =
     let d = c .before .before .before in
     let g = d .before .before .before .before .before in
     let a = g .args in
-    sorted-below (a .n) (a .s) (a .p) (a .lower) (a .held) (a .regions) (a .v) (a .work .now) (g .pre) (d .insert .last .0) (d .insert .ensures)
+    sorted-below (a .p) (g .pre) (d .insert .ensures)
     (d .before .before .if1 .left) (c .if2 .left)
 
 pub sort-spec : {M : Type 1} → statement M

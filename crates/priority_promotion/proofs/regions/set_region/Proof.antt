@@ -25,7 +25,8 @@ mul-work : tie.Need-mul-work
 mul-work c = omega (arith, c .before .pre .tallied .high (c .before .args .v) (c .before .pre .small))
 
 slice-read-work : tie.Need-slice-read-work
-slice-read-work c = omega (arith, c .before .before .pre .tallied .high (c .before .before .args .v) (c .before .before .pre .small))
+slice-read-work c =
+    let g = c .before .before in omega (arith, g .pre .tallied .high (g .args .v) (g .pre .small))
 
 sub-work : tie.Need-sub-work
 sub-work c =
@@ -33,7 +34,8 @@ sub-work c =
     old-counted (g .args .n) (g .args .regions) (g .args .v) (g .args .region .0) (g .args .work .now) (g .pre)
 
 slice-write-work : tie.Need-slice-write-work
-slice-write-work c = omega (arith, c .before .before .pre .tallied .high (c .before .before .args .v) (c .before .before .pre .small))
+slice-write-work c =
+    let g = c .before .before in omega (arith, g .pre .tallied .high (g .args .v) (g .pre .small))
 
 add-work-3 : tie.Need-add-work-3
 add-work-3 c = search needs
@@ -50,7 +52,11 @@ slice-read-work-2 c = simp length-set (omega arith)
 add-work-5 : tie.Need-add-work-5
 add-work-5 c =
     let g = c .before .before .before in
-    omega (arith, taken-few (g .args .n) (g .args .regions) (g .args .v) (g .args .region .0) (g .args .work .now) (g .pre) (g .args .region .0) (g .pre .most))
+    let a = g .args in
+    omega (
+      arith,
+      taken-few (a .n) (a .regions) (a .v) (a .region .0) (a .work .now) (g .pre) (a .region .0) (g .pre .most),
+    )
 
 slice-write-work-2 : tie.Need-slice-write-work-2
 slice-write-work-2 c = simp length-set (omega arith)
