@@ -49,14 +49,17 @@ module _ (offsets targets : List ℕ) (v : ℕ) (S : Set) where
   pub none-first : NoneBefore offsets targets v S (getD offsets v 0)
   none-first k low high = absurd (omega arith)
 
-  pub none-more : (e : ℕ) → NoneBefore offsets targets v S e → S (getD targets e 0) ≡ false → NoneBefore offsets targets v S (e + 1)
+  pub none-more :
+      (e : ℕ) → NoneBefore offsets targets v S e → S (getD targets e 0) ≡ false → NoneBefore offsets targets v S (e + 1)
   none-more e none here k low high = go (ℕ-discrete k e)
     where
       go : Dec (k ≡ e) → S (getD targets k 0) ≡ false
       go (yes q) = ap (λ (x : ℕ). S (getD targets x 0)) q ∙ here
       go (no d) = none k low (omega (arith, d))
 
-  pub none-at-all : (e : ℕ) → getD offsets (v + 1) 0 ≤ e → NoneBefore offsets targets v S e → someOf (targetsOf offsets targets v) S ≡ false
+  pub none-at-all :
+      (e : ℕ) → getD offsets (v + 1) 0 ≤ e → NoneBefore offsets targets v S e →
+      someOf (targetsOf offsets targets v) S ≡ false
   none-at-all e end none =
       false-someOf (targetsOf offsets targets v) S
       (λ w m.
@@ -73,7 +76,7 @@ module _ (offsets targets : List ℕ) (v : ℕ) (S : Set) where
   some-at e low high top here =
       someOf-intro (targetsOf offsets targets v) S (getD targets e 0) (place-target offsets targets v e low high top) here
 
-module _ (offsets targets : List ℕ) (v : ℕ) (set : List ℕ) (given : EdgesOf offsets targets v set) where
+module _ {offsets targets : List ℕ} {v : ℕ} {set : List ℕ} (given : EdgesOf offsets targets v set) where
   pub found-in :
       (e : ℕ) → getD offsets v 0 ≤ e → e < getD offsets (v + 1) 0 → setOf set (getD targets e 0) ≡ true →
       FoundIn offsets targets v set (getD targets e 0)

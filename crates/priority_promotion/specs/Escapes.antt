@@ -38,7 +38,8 @@ pub passed-weaker :
     ((u : ℕ) → P u → Q u) →
     Passed n base P work walk →
     Passed n base Q work walk
-passed-weaker h c = record { walking = c .walking; keeps = c .keeps; seen = λ u m gone. h u (c .seen u m gone); unseen = c .unseen }
+passed-weaker h c =
+    record { walking = c .walking; keeps = c .keeps; seen = λ u m gone. h u (c .seen u m gone); unseen = c .unseen }
 
 -- ---- R and its edges
 
@@ -106,82 +107,85 @@ pub record LowestTo (offsets targets : List ℕ) (regions p v : ℕ) (work : Lis
       p < regionAt regions work (getD targets k 0) →
       r ≤ regionAt regions work (getD targets k 0)
 
-module _ (offsets targets : List ℕ) (regions p v : ℕ) (work : List ℕ) (best : ℕ) (given : Looks offsets targets regions v work) where
-  pub lowest-none : LowestTo offsets targets regions p v work best (getD offsets v 0) best
-  lowest-none =
-      record {
-        from = le-refl (getD offsets v 0);
-        upto = given .rising;
-        most = le-refl best;
-        reached = inl refl;
-        lowest = λ k low high. absurd (omega arith);
-      }
-
-  module _ {e r : ℕ} (c : LowestTo offsets targets regions p v work best e r) where
-    pub lowest-all : getD offsets (v + 1) 0 ≤ e → LowestOf offsets targets regions p v work best r
-    lowest-all end =
+module _ {offsets targets : List ℕ} {regions p v : ℕ} {work : List ℕ} {best : ℕ}
+    (given : Looks offsets targets regions v work)
+  where
+    pub lowest-none : LowestTo offsets targets regions p v work best (getD offsets v 0) best
+    lowest-none =
         record {
-          most = c .most;
-          reached = c .reached;
-          lowest =
-              λ w m above.
-              let (k, low, high, top, is) = target-place offsets targets v w m in
-              subst (λ (x : ℕ). p < regionAt regions work x → r ≤ regionAt regions work x) is (c .lowest k low (omega arith)) above;
+          from = le-refl (getD offsets v 0);
+          upto = given .rising;
+          most = le-refl best;
+          reached = inl refl;
+          lowest = λ k low high. absurd (omega arith);
         }
 
-    module _ (more : e < getD offsets (v + 1) 0) where
-      -- the edge does not lead lower
-      pub lowest-same :
-          (p < regionAt regions work (getD targets e 0) → r ≤ regionAt regions work (getD targets e 0)) →
-          LowestTo offsets targets regions p v work best (e + 1) r
-      lowest-same here =
+    module _ {e r : ℕ} (c : LowestTo offsets targets regions p v work best e r) where
+      pub lowest-all : getD offsets (v + 1) 0 ≤ e → LowestOf offsets targets regions p v work best r
+      lowest-all end =
           record {
-            from = omega (arith, c .from);
-            upto = omega arith;
             most = c .most;
             reached = c .reached;
-            lowest = λ k low high. go k low high (ℕ-discrete k e);
+            lowest =
+                λ w m above.
+                let (k, low, high, top, is) = target-place offsets targets v w m in
+                subst (λ (x : ℕ). p < regionAt regions work x → r ≤ regionAt regions work x) is (c .lowest k low (omega arith))
+                above;
           }
-        where
-          go :
-              (k : ℕ) →
-              getD offsets v 0 ≤ k →
-              k < e + 1 →
-              Dec (k ≡ e) →
-              p < regionAt regions work (getD targets k 0) →
-              r ≤ regionAt regions work (getD targets k 0)
-          go k low high (yes q) =
-              subst
-              (λ (x : ℕ). p < regionAt regions work (getD targets x 0) → r ≤ regionAt regions work (getD targets x 0))
-              (sym q)
-              here
-          go k low high (no d) = c .lowest k low (omega (arith, d))
 
-      -- it does
-      pub lowest-new :
-          p < regionAt regions work (getD targets e 0) →
-          regionAt regions work (getD targets e 0) < r →
-          LowestTo offsets targets regions p v work best (e + 1) (regionAt regions work (getD targets e 0))
-      lowest-new above less =
-          record {
-            from = omega (arith, c .from);
-            upto = omega arith;
-            most = omega (arith, c .most);
-            reached =
-                inr
-                (getD targets e 0, place-target offsets targets v e (c .from) more (omega (arith, given .top)), above, refl);
-            lowest = λ k low high. go k low high (ℕ-discrete k e);
-          }
-        where
-          go :
-              (k : ℕ) →
-              getD offsets v 0 ≤ k →
-              k < e + 1 →
-              Dec (k ≡ e) →
-              p < regionAt regions work (getD targets k 0) →
-              regionAt regions work (getD targets e 0) ≤ regionAt regions work (getD targets k 0)
-          go k low high (yes q) up = rw q (le-refl (regionAt regions work (getD targets e 0)))
-          go k low high (no d) up = let old = c .lowest k low (omega (arith, d)) up in omega arith
+      module _ (more : e < getD offsets (v + 1) 0) where
+        -- the edge does not lead lower
+        pub lowest-same :
+            (p < regionAt regions work (getD targets e 0) → r ≤ regionAt regions work (getD targets e 0)) →
+            LowestTo offsets targets regions p v work best (e + 1) r
+        lowest-same here =
+            record {
+              from = omega (arith, c .from);
+              upto = omega arith;
+              most = c .most;
+              reached = c .reached;
+              lowest = λ k low high. go k low high (ℕ-discrete k e);
+            }
+          where
+            go :
+                (k : ℕ) →
+                getD offsets v 0 ≤ k →
+                k < e + 1 →
+                Dec (k ≡ e) →
+                p < regionAt regions work (getD targets k 0) →
+                r ≤ regionAt regions work (getD targets k 0)
+            go k low high (yes q) =
+                subst
+                (λ (x : ℕ). p < regionAt regions work (getD targets x 0) → r ≤ regionAt regions work (getD targets x 0))
+                (sym q)
+                here
+            go k low high (no d) = c .lowest k low (omega (arith, d))
+
+        -- it does
+        pub lowest-new :
+            p < regionAt regions work (getD targets e 0) →
+            regionAt regions work (getD targets e 0) < r →
+            LowestTo offsets targets regions p v work best (e + 1) (regionAt regions work (getD targets e 0))
+        lowest-new above less =
+            record {
+              from = omega (arith, c .from);
+              upto = omega arith;
+              most = omega (arith, c .most);
+              reached =
+                  inr
+                  (getD targets e 0, place-target offsets targets v e (c .from) more (omega (arith, given .top)), above, refl);
+              lowest = λ k low high. go k low high (ℕ-discrete k e);
+            }
+          where
+            go :
+                (k : ℕ) →
+                getD offsets v 0 ≤ k →
+                k < e + 1 →
+                Dec (k ≡ e) →
+                p < regionAt regions work (getD targets k 0) →
+                regionAt regions work (getD targets e 0) ≤ regionAt regions work (getD targets k 0)
+            go k low high (yes q) up = rw q (le-refl (regionAt regions work (getD targets e 0)))
+            go k low high (no d) up = let old = c .lowest k low (omega (arith, d)) up in omega arith
 
 -- ---- over all of R
 
@@ -210,12 +214,13 @@ pub record LowestAbove (owners offsets targets : List ℕ) (alpha p held regions
   pub lowest : (u : ℕ) → setAt (length owners) held work u ≡ true → NotAbove owners offsets targets alpha p regions work r u
 
 -- the walk has come to `walk`
-pub record LowestSoFar (owners offsets targets : List ℕ) (alpha p held regions : ℕ) (work : List ℕ) (walk : Members) (r : ℕ) : Type 0 where
+pub record LowestSoFar (owners offsets targets : List ℕ) (alpha p held regions : ℕ) (work : List ℕ) (walk : Members)
+    (r : ℕ) : Type 0 where
   pub most : r ≤ 256
   pub reached : (r ≡ 256) ⊎ Reaches owners offsets targets alpha p held regions work r
   pub passed : Passed (length owners) held (NotAbove owners offsets targets alpha p regions work r) work walk
 
-module _ (owners offsets targets : List ℕ) (alpha p held regions : ℕ) (work : List ℕ) where
+module _ {owners offsets targets : List ℕ} {alpha p held regions : ℕ} {work : List ℕ} where
   -- one vertex of the opponent's more
   pub lowest-further :
       {walk : Members} {v best r : ℕ} →
@@ -229,7 +234,8 @@ module _ (owners offsets targets : List ℕ) (alpha p held regions : ℕ) (work 
   lowest-further {walk} {v} {best} {r} c member other l = (
     omega (arith, l .most, c .most),
     ⊎-elim
-        (λ same. subst (λ (x : ℕ). (x ≡ 256) ⊎ Reaches owners offsets targets alpha p held regions work x) (sym same) (c .reached))
+        (λ same.
+        subst (λ (x : ℕ). (x ≡ 256) ⊎ Reaches owners offsets targets alpha p held regions work x) (sym same) (c .reached))
         (λ found.
         let (w, m, up, is) = found in
         inr (record { from = v; to = w; member = member; others = other; edge = m; above = up; is = is }))

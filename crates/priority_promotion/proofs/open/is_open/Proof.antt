@@ -1,3 +1,4 @@
+-- `is_open` meets its contract: no vertex of R that the walk has passed makes it open, and no edge before place e decides.
 use Prim.Native.Nat.{ℕ, _<_}
 use native.Mathlib.Nat.{le-refl}
 use mathlib.Core.List.{List, _∷_}
@@ -8,10 +9,10 @@ use lib.ListN.{take, drop}
 use Rattle.theory.specs.Basics.{clash}
 use Rattle.sets.specs.declared.members.Members.{Members}
 use Rattle.attractor.specs.Area.{setAt}
+use Rattle.rules.specs.Counting.{Set}
 use Rattle.priority_promotion.specs.Escapes.{Looks, looks-ready, escape-walkable, passes}
 use Rattle.priority_promotion.specs.Edges.{none-first, none-more, none-at-all, some-at}
 use Rattle.priority_promotion.specs.Opening.{open-found, open-none, shut-own, shut-other, open-own, open-other}
--- `is_open` meets its contract: no vertex of R that the walk has passed makes it open, and no edge before place e decides.
 use Prim.Native.Nat.{_+_, _-_, _≤_}
 use mathlib.Core.Bool.{true, false}
 use mathlib.Core.Path.{_≡_}
@@ -92,8 +93,17 @@ looks :
     Looks (a .offsets .now) (a .targets .now) (a .regions) (vertex c) (a .work .now)
 looks c = looks-ready (first c .pre) (vertex c) (small c)
 
+-- the vertices of region p, and those of a region below it
+abbrev at-p : tie.Start Inv-loop μ-loop Inv-vertices μ-vertices → Set
+at-p g = let a = g .args in λ w. eqb (regionAt (a .regions) (a .work .now) w) (a .p)
+
+abbrev under-p : tie.Start Inv-loop μ-loop Inv-vertices μ-vertices → Set
+under-p g = let a = g .args in λ w. ltb (regionAt (a .regions) (a .work .now) w) (a .p)
+
 -- the edge that the inner loop came to
-edge-inside : (c : tie.In-loop Inv-loop μ-loop Inv-vertices μ-vertices) → c .before .loop .e < length (first (outer (c .before)) .args .targets .now)
+edge-inside :
+    (c : tie.In-loop Inv-loop μ-loop Inv-vertices μ-vertices) →
+    c .before .loop .e < length (first (outer (c .before)) .args .targets .now)
 edge-inside c = omega (arith, looks (outer (c .before)) .top, c .loop-test .taken)
 
 region-inside :
@@ -107,7 +117,8 @@ passed :
     (c : tie.After-next2 Inv-loop μ-loop Inv-vertices μ-vertices) →
     let a = first c .args in
     Shut (a .owners .now) (a .offsets .now) (a .targets .now) (a .alpha) (a .p) (a .regions) (a .work .now) (vertex c) →
-    Passed (length (a .owners .now)) (a .held) (Shut (a .owners .now) (a .offsets .now) (a .targets .now) (a .alpha) (a .p) (a .regions) (a .work .now))
+    Passed (length (a .owners .now)) (a .held)
+    (Shut (a .owners .now) (a .offsets .now) (a .targets .now) (a .alpha) (a .p) (a .regions) (a .work .now))
     (a .work .now) (after c)
 passed c shut = walked-more (escape-walkable (first c .pre)) (turn c .vertices .inv) (after c) (moved c) (passes shut)
 
@@ -204,8 +215,8 @@ loop-holds c =
     let a = first d .args in (
       le-refl (getD (a .offsets .now) (vertex d) 0),
       looks d .rising,
-      λ own. none-first (a .offsets .now) (a .targets .now) (vertex d) (λ w. eqb (regionAt (a .regions) (a .work .now) w) (a .p)),
-      λ other. none-first (a .offsets .now) (a .targets .now) (vertex d) (λ w. ltb (regionAt (a .regions) (a .work .now) w) (a .p)),
+      λ own. none-first (a .offsets .now) (a .targets .now) (vertex d) (at-p (first d)),
+      λ other. none-first (a .offsets .now) (a .targets .now) (vertex d) (under-p (first d)),
     )
 
 mul-w : tie.Need-mul-w Inv-loop μ-loop Inv-vertices μ-vertices
@@ -239,7 +250,7 @@ vertices-again c =
     passed d
     (shut-own (a .owners .now) (a .offsets .now) (a .targets .now) (a .alpha) (a .p) (a .regions) (a .work .now) (vertex d)
     (c .before .if1 .taken)
-    (some-at (a .offsets .now) (a .targets .now) (vertex d) (λ w. eqb (regionAt (a .regions) (a .work .now) w) (a .p)) (l .loop .e)
+    (some-at (a .offsets .now) (a .targets .now) (vertex d) (at-p (first d)) (l .loop .e)
     (l .loop .inv .0) (i .loop-test .taken) (edge-inside i) (eq-eqb _ _ (c .if2 .taken))))
 
 returns-2 : tie.Need-returns-2 Inv-loop μ-loop Inv-vertices μ-vertices
@@ -248,10 +259,11 @@ returns-2 c =
     let l = i .before in
     let d = outer l in
     let a = first d .args in
-    open-found (a .owners .now) (a .offsets .now) (a .targets .now) (a .alpha) (a .p) (a .held) (a .regions) (a .work .now) (vertex d) (small d) (member d)
+    open-found (a .owners .now) (a .offsets .now) (a .targets .now) (a .alpha) (a .p) (a .held) (a .regions) (a .work .now)
+    (vertex d) (small d) (member d)
     (open-other (a .owners .now) (a .offsets .now) (a .targets .now) (a .alpha) (a .p) (a .regions) (a .work .now) (vertex d)
     (c .before .if1 .left)
-    (some-at (a .offsets .now) (a .targets .now) (vertex d) (λ w. ltb (regionAt (a .regions) (a .work .now) w) (a .p)) (l .loop .e)
+    (some-at (a .offsets .now) (a .targets .now) (vertex d) (under-p (first d)) (l .loop .e)
     (l .loop .inv .0) (i .loop-test .taken) (edge-inside i) (lt-ltb _ _ (c .if3 .taken))))
 
 add-e : tie.Need-add-e Inv-loop μ-loop Inv-vertices μ-vertices
@@ -269,11 +281,11 @@ loop-again c =
       omega (arith, l .loop .inv .0),
       omega (arith, i .loop-test .taken),
       λ own.
-          none-more (a .offsets .now) (a .targets .now) (vertex d) (λ w. eqb (regionAt (a .regions) (a .work .now) w) (a .p)) (l .loop .e)
+          none-more (a .offsets .now) (a .targets .now) (vertex d) (at-p (first d)) (l .loop .e)
           (l .loop .inv .2 own)
           (⊎-elim (λ y. ne-eqb _ _ (y .1 .left)) (λ y. absurd (clash own (y .0 .left))) (c .if1 .came)),
       λ other.
-          none-more (a .offsets .now) (a .targets .now) (vertex d) (λ w. ltb (regionAt (a .regions) (a .work .now) w) (a .p)) (l .loop .e)
+          none-more (a .offsets .now) (a .targets .now) (vertex d) (under-p (first d)) (l .loop .e)
           (l .loop .inv .3 other)
           (⊎-elim (λ y. absurd (clash (y .0 .taken) other)) (λ y. le-ltb _ _ (y .1 .left)) (c .if1 .came)),
     )
@@ -283,10 +295,11 @@ returns-3 c =
     let l = c .before .before in
     let d = outer l in
     let a = first d .args in
-    open-found (a .owners .now) (a .offsets .now) (a .targets .now) (a .alpha) (a .p) (a .held) (a .regions) (a .work .now) (vertex d) (small d) (member d)
+    open-found (a .owners .now) (a .offsets .now) (a .targets .now) (a .alpha) (a .p) (a .held) (a .regions) (a .work .now)
+    (vertex d) (small d) (member d)
     (open-own (a .owners .now) (a .offsets .now) (a .targets .now) (a .alpha) (a .p) (a .regions) (a .work .now) (vertex d)
     (c .if4 .taken)
-    (none-at-all (a .offsets .now) (a .targets .now) (vertex d) (λ w. eqb (regionAt (a .regions) (a .work .now) w) (a .p)) (l .loop .e)
+    (none-at-all (a .offsets .now) (a .targets .now) (vertex d) (at-p (first d)) (l .loop .e)
     (c .before .loop-test .left) (l .loop .inv .2 (c .if4 .taken))))
 
 vertices-less-2 : tie.Need-vertices-less-2 Inv-loop μ-loop Inv-vertices μ-vertices
@@ -300,7 +313,7 @@ vertices-again-2 c =
     passed d
     (shut-other (a .owners .now) (a .offsets .now) (a .targets .now) (a .alpha) (a .p) (a .regions) (a .work .now) (vertex d)
     (c .if4 .left)
-    (none-at-all (a .offsets .now) (a .targets .now) (vertex d) (λ w. ltb (regionAt (a .regions) (a .work .now) w) (a .p)) (l .loop .e)
+    (none-at-all (a .offsets .now) (a .targets .now) (vertex d) (under-p (first d)) (l .loop .e)
     (c .before .loop-test .left) (l .loop .inv .3 (c .if4 .left))))
 
 pub is-open-spec : {M : Type 1} → statement M

@@ -20,7 +20,8 @@ Inv-loop owners offsets targets alpha p s work held regions lowest₀ walk₀ lo
     LowestSoFar owners offsets targets alpha p held regions work walk lowest
 
 abbrev μ-loop : tie.MeasureT-loop
-μ-loop owners offsets targets alpha p s work held regions lowest₀ walk₀ lowest walk = length (left (wordsAt (length owners) held work) walk)
+μ-loop owners offsets targets alpha p s work held regions lowest₀ walk₀ lowest walk =
+    length (left (wordsAt (length owners) held work) walk)
 
 -- where the function begins, and the loop's head of a turn
 abbrev start-of : tie.At-loop Inv-loop μ-loop → tie.Start Inv-loop μ-loop
@@ -140,9 +141,8 @@ loop-again : tie.Need-loop-again Inv-loop μ-loop
 loop-again c =
     let d = c .before .before .before .before in
     let g = first d in
-    let a = g .args in
     let (most, reached, passed, here) =
-    lowest-further (a .owners .now) (a .offsets .now) (a .targets .now) (a .alpha) (a .p) (a .held) (a .regions) (a .work .now) (turn d .loop .inv)
+    lowest-further (turn d .loop .inv)
     (member d) (c .before .if1 .taken) (c .best-of .ensures) in
     record {
       most = most;

@@ -52,8 +52,7 @@ cast-e-end c = search needs
 loop-holds : tie.Need-loop-holds Inv-loop μ-loop
 loop-holds c =
     let g = c .before .before in
-    let a = g .args in
-    lowest-none (a .offsets .now) (a .targets .now) (a .regions) (a .p) (a .v) (a .work .now) (a .best) (g .pre)
+    lowest-none (g .pre)
 
 mul-w : tie.Need-mul-w Inv-loop μ-loop
 mul-w c = search needs
@@ -89,17 +88,17 @@ loop-again c =
     ⊎-elim
     (λ y.
     subst To (sym (y .2))
-    (lowest-new (a .offsets .now) (a .targets .now) (a .regions) (a .p) (a .v) (a .work .now) (a .best) (g .pre) (l .loop .inv) more
+    (lowest-new (g .pre) (l .loop .inv) more
     (y .0 .taken) (y .1 .taken)))
     (λ z.
     ⊎-elim
     (λ y.
     subst To (sym (y .2))
-    (lowest-same (a .offsets .now) (a .targets .now) (a .regions) (a .p) (a .v) (a .work .now) (a .best) (g .pre) (l .loop .inv) more
+    (lowest-same (g .pre) (l .loop .inv) more
     (λ up. y .1 .left)))
     (λ y.
     subst To (sym (y .1))
-    (lowest-same (a .offsets .now) (a .targets .now) (a .regions) (a .p) (a .v) (a .work .now) (a .best) (g .pre) (l .loop .inv) more
+    (lowest-same (g .pre) (l .loop .inv) more
     (λ up. let low = y .0 .left in absurd (omega arith))))
     z)
     (c .if1 .came)
@@ -107,8 +106,7 @@ loop-again c =
 returns : tie.Need-returns Inv-loop μ-loop
 returns c =
     let g = start-of (c .before) in
-    let a = g .args in
-    lowest-all (a .offsets .now) (a .targets .now) (a .regions) (a .p) (a .v) (a .work .now) (a .best) (g .pre) (c .before .loop .inv)
+    lowest-all (g .pre) (c .before .loop .inv)
     (c .loop-test .left)
 
 pub best-of-spec : {M : Type 1} → statement M

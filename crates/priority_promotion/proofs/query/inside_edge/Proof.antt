@@ -40,7 +40,8 @@ cast-e-end c = search needs
 loop-holds : tie.Need-loop-holds Inv-loop μ-loop
 loop-holds c =
     let g = c .before .before .before .before .before in
-    (search needs, g .pre .rising, none-first (g .args .offsets .now) (g .args .targets .now) (g .args .v) (setOf (g .args .set .now)))
+    let a = g .args in
+    (search needs, g .pre .rising, none-first (a .offsets .now) (a .targets .now) (a .v) (setOf (a .set .now)))
 
 mul-w : tie.Need-mul-w Inv-loop μ-loop
 mul-w c = search needs
@@ -61,8 +62,7 @@ returns : tie.Need-returns Inv-loop μ-loop
 returns c =
     let l = c .before .before .before .before in
     let g = l .before .before .before .before .before .before in
-    let a = g .args in
-    found-in (a .offsets .now) (a .targets .now) (a .v) (a .set .now) (g .pre) (l .loop .e) (l .loop .inv .0)
+    found-in (g .pre) (l .loop .e) (l .loop .inv .0)
     (c .before .before .before .loop-test .taken) (sym (c .before .contains .ensures) ∙ c .if1 .taken)
 
 add-e : tie.Need-add-e Inv-loop μ-loop
@@ -86,8 +86,7 @@ returns-2 : tie.Need-returns-2 Inv-loop μ-loop
 returns-2 c =
     let l = c .before in
     let g = l .before .before .before .before .before .before in
-    let a = g .args in
-    found-none (a .offsets .now) (a .targets .now) (a .v) (a .set .now) (g .pre) (l .loop .e) (c .loop-test .left) (l .loop .inv .2)
+    found-none (g .pre) (l .loop .e) (c .loop-test .left) (l .loop .inv .2)
 
 pub inside-edge-spec : {M : Type 1} → statement M
 inside-edge-spec =

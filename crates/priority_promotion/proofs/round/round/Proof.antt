@@ -1,6 +1,6 @@
 -- `round` meets its contract: each call finds what it asks for, and the three ways out are the three kinds of round.
 use mathlib.Core.Logic.{inr}
-use mathlib.Core.Path.{refl, sym, _∙_}
+use mathlib.Core.Path.{refl, _∙_}
 use native.Mathlib.Omega.{arith}
 use Rattle.priority_promotion.specs.Query.{Queried}
 use Rattle.priority_promotion.specs.Round.{current-small, round-query, escapes, round-opens, round-promote-ready, promoted-same}
