@@ -96,5 +96,6 @@ fn legend(out: &mut String, families: &[&str]) {
         let _ = writeln!(out, "<line x1='{x}' y1='{y}' x2='{}' y2='{y}' stroke='{colour}' stroke-width='3'/>", x + 24.0);
         let _ = writeln!(out, "<text x='{}' y='{}'>{name}</text>", x + 30.0, y + 4.0);
     }
-    let _ = writeln!(out, "<text x='{LEFT}' y='{}'>full: the Rust on stand-ins; dashed: the port</text>", y + 30.0);
+    let lines = "full: the Rust on stand-ins; dashed: the port, the zeroing of its work area included";
+    let _ = writeln!(out, "<text x='{LEFT}' y='{}'>{lines}</text>", y + 30.0);
 }
