@@ -1,6 +1,9 @@
 // The solvers on one game of at most 12 vertices, held to what the oracle says.
 use crate::text;
 use parity_game::Answer;
+ghost use mathlib.Core.Bool.{true, false};
+ghost use mathlib.Core.Path.{_≡_};
+ghost use Rattle.parity_game.specs.Said.{said};
 
 // The oracle's answer: the sets that Even and Odd win, as words, calls and rounds, and the solitaire set.
 pub struct Said {
@@ -30,14 +33,25 @@ pub fn read_said(list: &[u8], from: usize, n: usize) -> Said {
 }
 
 // 0 where an answer has these sets and this count, and the checker says yes to it; else 1.
-fn differs(r: Answer, checked: Answer, even: u64, odd: u64, count: u64, said: Said) -> u64 {
-    if r.number() != 0 || r.count() != count {
+fn differs(r: Answer, checked: Answer, even: u64, odd: u64, count: u64, wanted: Said) -> u64
+    ensures { λ d.
+        ⌜ (d ≡ 0 →
+        (said r .number ≡ 0) × (said r .count ≡ count) × (said checked .number ≡ 0) ×
+        (even ≡ wanted .even) × (odd ≡ wanted .odd)) ⌝ }
+{
+    if r.number() != 0 {
+        return 1;
+    }
+    if r.count() != count {
         return 1;
     }
     if checked.number() != 0 {
         return 1;
     }
-    if even != said.even || odd != said.odd {
+    if even != wanted.even {
+        return 1;
+    }
+    if odd != wanted.odd {
         return 1;
     }
     0
@@ -125,7 +139,27 @@ pub fn solver_differs(
     differs(r, checked, even[0], odd[0], count, said)
 }
 
-// 0 where the solitaire solver gives this set, or refuses two owners; else 1.
+// 0 where two owners are refused, or the answer has this set; else 1.
+fn set_differs(r: Answer, set: u64, wanted: Said) -> u64
+    ensures { λ d.
+        ⌜ (d ≡ 0 → wanted .«two_owners» ≡ true → said r .number ≡ 11) ×
+        (d ≡ 0 → wanted .«two_owners» ≡ false → (said r .number ≡ 0) × (set ≡ wanted .solitaire)) ⌝ }
+{
+    if wanted.two_owners {
+        if r.number() != 11 {
+            return 1;
+        }
+        return 0;
+    }
+    if r.number() != 0 {
+        return 1;
+    }
+    if set != wanted.solitaire {
+        return 1;
+    }
+    0
+}
+
 pub fn solitaire_differs(
     owners: &[u8],
     priorities: &[u16],
@@ -143,14 +177,5 @@ pub fn solitaire_differs(
         &mut set,
         &mut work,
     );
-    if said.two_owners {
-        if r.number() == 11 {
-            return 0;
-        }
-        return 1;
-    }
-    if r.number() == 0 && set[0] == said.solitaire {
-        return 0;
-    }
-    1
+    set_differs(r, set[0], said)
 }

@@ -1,0 +1,36 @@
+-- `differs` meets its contract: it gives 0 only where it has passed every test.
+use borrow.Author.Needs.{needs}
+use Rattle.replay.proofs.solvers.differs.Statement.{statement}
+use Rattle.replay.proofs.solvers.differs.Tie as tie
+
+number-requires : tie.Need-number-requires
+number-requires c κs = search needs
+
+returns : tie.Need-returns
+returns c = search needs
+
+count-requires : tie.Need-count-requires
+count-requires c κs = search needs
+
+returns-2 : tie.Need-returns-2
+returns-2 c = search needs
+
+number-requires-2 : tie.Need-number-requires-2
+number-requires-2 c κs = search needs
+
+returns-3 : tie.Need-returns-3
+returns-3 c = search needs
+
+returns-4 : tie.Need-returns-4
+returns-4 c = search needs
+
+returns-5 : tie.Need-returns-5
+returns-5 c = search needs
+
+returns-6 : tie.Need-returns-6
+returns-6 c = search needs
+
+pub differs-spec : {M : Type 1} → statement M
+differs-spec =
+    tie.close
+    (tie.spec number-requires returns count-requires returns-2 number-requires-2 returns-3 returns-4 returns-5 returns-6)
