@@ -73,7 +73,8 @@ module _ (t : Tables) (ok : Accepted t) (w₀ : List ℕ)
             table = prepared .listed;
             low = omega arith;
             room =
-                let fits = first-room (vertices t) (edgesIn t) (count (vertices t) (onLevel t (firstBase t) w)) (count-le (vertices t) (onLevel t (firstBase t) w)) in
+                let S = onLevel t (firstBase t) w in
+                let fits = first-room (vertices t) (edgesIn t) (count (vertices t) S) (count-le (vertices t) S) in
                 omega (arith, prepared .long);
             below = λ v p. everywhere-below (gameOf t) v (sym (full v) ∙ p);
             total =

@@ -227,8 +227,8 @@ returns c =
     let a = g .args in (
       cleared-all (a .work .now) _ (long d4) (c .before .before .clear .ensures),
       ran (a .owners .now) (a .offsets .now) (a .targets .now) (a .alpha) (a .within .now) (a .target .now) (a .result .now) (a .strategy .now)
-          (a .work .now) (g .pre) (d1 .copy-from .last .0) (d2 .copy-from2 .last .0) (d1 .copy-from .ensures) (d2 .copy-from2 .ensures) (d3 .build .last .1 .1 .1 .0)
-          (d3 .build .ensures) (d4 .attract .last .1 .1 .1 .1 .0) (d4 .attract .result) (d4 .attract .ensures)
+          (a .work .now) (g .pre) (d1 .copy-from .last .0) (d2 .copy-from2 .last .0) (d1 .copy-from .ensures) (d2 .copy-from2 .ensures)
+          (d3 .build .last .1 .1 .1 .0) (d3 .build .ensures) (d4 .attract .last .1 .1 .1 .1 .0) (d4 .attract .result) (d4 .attract .ensures)
           (copied3 c .copy-from3 .last .0) (written c .write-strategy .last .1 .1 .1 .1 .1 .0) (copied3 c .copy-from3 .ensures)
           (written c .write-strategy .ensures),
     )

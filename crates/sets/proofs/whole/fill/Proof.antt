@@ -35,7 +35,9 @@ loop-less : tie.Need-loop-less Inv-loop μ-loop
 loop-less c = search needs
 
 loop-again : tie.Need-loop-again Inv-loop μ-loop
-loop-again c = (search needs, search needs, λ before filled. filled-more (c .before .before .before .before .before .loop .inv .2 before filled) (c .before .before .insert .ensures))
+loop-again c =
+    let head = c .before .before .before .before .before in
+    (search needs, search needs, λ before filled. filled-more (head .loop .inv .2 before filled) (c .before .before .insert .ensures))
 
 same-length : tie.Need-same-length Inv-loop μ-loop
 same-length c = search needs
