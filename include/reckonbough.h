@@ -52,18 +52,18 @@
  */
 #define RECKONBOUGH_ANSWERED 0          /* an answer, the checker's yes included */
 #define RECKONBOUGH_TOO_MANY_VERTICES 1 /* n above 4096 */
-#define RECKONBOUGH_BAD_TABLE_LENGTHS 2 /* priorities not n or offsets not n + 1 long */
+#define RECKONBOUGH_TABLE_LENGTHS 2     /* priorities not n or offsets not n + 1 long */
 #define RECKONBOUGH_TOO_MANY_EDGES 3    /* m above 16384 */
 #define RECKONBOUGH_BAD_OWNER 4         /* an owner that is not 0 or 1; place: lowest vertex */
 #define RECKONBOUGH_BAD_PRIORITY 5      /* a priority above 255; place: lowest vertex */
 #define RECKONBOUGH_BAD_OFFSET 6        /* the first offset is not 0, or one is above the next, or the last is not m;
                                            place: 0, or lowest index, or n */
 #define RECKONBOUGH_BAD_TARGET 7        /* a target not below n; place: lowest edge */
-#define RECKONBOUGH_NO_EDGE 8           /* a vertex without an edge; place: lowest vertex */
+#define RECKONBOUGH_DEAD_END 8          /* a vertex without an edge; place: lowest vertex */
 #define RECKONBOUGH_BAD_SIZE 9          /* a set not s words, a strategy or a table of new priorities not n entries long */
-#define RECKONBOUGH_SHORT_WORK_AREA 10  /* a work area shorter than W */
+#define RECKONBOUGH_SHORT_WORK 10       /* a work area shorter than W */
 #define RECKONBOUGH_OWNERS_DIFFER 11    /* solitaire: two owners differ */
-#define RECKONBOUGH_BAD_BIT 12          /* attractor: a bit at n or above, or a bit of target that is not in within;
+#define RECKONBOUGH_STRAY_BIT 12        /* attractor: a bit at n or above, or a bit of target that is not in within;
                                            place: lowest such bit */
 #define RECKONBOUGH_OVER_BUDGET 13      /* more calls or rounds are needed than the budget */
 #define RECKONBOUGH_NOT_ONE_WINNER 21   /* checker: a vertex in both sets or in neither, or a bit at n or above;
@@ -72,7 +72,7 @@
                                            target of the vertex's edges where the owner does; place: lowest vertex */
 #define RECKONBOUGH_LEAVES_SET 23       /* checker: the entry's edge at a vertex whose owner wins it, or any edge at another
                                            vertex, ends outside the winner's set; place: lowest vertex */
-#define RECKONBOUGH_LOST_CYCLE 24       /* checker: a cycle of those edges inside a set, whose highest priority has the
+#define RECKONBOUGH_LOSING_CYCLE 24     /* checker: a cycle of those edges inside a set, whose highest priority has the
                                            other player's parity; place: lowest vertex on one */
 
 #ifdef __cplusplus

@@ -90,8 +90,8 @@ pub struct Attracted {
 impl Game {
     /// From the vertices in order: owner, priority and where its edges go.
     ///
-    /// Refuses by [`Refusal::TooManyVertices`], [`TooManyEdges`](Refusal::TooManyEdges), [`Priority`](Refusal::Priority),
-    /// [`Target`](Refusal::Target) and [`NoEdge`](Refusal::NoEdge).
+    /// Refuses by [`Refusal::TooManyVertices`], [`TooManyEdges`](Refusal::TooManyEdges), [`Priority`](Refusal::BadPriority),
+    /// [`Target`](Refusal::BadTarget) and [`NoEdge`](Refusal::DeadEnd).
     pub fn new(vertices: &[(Player, u16, &[u16])]) -> Result<Game, Refusal> {
         let mut offsets = vec![0];
         let mut targets = Vec::new();
@@ -107,7 +107,7 @@ impl Game {
 
     /// From the four tables.
     ///
-    /// Refuses by the numbers 1 to 8, [`Refusal::TooManyVertices`] to [`Refusal::NoEdge`].
+    /// Refuses by the numbers 1 to 8, [`Refusal::TooManyVertices`] to [`Refusal::DeadEnd`].
     pub fn from_tables(
         owners: Vec<u8>,
         priorities: Vec<u16>,
@@ -167,7 +167,7 @@ impl Game {
 
     /// Solves by Zielonka's recursion, in at most `budget` calls. Without `compute_strategy` no entry is chosen.
     ///
-    /// Refuses by [`Refusal::Budget`] alone. With n vertices and d different priorities 2·(C(n,0)+C(n,1)+...+C(n,d))−1 calls
+    /// Refuses by [`Refusal::OverBudget`] alone. With n vertices and d different priorities 2·(C(n,0)+C(n,1)+...+C(n,d))−1 calls
     /// are always enough; `u64::MAX` asks for an answer however long it takes. It nests at most n + 1 calls: on x86-64 2 MiB
     /// of stack are enough, the size that `std::thread` gives.
     pub fn solve_zielonka(&self, compute_strategy: bool, budget: u64) -> Result<Solved, Refusal> {
@@ -176,7 +176,7 @@ impl Game {
 
     /// Solves by priority promotion, in at most `budget` rounds. Without `compute_strategy` no entry is chosen.
     ///
-    /// Refuses by [`Refusal::Budget`] alone. With n vertices and d different priorities n·(n+2)^d rounds are always enough;
+    /// Refuses by [`Refusal::OverBudget`] alone. With n vertices and d different priorities n·(n+2)^d rounds are always enough;
     /// `u64::MAX` asks for an answer however long it takes.
     pub fn solve_priority_promotion(&self, compute_strategy: bool, budget: u64) -> Result<Solved, Refusal> {
         self.solve(doors::priority_promotion, compute_strategy, budget)
@@ -201,7 +201,7 @@ impl Game {
 
     /// The attractor of `target` in `within` for the player.
     ///
-    /// Refuses by [`Refusal::Size`] where `within` or `target` has not one entry a vertex, and by [`Refusal::Bit`] at the
+    /// Refuses by [`Refusal::BadSize`] where `within` or `target` has not one entry a vertex, and by [`Refusal::StrayBit`] at the
     /// lowest vertex of `target` that is not in `within`.
     pub fn attractor(&self, player: Player, within: &[bool], target: &[bool]) -> Result<Attracted, Refusal> {
         let (mut set, mut strategy) = (self.set(), self.strategy());
@@ -214,9 +214,9 @@ impl Game {
 
     /// Whether Even wins from `even` and Odd from `odd` by the strategy: yes, or the first thing that is wrong.
     ///
-    /// Refuses by [`Refusal::Size`] where one of them has not one entry a vertex. What is wrong is one of
-    /// [`NotOneWinner`](Refusal::NotOneWinner), [`Entry`](Refusal::Entry), [`Leaves`](Refusal::Leaves) and
-    /// [`LostCycle`](Refusal::LostCycle). A run without `compute_strategy` leaves nothing to check by, and gets `Entry` where
+    /// Refuses by [`Refusal::BadSize`] where one of them has not one entry a vertex. What is wrong is one of
+    /// [`NotOneWinner`](Refusal::NotOneWinner), [`Entry`](Refusal::BadEntry), [`Leaves`](Refusal::LeavesSet) and
+    /// [`LostCycle`](Refusal::LosingCycle). A run without `compute_strategy` leaves nothing to check by, and gets `Entry` where
     /// an owner wins.
     pub fn check(&self, even: &[bool], odd: &[bool], strategy: &[Option<usize>]) -> Result<(), Refusal> {
         let entries: Vec<u16> = strategy.iter().map(|choice| entry(*choice)).collect();
@@ -254,7 +254,7 @@ impl Game {
     /// Vertex v stands at bit v % 64 of word v / 64. Members that are not n are no set of this game.
     fn words(&self, members: &[bool]) -> Result<Vec<u64>, Refusal> {
         if members.len() != self.vertices() {
-            return Err(Refusal::Size);
+            return Err(Refusal::BadSize);
         }
         let mut words = self.set();
         for (v, member) in members.iter().enumerate() {

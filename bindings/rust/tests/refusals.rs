@@ -19,15 +19,15 @@ fn tables_are_refused_with_their_place() {
     assert_eq!(refused(&[0, 0], &[0], &[0, 1, 2], &[0, 0]), Refusal::TableLengths);
     assert_eq!(refused(&[0, 0], &[0, 0], &[0, 1], &[0, 0]), Refusal::TableLengths);
     assert_eq!(refused(&[], &[], &[], &[]), Refusal::TableLengths);
-    assert_eq!(refused(&[0, 2], &[0, 0], &[0, 1, 2], &[0, 0]), Refusal::Owner(1));
-    assert_eq!(refused(&[0, 0], &[0, 256], &[0, 1, 2], &[0, 0]), Refusal::Priority(1));
-    assert_eq!(refused(&[0, 0], &[0, 0], &[1, 1, 2], &[0, 0]), Refusal::Offset(0));
-    assert_eq!(refused(&[0, 0], &[0, 0], &[0, 2, 1], &[0, 0]), Refusal::Offset(1));
-    assert_eq!(refused(&[0, 0], &[0, 0], &[0, 1, 1], &[0, 0]), Refusal::Offset(2));
-    assert_eq!(refused(&[0, 0], &[0, 0], &[0, 1, 2], &[0, 2]), Refusal::Target(1));
-    assert_eq!(refused(&[0, 0], &[0, 0], &[0, 2, 2], &[0, 0]), Refusal::NoEdge(1));
+    assert_eq!(refused(&[0, 2], &[0, 0], &[0, 1, 2], &[0, 0]), Refusal::BadOwner(1));
+    assert_eq!(refused(&[0, 0], &[0, 256], &[0, 1, 2], &[0, 0]), Refusal::BadPriority(1));
+    assert_eq!(refused(&[0, 0], &[0, 0], &[1, 1, 2], &[0, 0]), Refusal::BadOffset(0));
+    assert_eq!(refused(&[0, 0], &[0, 0], &[0, 2, 1], &[0, 0]), Refusal::BadOffset(1));
+    assert_eq!(refused(&[0, 0], &[0, 0], &[0, 1, 1], &[0, 0]), Refusal::BadOffset(2));
+    assert_eq!(refused(&[0, 0], &[0, 0], &[0, 1, 2], &[0, 2]), Refusal::BadTarget(1));
+    assert_eq!(refused(&[0, 0], &[0, 0], &[0, 2, 2], &[0, 0]), Refusal::DeadEnd(1));
     // the first that applies
-    assert_eq!(refused(&[2, 0], &[0, 256], &[1, 1, 2], &[0, 2]), Refusal::Owner(0));
+    assert_eq!(refused(&[2, 0], &[0, 256], &[1, 1, 2], &[0, 2]), Refusal::BadOwner(0));
 }
 
 #[test]
@@ -39,7 +39,7 @@ fn the_limits_answer_and_one_more_is_refused() {
 
     assert!(Game::new(&[(Even, 255, &[0; MAX_EDGES])]).is_ok());
     assert_eq!(refused(&[0], &[0], &[0, 16_385], &[0; MAX_EDGES + 1]), Refusal::TooManyEdges);
-    assert_eq!(Game::new(&[(Even, 256, &[0])]), Err(Refusal::Priority(0)));
+    assert_eq!(Game::new(&[(Even, 256, &[0])]), Err(Refusal::BadPriority(0)));
     // more edges than an offset can say, and more vertices than a target can
     assert_eq!(Game::new(&[(Even, 0, &[0; 70_000])]), Err(Refusal::TooManyEdges));
     assert_eq!(Game::new(&vec![(Even, 0, &[0][..]); 70_000]), Err(Refusal::TooManyVertices));
@@ -54,13 +54,13 @@ fn solitaire_refuses_two_owners() {
 #[test]
 fn wrong_lengths_and_stray_members() {
     let game = Game::new(&[(Even, 0, &[1]), (Odd, 0, &[0])]).unwrap();
-    assert_eq!(game.check(&[true], &[false, true], &[None, None]), Err(Refusal::Size));
-    assert_eq!(game.check(&[true, true], &[false, false], &[Some(1)]), Err(Refusal::Size));
-    assert_eq!(game.attractor(Even, &[false, true], &[true, true]), Err(Refusal::Bit(0)));
-    assert_eq!(game.attractor(Even, &[false, true], &[false; 3]), Err(Refusal::Size));
+    assert_eq!(game.check(&[true], &[false, true], &[None, None]), Err(Refusal::BadSize));
+    assert_eq!(game.check(&[true, true], &[false, false], &[Some(1)]), Err(Refusal::BadSize));
+    assert_eq!(game.attractor(Even, &[false, true], &[true, true]), Err(Refusal::StrayBit(0)));
+    assert_eq!(game.attractor(Even, &[false, true], &[false; 3]), Err(Refusal::BadSize));
     // a choice that no entry can hold is refused, and not taken for none
-    assert_eq!(game.check(&[true, true], &[false, false], &[Some(1), Some(65_535)]), Err(Refusal::Entry(1)));
-    assert_eq!(game.check(&[true, true], &[false, false], &[Some(1), Some(1 << 20)]), Err(Refusal::Entry(1)));
+    assert_eq!(game.check(&[true, true], &[false, false], &[Some(1), Some(65_535)]), Err(Refusal::BadEntry(1)));
+    assert_eq!(game.check(&[true, true], &[false, false], &[Some(1), Some(1 << 20)]), Err(Refusal::BadEntry(1)));
 }
 
 #[test]
@@ -96,15 +96,15 @@ fn a_refusal_says_its_place_where_it_has_one() {
     ] {
         assert!(said(number).starts_with(&format!("{} at {} 3: ", number, what)), "{}", said(number));
     }
-    assert_eq!(Refusal::Owner(1).to_string(), "4 at vertex 1: the owner is neither 0 nor 1");
-    assert_eq!(Refusal::Budget.to_string(), "13: the budget is too small");
+    assert_eq!(Refusal::BadOwner(1).to_string(), "4 at vertex 1: the owner is neither 0 nor 1");
+    assert_eq!(Refusal::OverBudget.to_string(), "13: the budget is too small");
 }
 
 #[test]
 fn a_run_without_a_strategy_is_refused_by_the_checker() {
     let game = Game::new(&[(Even, 1, &[0]), (Even, 2, &[1])]).unwrap();
     let solved = game.solve_zielonka(false, u64::MAX).unwrap();
-    assert_eq!(game.check(&solved.even, &solved.odd, &solved.strategy), Err(Refusal::Entry(1)));
+    assert_eq!(game.check(&solved.even, &solved.odd, &solved.strategy), Err(Refusal::BadEntry(1)));
 }
 
 /// C6, with junk in everything that is lent: two words of work area more than needed.

@@ -38,9 +38,9 @@ fn expect(game: &Game, solved: Solved, winners: &[Player], count: u64) {
 fn solve(game: &Game, winners: &[Player], calls: u64, rounds: u64) {
     expect(game, game.solve_zielonka(true, calls).unwrap(), winners, calls);
     expect(game, game.solve_priority_promotion(true, rounds).unwrap(), winners, rounds);
-    assert_eq!(game.solve_zielonka(true, calls - 1), Err(Refusal::Budget));
+    assert_eq!(game.solve_zielonka(true, calls - 1), Err(Refusal::OverBudget));
     if rounds > 0 {
-        assert_eq!(game.solve_priority_promotion(true, rounds - 1), Err(Refusal::Budget));
+        assert_eq!(game.solve_priority_promotion(true, rounds - 1), Err(Refusal::OverBudget));
     }
     let without = game.solve_zielonka(false, ANY).unwrap();
     assert_eq!(without.count, calls);
@@ -81,7 +81,7 @@ fn c5_counts_parallel_edges() {
 #[test]
 fn c6_needs_four_calls() {
     solve(&c6(), &[Odd, Odd], 4, 2);
-    assert_eq!(c6().solve_zielonka(true, 3), Err(Refusal::Budget));
+    assert_eq!(c6().solve_zielonka(true, 3), Err(Refusal::OverBudget));
 }
 
 #[test]
@@ -106,15 +106,15 @@ fn c9_has_a_lone_vertex_that_is_no_cycle() {
 #[test]
 fn c10_false_claims_on_c6() {
     let claim = c6().check(&[true, true], &[false, false], &[Some(1), None]);
-    assert_eq!(claim, Err(Refusal::LostCycle(1)));
+    assert_eq!(claim, Err(Refusal::LosingCycle(1)));
     let claim = c6().check(&[true, false], &[false, true], &[Some(1), Some(1)]);
-    assert_eq!(claim, Err(Refusal::Leaves(0)));
+    assert_eq!(claim, Err(Refusal::LeavesSet(0)));
 }
 
 #[test]
 fn c11_false_claims_on_c7_and_c5() {
     let claim = c7().check(&[true, true], &[false, false], &[Some(0), None]);
-    assert_eq!(claim, Err(Refusal::Entry(0)));
+    assert_eq!(claim, Err(Refusal::BadEntry(0)));
     let claim = c5().check(&[false, true], &[false, false], &[None, Some(1)]);
     assert_eq!(claim, Err(Refusal::NotOneWinner(0)));
 }

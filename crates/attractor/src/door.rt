@@ -2,7 +2,10 @@
 // answers.
 use crate::whole::attract;
 use parity_game::Answer;
+use parity_game::BAD_SIZE;
 use parity_game::Player;
+use parity_game::SHORT_WORK;
+use parity_game::STRAY_BIT;
 ghost use mathlib.Core.Path.{_≡_};
 ghost use mathlib.Core.List.{List};
 ghost use Prim.Native.Nat.{ℕ, _≤_};
@@ -51,7 +54,7 @@ fn check_bits(n: usize, within: &[u64], target: &[u64]) -> Answer
 {
     for b in 0..64 * within.len() {
         if is_stray(n, within, target, b) {
-            return Answer::StrayBit(b);
+            return Answer::AtPlace(STRAY_BIT, b);
         }
     }
     Answer::Answered(0)
@@ -72,19 +75,19 @@ fn check_sizes(
 {
     let s = parity_game::set_words(n);
     if within != s {
-        return Answer::WrongSizes;
+        return Answer::Refused(BAD_SIZE);
     }
     if target != s {
-        return Answer::WrongSizes;
+        return Answer::Refused(BAD_SIZE);
     }
     if result != s {
-        return Answer::WrongSizes;
+        return Answer::Refused(BAD_SIZE);
     }
     if strategy != n {
-        return Answer::WrongSizes;
+        return Answer::Refused(BAD_SIZE);
     }
     if work < parity_game::work_words(n, m) {
-        return Answer::ShortWork;
+        return Answer::Refused(SHORT_WORK);
     }
     Answer::Answered(0)
 }
@@ -111,9 +114,9 @@ fn check_all(
 {
     let n = owners.len();
     let r = parity_game::check_tables(owners, priorities, offsets, targets);
-    let Answer::Answered(_) = r else {
+    if r.number() != 0 {
         return r;
-    };
+    }
     let r = check_sizes(
         n,
         targets.len(),
@@ -123,9 +126,9 @@ fn check_all(
         strategy,
         work,
     );
-    let Answer::Answered(_) = r else {
+    if r.number() != 0 {
         return r;
-    };
+    }
     check_bits(n, within, target)
 }
 
@@ -250,9 +253,9 @@ pub fn attractor(
         strategy.len(),
         work.len(),
     );
-    let Answer::Answered(_) = verdict else {
+    if verdict.number() != 0 {
         return verdict;
-    };
+    }
     let w = parity_game::work_words(owners.len(), targets.len());
     let alpha = side(player);
     Answer::Answered(run(

@@ -1,5 +1,6 @@
 // The kind 24: a cycle whose highest priority has the other parity, by the parts of both parities.
 use parity_game::Answer;
+use parity_game::LOSING_CYCLE;
 use parity_game::VertexIndex;
 ghost use mathlib.Core.Path.{_≡_};
 ghost use Prim.Native.Nat.{_+_, _*_, _<_};
@@ -29,7 +30,7 @@ fn find_losing(even: &[u64], work: &[u64], rows: usize, n: usize) -> Answer
 {
     for v in 0..n {
         if is_losing(even, work, rows, n, v) {
-            return Answer::LosingCycle(VertexIndex(v));
+            return Answer::AtVertex(LOSING_CYCLE, VertexIndex(v));
         }
     }
     Answer::Answered(0)

@@ -28,17 +28,17 @@ fn certify(
         (now (strategy .entry)) (now (work .entry)) (now (work .exit)) (said r) ⌝ }
 {
     let r = sides::check_partition(owners.len(), even, odd);
-    let Answer::Answered(_) = r else {
+    if r.number() != 0 {
         return r;
-    };
+    }
     let r = sides::check_entries(owners, offsets, targets, even, strategy);
-    let Answer::Answered(_) = r else {
+    if r.number() != 0 {
         return r;
-    };
+    }
     let r = sides::check_sides(owners, offsets, targets, even, strategy);
-    let Answer::Answered(_) = r else {
+    if r.number() != 0 {
         return r;
-    };
+    }
     cycles::check_cycles(owners, priorities, offsets, targets, even, strategy, work)
 }
 
@@ -68,9 +68,9 @@ pub fn check(
         strategy.len(),
         work.len(),
     );
-    let Answer::Answered(_) = r else {
+    if r.number() != 0 {
         return r;
-    };
+    }
     let r = certify(
         owners,
         priorities,

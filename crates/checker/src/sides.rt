@@ -1,6 +1,9 @@
 // The kinds 21 to 23: the sets split the vertices, entries are edges of winners' own vertices, and edges stay on
 // their side.
 use parity_game::Answer;
+use parity_game::BAD_ENTRY;
+use parity_game::LEAVES_SET;
+use parity_game::NOT_ONE_WINNER;
 use parity_game::VertexIndex;
 ghost use mathlib.Core.Path.{_≡_};
 ghost use mathlib.Core.Bool.{_||_};
@@ -33,7 +36,7 @@ pub fn check_partition(n: usize, even: &[u64], odd: &[u64]) -> Answer
 {
     for b in 0..64 * even.len() {
         if is_stray(n, even, odd, b) {
-            return Answer::NoPartition(b);
+            return Answer::AtPlace(NOT_ONE_WINNER, b);
         }
     }
     Answer::Answered(0)
@@ -70,7 +73,7 @@ pub fn check_entries(
     'vertices: for v in 0..owners.len() {
         if !is_own(owners, even, v) {
             if strategy[v] != 65535 {
-                return Answer::WrongEntry(VertexIndex(v));
+                return Answer::AtVertex(BAD_ENTRY, VertexIndex(v));
             }
             continue 'vertices;
         }
@@ -79,7 +82,7 @@ pub fn check_entries(
                 continue 'vertices;
             }
         }
-        return Answer::WrongEntry(VertexIndex(v));
+        return Answer::AtVertex(BAD_ENTRY, VertexIndex(v));
     }
     Answer::Answered(0)
 }
@@ -117,11 +120,11 @@ pub fn check_sides(
             if stays(even, v, strategy[v] as usize) {
                 continue 'vertices;
             }
-            return Answer::LeavesSet(VertexIndex(v));
+            return Answer::AtVertex(LEAVES_SET, VertexIndex(v));
         }
         for e in offsets[v] as usize..offsets[v + 1] as usize {
             if !stays(even, v, targets[e] as usize) {
-                return Answer::LeavesSet(VertexIndex(v));
+                return Answer::AtVertex(LEAVES_SET, VertexIndex(v));
             }
         }
     }

@@ -82,13 +82,13 @@ pub fn compact(
         (said r) ⌝ }
 {
     let r = parity_game::check_tables(owners, priorities, offsets, targets);
-    let Answer::Answered(_) = r else {
+    if r.number() != 0 {
         return r;
-    };
+    }
     let sized = parity_game::check_table(owners.len(), new_priorities.len());
-    let Answer::Answered(_) = sized else {
+    if sized.number() != 0 {
         return sized;
-    };
+    }
     let numbers = number(mark(priorities));
     write(priorities, numbers, new_priorities);
     Answer::Answered(0)

@@ -1,85 +1,80 @@
-// The one answer of every public function: an answer with its count, or a row of document 01's table.
+// The one answer of every public function: an answer with its count, 13 with the budget, or another number of the
+// table with its place. The numbers have the names that the header and the Rust crate give them.
 use crate::player::VertexIndex;
 ghost use mathlib.Core.Path.{_≡_};
 ghost use Rattle.parity_game.specs.Said.{said};
 
+pub const TOO_MANY_VERTICES: u64 = 1;
+
+pub const TABLE_LENGTHS: u64 = 2;
+
+pub const TOO_MANY_EDGES: u64 = 3;
+
+pub const BAD_OWNER: u64 = 4;
+
+pub const BAD_PRIORITY: u64 = 5;
+
+pub const BAD_OFFSET: u64 = 6;
+
+pub const BAD_TARGET: u64 = 7;
+
+pub const DEAD_END: u64 = 8;
+
+pub const BAD_SIZE: u64 = 9;
+
+pub const SHORT_WORK: u64 = 10;
+
+pub const OWNERS_DIFFER: u64 = 11;
+
+pub const STRAY_BIT: u64 = 12;
+
+pub const OVER_BUDGET: u64 = 13;
+
+pub const NOT_ONE_WINNER: u64 = 21;
+
+pub const BAD_ENTRY: u64 = 22;
+
+pub const LEAVES_SET: u64 = 23;
+
+pub const LOSING_CYCLE: u64 = 24;
+
 pub enum Answer {
     // Calls, rounds, looks, a length, or 0 where nothing is counted.
     Answered(u64),
-    TooManyVertices,
-    WrongLengths,
-    TooManyEdges,
-    NoOwner(VertexIndex),
-    PriorityTooHigh(VertexIndex),
-    // The index of the offset.
-    WrongOffset(usize),
-    // The index of the edge.
-    NoTarget(usize),
-    DeadEnd(VertexIndex),
-    WrongSizes,
-    ShortWork,
-    OwnersDiffer,
-    // The lowest bit.
-    StrayBit(usize),
     // The budget, which is the count given.
     OverBudget(u64),
-    // The lowest bit.
-    NoPartition(usize),
-    WrongEntry(VertexIndex),
-    LeavesSet(VertexIndex),
-    LosingCycle(VertexIndex),
+    // A number whose place is 0.
+    Refused(u64),
+    // A number and its vertex.
+    AtVertex(u64, VertexIndex),
+    // A number and the index of an offset or an edge, or a bit.
+    AtPlace(u64, usize),
 }
 
 impl Answer {
-    // The number of document 01's table, 0 for an answer.
+    // The number of the table, 0 for an answer.
     pub fn number(self) -> u64
         ensures { λ r. ⌜ r ≡ said self .number ⌝ }
     {
         match self {
             Answer::Answered(_) => 0,
-            Answer::TooManyVertices => 1,
-            Answer::WrongLengths => 2,
-            Answer::TooManyEdges => 3,
-            Answer::NoOwner(_) => 4,
-            Answer::PriorityTooHigh(_) => 5,
-            Answer::WrongOffset(_) => 6,
-            Answer::NoTarget(_) => 7,
-            Answer::DeadEnd(_) => 8,
-            Answer::WrongSizes => 9,
-            Answer::ShortWork => 10,
-            Answer::OwnersDiffer => 11,
-            Answer::StrayBit(_) => 12,
-            Answer::OverBudget(_) => 13,
-            Answer::NoPartition(_) => 21,
-            Answer::WrongEntry(_) => 22,
-            Answer::LeavesSet(_) => 23,
-            Answer::LosingCycle(_) => 24,
+            Answer::OverBudget(_) => OVER_BUDGET,
+            Answer::Refused(number) => number,
+            Answer::AtVertex(number, _) => number,
+            Answer::AtPlace(number, _) => number,
         }
     }
 
-    // The place of document 01's table, 0 for an answer.
+    // Its place, 0 for an answer.
     pub fn place(self) -> u64
         ensures { λ r. ⌜ r ≡ said self .place ⌝ }
     {
         match self {
             Answer::Answered(_) => 0,
-            Answer::TooManyVertices => 0,
-            Answer::WrongLengths => 0,
-            Answer::TooManyEdges => 0,
-            Answer::NoOwner(v) => v.0 as u64,
-            Answer::PriorityTooHigh(v) => v.0 as u64,
-            Answer::WrongOffset(i) => i as u64,
-            Answer::NoTarget(e) => e as u64,
-            Answer::DeadEnd(v) => v.0 as u64,
-            Answer::WrongSizes => 0,
-            Answer::ShortWork => 0,
-            Answer::OwnersDiffer => 0,
-            Answer::StrayBit(b) => b as u64,
             Answer::OverBudget(_) => 0,
-            Answer::NoPartition(b) => b as u64,
-            Answer::WrongEntry(v) => v.0 as u64,
-            Answer::LeavesSet(v) => v.0 as u64,
-            Answer::LosingCycle(v) => v.0 as u64,
+            Answer::Refused(_) => 0,
+            Answer::AtVertex(_, v) => v.0 as u64,
+            Answer::AtPlace(_, place) => place as u64,
         }
     }
 
@@ -90,22 +85,9 @@ impl Answer {
         match self {
             Answer::Answered(k) => k,
             Answer::OverBudget(k) => k,
-            Answer::TooManyVertices => 0,
-            Answer::WrongLengths => 0,
-            Answer::TooManyEdges => 0,
-            Answer::NoOwner(_) => 0,
-            Answer::PriorityTooHigh(_) => 0,
-            Answer::WrongOffset(_) => 0,
-            Answer::NoTarget(_) => 0,
-            Answer::DeadEnd(_) => 0,
-            Answer::WrongSizes => 0,
-            Answer::ShortWork => 0,
-            Answer::OwnersDiffer => 0,
-            Answer::StrayBit(_) => 0,
-            Answer::NoPartition(_) => 0,
-            Answer::WrongEntry(_) => 0,
-            Answer::LeavesSet(_) => 0,
-            Answer::LosingCycle(_) => 0,
+            Answer::Refused(_) => 0,
+            Answer::AtVertex(_, _) => 0,
+            Answer::AtPlace(_, _) => 0,
         }
     }
 }

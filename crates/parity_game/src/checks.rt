@@ -1,5 +1,15 @@
 // The checks 1 to 10 in document 01's order, each its own function. None writes anything.
 use crate::answer::Answer;
+use crate::answer::BAD_OFFSET;
+use crate::answer::BAD_OWNER;
+use crate::answer::BAD_PRIORITY;
+use crate::answer::BAD_SIZE;
+use crate::answer::BAD_TARGET;
+use crate::answer::DEAD_END;
+use crate::answer::SHORT_WORK;
+use crate::answer::TABLE_LENGTHS;
+use crate::answer::TOO_MANY_EDGES;
+use crate::answer::TOO_MANY_VERTICES;
 use crate::player::VertexIndex;
 ghost use mathlib.Core.Path.{_≡_};
 ghost use mathlib.Core.List.{_∷_, []};
@@ -14,7 +24,7 @@ fn check_vertices(n: usize) -> Answer
     ensures { λ r. ⌜ said r ≡ outcome (check1 n) (answered 0) ⌝ }
 {
     if 4096 < n {
-        return Answer::TooManyVertices;
+        return Answer::Refused(TOO_MANY_VERTICES);
     }
     Answer::Answered(0)
 }
@@ -25,10 +35,10 @@ fn check_counts(n: usize, priorities: usize, offsets: usize) -> Answer
     ensures { λ r. ⌜ said r ≡ outcome (check2 n priorities offsets) (answered 0) ⌝ }
 {
     if priorities != n {
-        return Answer::WrongLengths;
+        return Answer::Refused(TABLE_LENGTHS);
     }
     if offsets != n + 1 {
-        return Answer::WrongLengths;
+        return Answer::Refused(TABLE_LENGTHS);
     }
     Answer::Answered(0)
 }
@@ -38,7 +48,7 @@ fn check_edges(m: usize) -> Answer
     ensures { λ r. ⌜ said r ≡ outcome (check3 m) (answered 0) ⌝ }
 {
     if 16384 < m {
-        return Answer::TooManyEdges;
+        return Answer::Refused(TOO_MANY_EDGES);
     }
     Answer::Answered(0)
 }
@@ -48,13 +58,13 @@ fn check_lengths(n: usize, priorities: usize, offsets: usize, m: usize) -> Answe
     ensures { λ r. ⌜ said r ≡ outcome (check1 n then check2 n priorities offsets then check3 m) (answered 0) ⌝ }
 {
     let r = check_vertices(n);
-    let Answer::Answered(_) = r else {
+    if r.number() != 0 {
         return r;
-    };
+    }
     let r = check_counts(n, priorities, offsets);
-    let Answer::Answered(_) = r else {
+    if r.number() != 0 {
         return r;
-    };
+    }
     check_edges(m)
 }
 
@@ -64,7 +74,7 @@ fn check_owners(owners: &[u8]) -> Answer
 {
     for v in 0..owners.len() {
         if 1 < owners[v] {
-            return Answer::NoOwner(VertexIndex(v));
+            return Answer::AtVertex(BAD_OWNER, VertexIndex(v));
         }
     }
     Answer::Answered(0)
@@ -77,7 +87,7 @@ fn check_priorities(priorities: &[u16]) -> Answer
 {
     for v in 0..priorities.len() {
         if 255 < priorities[v] {
-            return Answer::PriorityTooHigh(VertexIndex(v));
+            return Answer::AtVertex(BAD_PRIORITY, VertexIndex(v));
         }
     }
     Answer::Answered(0)
@@ -89,15 +99,15 @@ fn check_offsets(offsets: &[u16], n: usize, m: usize) -> Answer
     ensures { λ r. ⌜ said r ≡ outcome (check6 n m (now (offsets .entry))) (answered 0) ⌝ }
 {
     if offsets[0] != 0 {
-        return Answer::WrongOffset(0);
+        return Answer::AtPlace(BAD_OFFSET, 0);
     }
     for i in 0..n {
         if offsets[i + 1] < offsets[i] {
-            return Answer::WrongOffset(i);
+            return Answer::AtPlace(BAD_OFFSET, i);
         }
     }
     if offsets[n] as usize != m {
-        return Answer::WrongOffset(n);
+        return Answer::AtPlace(BAD_OFFSET, n);
     }
     Answer::Answered(0)
 }
@@ -108,7 +118,7 @@ fn check_targets(targets: &[u16], n: usize) -> Answer
 {
     for e in 0..targets.len() {
         if n <= targets[e] as usize {
-            return Answer::NoTarget(e);
+            return Answer::AtPlace(BAD_TARGET, e);
         }
     }
     Answer::Answered(0)
@@ -123,7 +133,7 @@ fn is_total(offsets: &[u16], n: usize) -> Answer
         for _e in offsets[v]..offsets[v + 1] {
             continue 'vertices;
         }
-        return Answer::DeadEnd(VertexIndex(v));
+        return Answer::AtVertex(DEAD_END, VertexIndex(v));
     }
     Answer::Answered(0)
 }
@@ -140,25 +150,25 @@ pub fn check_tables(owners: &[u8], priorities: &[u16], offsets: &[u16], targets:
     let n = owners.len();
     let m = targets.len();
     let r = check_lengths(n, priorities.len(), offsets.len(), m);
-    let Answer::Answered(_) = r else {
+    if r.number() != 0 {
         return r;
-    };
+    }
     let r = check_owners(owners);
-    let Answer::Answered(_) = r else {
+    if r.number() != 0 {
         return r;
-    };
+    }
     let r = check_priorities(priorities);
-    let Answer::Answered(_) = r else {
+    if r.number() != 0 {
         return r;
-    };
+    }
     let r = check_offsets(offsets, n, m);
-    let Answer::Answered(_) = r else {
+    if r.number() != 0 {
         return r;
-    };
+    }
     let r = check_targets(targets, n);
-    let Answer::Answered(_) = r else {
+    if r.number() != 0 {
         return r;
-    };
+    }
     is_total(offsets, n)
 }
 
@@ -182,7 +192,7 @@ pub fn check_set(n: usize, set: usize) -> Answer
     ensures { λ r. ⌜ said r ≡ outcome (check9 n (set ∷ []) []) (answered 0) ⌝ }
 {
     if set != set_words(n) {
-        return Answer::WrongSizes;
+        return Answer::Refused(BAD_SIZE);
     }
     Answer::Answered(0)
 }
@@ -192,7 +202,7 @@ pub fn check_table(n: usize, table: usize) -> Answer
     ensures { λ r. ⌜ said r ≡ outcome (check9 n [] (table ∷ [])) (answered 0) ⌝ }
 {
     if table != n {
-        return Answer::WrongSizes;
+        return Answer::Refused(BAD_SIZE);
     }
     Answer::Answered(0)
 }
@@ -203,7 +213,7 @@ pub fn check_work(n: usize, m: usize, work: usize) -> Answer
     ensures { λ r. ⌜ said r ≡ outcome (check10 n m work) (answered 0) ⌝ }
 {
     if work < work_words(n, m) {
-        return Answer::ShortWork;
+        return Answer::Refused(SHORT_WORK);
     }
     Answer::Answered(0)
 }

@@ -1,5 +1,6 @@
 // The refusals 1 to 11, each its own function. None writes anything.
 use parity_game::Answer;
+use parity_game::OWNERS_DIFFER;
 ghost use mathlib.Core.Path.{_≡_};
 ghost use lib.ListN.{length, getD};
 ghost use Rattle.rules.specs.Outcome.{outcome, answered};
@@ -25,7 +26,7 @@ fn check_owners_equal(owners: &[u8]) -> Answer
     let first = sole_owner(owners);
     for v in 0..owners.len() {
         if owners[v] != first {
-            return Answer::OwnersDiffer;
+            return Answer::Refused(OWNERS_DIFFER);
         }
     }
     Answer::Answered(0)
@@ -49,16 +50,16 @@ pub fn check_all(
 {
     let n = owners.len();
     let r = parity_game::check_tables(owners, priorities, offsets, targets);
-    let Answer::Answered(_) = r else {
+    if r.number() != 0 {
         return r;
-    };
+    }
     let r = parity_game::check_set(n, set);
-    let Answer::Answered(_) = r else {
+    if r.number() != 0 {
         return r;
-    };
+    }
     let r = parity_game::check_work(n, targets.len(), work);
-    let Answer::Answered(_) = r else {
+    if r.number() != 0 {
         return r;
-    };
+    }
     check_owners_equal(owners)
 }

@@ -57,9 +57,9 @@ pub fn solve_solitaire_game(
         (said r) ⌝ }
 {
     let r = check_all(owners, priorities, offsets, targets, set.len(), work.len());
-    let Answer::Answered(_) = r else {
+    if r.number() != 0 {
         return r;
-    };
+    }
     let w = parity_game::work_words(owners.len(), targets.len());
     run(owners, priorities, offsets, targets, set, &mut work[0..w]);
     Answer::Answered(0)

@@ -26,20 +26,20 @@ pub fn check_all(
 {
     let n = owners.len();
     let r = parity_game::check_tables(owners, priorities, offsets, targets);
-    let Answer::Answered(_) = r else {
+    if r.number() != 0 {
         return r;
-    };
+    }
     let r = parity_game::check_set(n, even);
-    let Answer::Answered(_) = r else {
+    if r.number() != 0 {
         return r;
-    };
+    }
     let r = parity_game::check_set(n, odd);
-    let Answer::Answered(_) = r else {
+    if r.number() != 0 {
         return r;
-    };
+    }
     let r = parity_game::check_table(n, strategy);
-    let Answer::Answered(_) = r else {
+    if r.number() != 0 {
         return r;
-    };
+    }
     parity_game::check_work(n, targets.len(), work)
 }

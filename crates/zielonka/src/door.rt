@@ -100,9 +100,9 @@ pub fn solve_zielonka(
         strategy.len(),
         work.len(),
     );
-    let Answer::Answered(_) = r else {
+    if r.number() != 0 {
         return r;
-    };
+    }
     let w = parity_game::work_words(owners.len(), targets.len());
     let ran = run(
         owners,

@@ -36,32 +36,32 @@ abbrev from23 : tie.Start → Verdict
 from23 s = v23 s then v24 s
 
 -- where the function begins, from past each kind
-abbrev past21 : tie.After-enum-told → tie.Start
+abbrev past21 : tie.Else1 → tie.Start
 past21 c = c .before .before .before .before .before .before .before .before .before .before .before
 
-abbrev past22 : tie.After-enum-told2 → tie.Start
+abbrev past22 : tie.Else2 → tie.Start
 past22 c = past21 (c .before .before .before)
 
-abbrev past23 : tie.After-enum-told3 → tie.Start
+abbrev past23 : tie.Else3 → tie.Start
 past23 c = past22 (c .before .before .before)
 
 -- there the kind gave nothing
-ok21 : (c : tie.After-enum-told) → v21 (past21 c) ≡ none
+ok21 : (c : tie.Else1) → v21 (past21 c) ≡ none
 ok21 c =
     let f = c .before .before .check-partition in
-    went-on (f .result) _ (c .before .match .keys1) (numbered21 _ _ _) (f .ensures)
+    went-on (f .result) _ (c .if1 .left) (c .before .number .ensures) (numbered21 _ _ _) (f .ensures)
 
-ok22 : (c : tie.After-enum-told2) → v22 (past22 c) ≡ none
+ok22 : (c : tie.Else2) → v22 (past22 c) ≡ none
 ok22 c =
     let f = c .before .before .check-entries in
     sym (check22-is (past22 c .pre)) ∙
-    went-on (f .result) _ (c .before .match2 .keys1) (numbered-givenAt 22 _ _ (omega arith)) (f .ensures)
+    went-on (f .result) _ (c .if2 .left) (c .before .number2 .ensures) (numbered-givenAt 22 _ _ (omega arith)) (f .ensures)
 
-ok23 : (c : tie.After-enum-told3) → v23 (past23 c) ≡ none
+ok23 : (c : tie.Else3) → v23 (past23 c) ≡ none
 ok23 c =
     let f = c .before .before .check-sides in
     sym (check23-is (past23 c .pre)) ∙
-    went-on (f .result) _ (c .before .match3 .keys1) (numbered-givenAt 23 _ _ (omega arith)) (f .ensures)
+    went-on (f .result) _ (c .if3 .left) (c .before .number3 .ensures) (numbered-givenAt 23 _ _ (omega arith)) (f .ensures)
 
 -- equal verdicts give equal outcomes
 out : {u v : Verdict} → u ≡ v → outcome u (answered 0) ≡ outcome v (answered 0)
@@ -70,45 +70,45 @@ out e = ap (λ (v : Verdict). outcome v (answered 0)) e
 check-partition-requires : tie.Need-check-partition-requires
 check-partition-requires c κs = partition-ready (c .before .before .before .before .before .before .before .before .pre)
 
-enum-told : tie.Need-enum-told
-enum-told c = search needs
+number-requires : tie.Need-number-requires
+number-requires c κs = search needs
 
 returns : tie.Need-returns
 returns c =
-    let s = c .before .before .before .before .before .before .before .before .before .before in
-    let f = c .before .check-partition in
-    certify-stops (s .pre) (stopped (f .result) (v21 s) (from22 s) (answered 0) (c .match .keys2) (f .ensures))
+    let s = c .before .before .before .before .before .before .before .before .before .before .before in
+    let f = c .before .before .check-partition in
+    certify-stops (s .pre) (stopped (f .result) (v21 s) (from22 s) (answered 0) (c .if1 .taken) (c .before .number .ensures) (f .ensures))
 
 check-entries-requires : tie.Need-check-entries-requires
 check-entries-requires c κs = entries-ready (past21 c .pre)
 
-enum-told-2 : tie.Need-enum-told-2
-enum-told-2 c = search needs
+number-requires-2 : tie.Need-number-requires-2
+number-requires-2 c κs = search needs
 
 returns-2 : tie.Need-returns-2
 returns-2 c =
-    let d = c .before .before in
+    let d = c .before .before .before in
     let s = past21 d in
-    let f = c .before .check-entries in
+    let f = c .before .before .check-entries in
     certify-stops (s .pre)
     (past (from22 s) (ok21 d)
-    (stopped (f .result) (v22 s) (from23 s) (answered 0) (c .match2 .keys2) (f .ensures ∙ out (check22-is (s .pre)))))
+    (stopped (f .result) (v22 s) (from23 s) (answered 0) (c .if2 .taken) (c .before .number2 .ensures) (f .ensures ∙ out (check22-is (s .pre)))))
 
 check-sides-requires : tie.Need-check-sides-requires
 check-sides-requires c κs = sides-ready (past22 c .pre) (ok22 c)
 
-enum-told-3 : tie.Need-enum-told-3
-enum-told-3 c = search needs
+number-requires-3 : tie.Need-number-requires-3
+number-requires-3 c κs = search needs
 
 returns-3 : tie.Need-returns-3
 returns-3 c =
-    let d = c .before .before in
+    let d = c .before .before .before in
     let s = past22 d in
-    let f = c .before .check-sides in
+    let f = c .before .before .check-sides in
     certify-stops (s .pre)
     (past (from22 s) (ok21 (d .before .before .before))
     (past (from23 s) (ok22 d)
-    (stopped (f .result) (v23 s) (v24 s) (answered 0) (c .match3 .keys2) (f .ensures ∙ out (check23-is (s .pre))))))
+    (stopped (f .result) (v23 s) (v24 s) (answered 0) (c .if3 .taken) (c .before .number3 .ensures) (f .ensures ∙ out (check23-is (s .pre))))))
 
 check-cycles-requires : tie.Need-check-cycles-requires
 check-cycles-requires c κs =
@@ -138,13 +138,13 @@ certify-spec =
     tie.close
     (tie.spec
     check-partition-requires
-    enum-told
+    number-requires
     returns
     check-entries-requires
-    enum-told-2
+    number-requires-2
     returns-2
     check-sides-requires
-    enum-told-3
+    number-requires-3
     returns-3
     check-cycles-requires
     same-length

@@ -19,18 +19,18 @@ abbrev first : tie.Start → Verdict
 first s = refusals (tables s) (s .args .even .now) (s .args .odd .now) (s .args .strategy .now) (s .args .work .now)
 
 -- where the function begins, from past them
-abbrev start : tie.After-enum-told → tie.Start
+abbrev start : tie.Else1 → tie.Start
 start d = d .before .before .before .before .before .before .before .before .before .before .before
 
 -- there they gave nothing
-ok : (d : tie.After-enum-told) → first (start d) ≡ none
+ok : (d : tie.Else1) → first (start d) ≡ none
 ok d =
     let f = d .before .before .check-all in
-    went-on (f .result) _ (d .before .match .keys1) (numbered-by _ _ _ _ _) (f .ensures)
+    went-on (f .result) _ (d .if1 .left) (d .before .number .ensures) (numbered-by _ _ _ _ _) (f .ensures)
 
 -- so the kinds may be checked
 certifiable :
-    (d : tie.After-enum-told) →
+    (d : tie.Else1) →
     let a = start d .args in
     Certifiable (tables (start d)) (a .even .now) (a .odd .now) (a .strategy .now) (a .work .now)
 certifiable d = certify-given (ok d)
@@ -38,19 +38,19 @@ certifiable d = certify-given (ok d)
 check-all-requires : tie.Need-check-all-requires
 check-all-requires c κs = search needs
 
-enum-told : tie.Need-enum-told
-enum-told c = search needs
+number-requires : tie.Need-number-requires
+number-requires c κs = search needs
 
 returns : tie.Need-returns
 returns c =
-    let s = c .before .before .before .before .before .before .before .before .before .before in
+    let s = c .before .before .before .before .before .before .before .before .before .before .before in
     let a = s .args in
-    let f = c .before .check-all in
+    let f = c .before .before .check-all in
     checks-refused
     (stopped (f .result) (first s) (certificateChecks (gameOf (tables s)) (a .even .now) (a .odd .now) (a .strategy .now))
-    (answered 0) (c .match .keys2) (f .ensures))
+    (answered 0) (c .if1 .taken) (c .before .number .ensures) (f .ensures))
     (f .ensures)
-    (refusal-not-zero (f .result) (c .match .keys2))
+    (refusal-not-zero (f .result) (c .if1 .taken) (c .before .number .ensures))
 
 certify-requires : tie.Need-certify-requires
 certify-requires c κs = certifiable (c .before)
@@ -78,7 +78,7 @@ check-spec =
     tie.close
     (tie.spec
     check-all-requires
-    enum-told
+    number-requires
     returns
     certify-requires
     work-words-requires

@@ -38,66 +38,66 @@ abbrev size-check : tie.Start → Verdict
 size-check c = check9 (vertices (tables c)) [] (length (fresh c) ∷ [])
 
 -- past the first check the tables are accepted
-accepted : (c : tie.After-enum-told) → Accepted (tables (start (c .before .before)))
+accepted : (c : tie.Else1) → Accepted (tables (start (c .before .before)))
 unfolding Accepted
 accepted c =
     let called = c .before .before .check-tables in
     let t = tables (start (c .before .before)) in
-    went-on (called .result) (tableChecks t) (c .before .match .keys1) (numbered-tables t) (called .ensures)
+    went-on (called .result) (tableChecks t) (c .if1 .left) (c .before .number .ensures) (numbered-tables t) (called .ensures)
 
 -- past the second the new table has its size, and so nothing is refused
-abbrev start2 : tie.After-enum-told2 → tie.Start
+abbrev start2 : tie.Else2 → tie.Start
 start2 c = start (c .before .before .before .before .before)
 
-sized : (c : tie.After-enum-told2) → size-check (start2 c) ≡ none
+sized : (c : tie.Else2) → size-check (start2 c) ≡ none
 sized c =
     let called = c .before .before .check-table in
-    went-on (called .result) (size-check (start2 c)) (c .before .match2 .keys1) (numbered-check9 _ [] _) (called .ensures)
+    went-on (called .result) (size-check (start2 c)) (c .if2 .left) (c .before .number2 .ensures) (numbered-check9 _ [] _) (called .ensures)
 
-passes : (c : tie.After-enum-told2) → compactionChecks (tables (start2 c)) (length (fresh (start2 c))) ≡ none
+passes : (c : tie.Else2) → compactionChecks (tables (start2 c)) (length (fresh (start2 c))) ≡ none
 unfolding Accepted
 passes c = rw (accepted (c .before .before .before)) (sized c)
 
-sound : (c : tie.After-enum-told2) → Sound (tables (start2 c))
+sound : (c : tie.Else2) → Sound (tables (start2 c))
 sound c = accepted-sound (tables (start2 c)) (accepted (c .before .before .before))
 
-small : (c : tie.After-enum-told2) → Small (start2 c .args .priorities .now)
+small : (c : tie.Else2) → Small (start2 c .args .priorities .now)
 small c v l = sound c .priority-small v (omega (arith, sound c .priority-each))
 
 check-tables-requires : tie.Need-check-tables-requires
 check-tables-requires c κs = search needs
 
-enum-told : tie.Need-enum-told
-enum-told c = search needs
+number-requires : tie.Need-number-requires
+number-requires c κs = search needs
 
 returns : tie.Need-returns
 returns c =
-    let called = c .before .check-tables in
-    let t = tables (start (c .before)) in
-    compacts-refused t (fresh (start (c .before))) (said (called .result))
-    (stopped (called .result) (tableChecks t) (size-check (start (c .before))) (answered 0) (c .match .keys2) (called .ensures))
-    (refusal-not-zero (called .result) (c .match .keys2))
+    let called = c .before .before .check-tables in
+    let t = tables (start (c .before .before)) in
+    compacts-refused t (fresh (start (c .before .before))) (said (called .result))
+    (stopped (called .result) (tableChecks t) (size-check (start (c .before .before))) (answered 0) (c .if1 .taken) (c .before .number .ensures) (called .ensures))
+    (refusal-not-zero (called .result) (c .if1 .taken) (c .before .number .ensures))
 
 check-table-requires : tie.Need-check-table-requires
 check-table-requires c κs = search needs
 
-enum-told-2 : tie.Need-enum-told-2
-enum-told-2 c = search needs
+number-requires-2 : tie.Need-number-requires-2
+number-requires-2 c κs = search needs
 
 returns-2 : tie.Need-returns-2
 unfolding Accepted
 returns-2 c =
-    let called = c .before .check-table in
-    let at = start (c .before .before .before .before) in
+    let called = c .before .before .check-table in
+    let at = start (c .before .before .before .before .before) in
     compacts-refused (tables at) (fresh at) (said (called .result))
-    (called .ensures ∙ sym (outcome-pass (tableChecks (tables at)) (size-check at) (answered 0) (accepted (c .before .before))))
-    (refusal-not-zero (called .result) (c .match2 .keys2))
+    (called .ensures ∙ sym (outcome-pass (tableChecks (tables at)) (size-check at) (answered 0) (accepted (c .before .before .before))))
+    (refusal-not-zero (called .result) (c .if2 .taken) (c .before .number2 .ensures))
 
 mark-requires : tie.Need-mark-requires
 mark-requires c κs = small c
 
-number-requires : tie.Need-number-requires
-number-requires c κs = search needs
+number-requires-3 : tie.Need-number-requires-3
+number-requires-3 c κs = search needs
 
 write-requires : tie.Need-write-requires
 write-requires c κs =
@@ -116,21 +116,21 @@ returns-3 c =
     let t = tables (start2 at) in
     compacts-answered t (fresh (start2 at)) (wrote .write .last .1 .1 .0) (passes at)
     (wrote .write .ensures ∙
-    numbers-compact (t .priorities) (numbered .before .mark .result) (numbered .number .result) (small at) (numbered .before .mark .ensures)
-    (numbered .number .ensures))
+    numbers-compact (t .priorities) (numbered .before .mark .result) (numbered .number3 .result) (small at) (numbered .before .mark .ensures)
+    (numbered .number3 .ensures))
 
 pub compact-spec : {M : Type 1} → statement M
 compact-spec =
     tie.close
     (tie.spec
     check-tables-requires
-    enum-told
+    number-requires
     returns
     check-table-requires
-    enum-told-2
+    number-requires-2
     returns-2
     mark-requires
-    number-requires
+    number-requires-3
     write-requires
     same-length
     returns-3)

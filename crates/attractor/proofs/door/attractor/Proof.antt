@@ -31,19 +31,19 @@ lent c = record { result = c .args .result .now; strategy = c .args .strategy .n
 abbrev at1 : tie.After-check-all → tie.Start
 at1 c = c .before .before .before .before .before .before .before .before .before .before
 
-abbrev at2 : tie.After-enum-told → tie.Start
+abbrev at2 : tie.Else1 → tie.Start
 at2 c = at1 (c .before .before)
 
 -- past the checks
-no-refusal : (c : tie.After-enum-told) → let g = at2 c in attractorChecks (tables g) (g .args .within .now) (g .args .target .now) (lent g) ≡ none
+no-refusal : (c : tie.Else1) → let g = at2 c in attractorChecks (tables g) (g .args .within .now) (g .args .target .now) (lent g) ≡ none
 no-refusal c =
     let g = at2 c in
     let called = c .before .before .check-all in
-    went-on (called .result) (attractorChecks (tables g) (g .args .within .now) (g .args .target .now) (lent g)) (c .before .match .keys1)
+    went-on (called .result) (attractorChecks (tables g) (g .args .within .now) (g .args .target .now) (lent g)) (c .if1 .left) (c .before .number .ensures)
     (numbered-checks (tables g) (g .args .within .now) (g .args .target .now) (lent g)) (called .ensures)
 
 passed :
-    (c : tie.After-enum-told) →
+    (c : tie.Else1) →
     let g = at2 c in
     Passed (tables g) (g .args .within .now) (g .args .target .now) (length (g .args .result .now)) (length (g .args .strategy .now))
     (length (g .args .work .now))
@@ -55,14 +55,14 @@ passed c =
 check-all-requires : tie.Need-check-all-requires
 check-all-requires c κs = search needs
 
-enum-told : tie.Need-enum-told
-enum-told c = search needs
+number-requires : tie.Need-number-requires
+number-requires c κs = search needs
 
 returns : tie.Need-returns
 returns c =
-    let g = at1 (c .before) in
-    attracts-refused (tables g) (is (g .args .player)) (g .args .within .now) (g .args .target .now) (lent g) _ (c .before .check-all .ensures)
-    (refusal-not-zero (c .before .check-all .result) (c .match .keys2))
+    let g = at1 (c .before .before) in
+    attracts-refused (tables g) (is (g .args .player)) (g .args .within .now) (g .args .target .now) (lent g) _ (c .before .before .check-all .ensures)
+    (refusal-not-zero (c .before .before .check-all .result) (c .if1 .taken) (c .before .number .ensures))
 
 work-words-requires : tie.Need-work-words-requires
 work-words-requires c κs =
@@ -125,7 +125,7 @@ attractor-spec =
     tie.close
     (tie.spec
     check-all-requires
-    enum-told
+    number-requires
     returns
     work-words-requires
     side-requires

@@ -28,10 +28,10 @@ tables c =
 abbrev at1 : tie.After-check-tables → tie.Start
 at1 c = c .before .before .before .before .before .before .before
 
-abbrev past1 : tie.After-enum-told → tie.Start
+abbrev past1 : tie.Else1 → tie.Start
 past1 c = at1 (c .before .before)
 
-abbrev past2 : tie.After-enum-told2 → tie.Start
+abbrev past2 : tie.Else2 → tie.Start
 past2 c = past1 (c .before .before .before)
 
 -- the verdict on the sizes, on the bits, and the whole
@@ -59,57 +59,57 @@ in-order c =
 out : {u v : Verdict} → u ≡ v → outcome u (answered 0) ≡ outcome v (answered 0)
 out e = ap (λ (v : Verdict). outcome v (answered 0)) e
 
-none1 : (c : tie.After-enum-told) → tableChecks (tables (past1 c)) ≡ none
+none1 : (c : tie.Else1) → tableChecks (tables (past1 c)) ≡ none
 none1 c =
     let called = c .before .before .check-tables in
-    went-on (called .result) (tableChecks (tables (past1 c))) (c .before .match .keys1) (numbered-tables (tables (past1 c))) (called .ensures)
+    went-on (called .result) (tableChecks (tables (past1 c))) (c .if1 .left) (c .before .number .ensures) (numbered-tables (tables (past1 c))) (called .ensures)
 
-none2 : (c : tie.After-enum-told2) → sizes (past2 c) ≡ none
+none2 : (c : tie.Else2) → sizes (past2 c) ≡ none
 none2 c =
     let called = c .before .before .check-sizes in
     let g = past2 c in
-    went-on (called .result) (sizes g) (c .before .match2 .keys1)
+    went-on (called .result) (sizes g) (c .if2 .left) (c .before .number2 .ensures)
     (numbered-then (check9 (vertices (tables g)) _ _) (check10 (vertices (tables g)) (edgesIn (tables g)) (g .args .work)) (numbered-check9 _ _ _)
     (numbered-check10 _ _ _))
     (called .ensures)
 
 -- what is left past each check is the whole verdict
-is1 : (c : tie.After-enum-told) → sizes (past1 c) then bits (past1 c) ≡ whole (past1 c)
+is1 : (c : tie.Else1) → sizes (past1 c) then bits (past1 c) ≡ whole (past1 c)
 is1 c =
     passed (tableChecks (tables (past1 c))) (sizes (past1 c) then bits (past1 c)) (whole (past1 c)) (none1 c) (in-order (past1 c))
 
-is2 : (c : tie.After-enum-told2) → bits (past2 c) ≡ whole (past2 c)
+is2 : (c : tie.Else2) → bits (past2 c) ≡ whole (past2 c)
 is2 c = passed (sizes (past2 c)) (bits (past2 c)) (whole (past2 c)) (none2 c) (is1 (c .before .before .before))
 
 -- what is known of the tables past the first check
-sound : (c : tie.After-enum-told) → Sound (tables (past1 c))
+sound : (c : tie.Else1) → Sound (tables (past1 c))
 unfolding Accepted
 sound c = accepted-sound (tables (past1 c)) (none1 c)
 
 check-tables-requires : tie.Need-check-tables-requires
 check-tables-requires c κs = search needs
 
-enum-told : tie.Need-enum-told
-enum-told c = search needs
+number-requires : tie.Need-number-requires
+number-requires c κs = search needs
 
 returns : tie.Need-returns
 returns c =
-    let g = at1 (c .before) in
-    stopped (c .before .check-tables .result) (tableChecks (tables g)) (sizes g then bits g) (answered 0) (c .match .keys2)
-    (c .before .check-tables .ensures) ∙
+    let g = at1 (c .before .before) in
+    stopped (c .before .before .check-tables .result) (tableChecks (tables g)) (sizes g then bits g) (answered 0) (c .if1 .taken) (c .before .number .ensures)
+    (c .before .before .check-tables .ensures) ∙
     out (in-order g)
 
 check-sizes-requires : tie.Need-check-sizes-requires
 check-sizes-requires c κs = (sound c .few-vertices, sound c .few-edges)
 
-enum-told-2 : tie.Need-enum-told-2
-enum-told-2 c = search needs
+number-requires-2 : tie.Need-number-requires-2
+number-requires-2 c κs = search needs
 
 returns-2 : tie.Need-returns-2
 returns-2 c =
-    let g = past1 (c .before .before) in
-    stopped (c .before .check-sizes .result) (sizes g) (bits g) (answered 0) (c .match2 .keys2) (c .before .check-sizes .ensures) ∙
-    out (is1 (c .before .before))
+    let g = past1 (c .before .before .before) in
+    stopped (c .before .before .check-sizes .result) (sizes g) (bits g) (answered 0) (c .if2 .taken) (c .before .number2 .ensures) (c .before .before .check-sizes .ensures) ∙
+    out (is1 (c .before .before .before))
 
 check-bits-requires : tie.Need-check-bits-requires
 check-bits-requires c κs =
@@ -127,10 +127,10 @@ check-all-spec =
     tie.close
     (tie.spec
     check-tables-requires
-    enum-told
+    number-requires
     returns
     check-sizes-requires
-    enum-told-2
+    number-requires-2
     returns-2
     check-bits-requires
     returns-3)

@@ -9,33 +9,33 @@ use Rattle.parity_game.proofs.Matched.{went-on, stopped}
 use Rattle.parity_game.proofs.checks.check_lengths.Statement.{statement}
 use Rattle.parity_game.proofs.checks.check_lengths.Tie as tie
 
-first-none : (c : tie.After-enum-told) → check1 (c .before .before .before .args .n) ≡ none
+first-none : (c : tie.Else1) → check1 (c .before .before .before .args .n) ≡ none
 first-none c =
     let called = c .before .before .check-vertices in
-    went-on (called .result) (check1 _) (c .before .match .keys1) (numbered-check1 _) (called .ensures)
+    went-on (called .result) (check1 _) (c .if1 .left) (c .before .number .ensures) (numbered-check1 _) (called .ensures)
 
 check-vertices-requires : tie.Need-check-vertices-requires
 check-vertices-requires c κs = search needs
 
-enum-told : tie.Need-enum-told
-enum-told c = search needs
+number-requires : tie.Need-number-requires
+number-requires c κs = search needs
 
 returns : tie.Need-returns
 returns c =
-    let called = c .before .check-vertices in
-    stopped (called .result) (check1 _) (check2 _ _ _ then check3 _) (answered 0) (c .match .keys2) (called .ensures)
+    let called = c .before .before .check-vertices in
+    stopped (called .result) (check1 _) (check2 _ _ _ then check3 _) (answered 0) (c .if1 .taken) (c .before .number .ensures) (called .ensures)
 
 check-counts-requires : tie.Need-check-counts-requires
 check-counts-requires c κs = check1-none _ (first-none c)
 
-enum-told-2 : tie.Need-enum-told-2
-enum-told-2 c = search needs
+number-requires-2 : tie.Need-number-requires-2
+number-requires-2 c κs = search needs
 
 returns-2 : tie.Need-returns-2
 returns-2 c =
-    let called = c .before .check-counts in
-    stopped (called .result) (check2 _ _ _) (check3 _) (answered 0) (c .match2 .keys2) (called .ensures) ∙
-    sym (outcome-pass (check1 _) (check2 _ _ _ then check3 _) (answered 0) (first-none (c .before .before)))
+    let called = c .before .before .check-counts in
+    stopped (called .result) (check2 _ _ _) (check3 _) (answered 0) (c .if2 .taken) (c .before .number2 .ensures) (called .ensures) ∙
+    sym (outcome-pass (check1 _) (check2 _ _ _ then check3 _) (answered 0) (first-none (c .before .before .before)))
 
 check-edges-requires : tie.Need-check-edges-requires
 check-edges-requires c κs = search needs
@@ -44,7 +44,7 @@ returns-3 : tie.Need-returns-3
 returns-3 c =
     let told = c .before in
     let called = told .before .before .check-counts in
-    let second = went-on (called .result) (check2 _ _ _) (told .before .match2 .keys1) (numbered-check2 _ _ _) (called .ensures) in
+    let second = went-on (called .result) (check2 _ _ _) (told .if2 .left) (told .before .number2 .ensures) (numbered-check2 _ _ _) (called .ensures) in
     c .check-edges .ensures ∙
     sym (outcome-pass (check2 _ _ _) (check3 _) (answered 0) second) ∙
     sym (outcome-pass (check1 _) (check2 _ _ _ then check3 _) (answered 0) (first-none (told .before .before .before)))
@@ -54,10 +54,10 @@ check-lengths-spec =
     tie.close
     (tie.spec
     check-vertices-requires
-    enum-told
+    number-requires
     returns
     check-counts-requires
-    enum-told-2
+    number-requires-2
     returns-2
     check-edges-requires
     returns-3)

@@ -24,33 +24,33 @@ tables c =
       targets = c .args .targets .now;
     }
 
-abbrev lent : tie.After-enum-told → Tables
+abbrev lent : tie.Else1 → Tables
 lent c = tables (c .before .before .before .before .before .before .before)
 
-abbrev lent2 : tie.After-enum-told2 → Tables
+abbrev lent2 : tie.Else2 → Tables
 lent2 c = lent (c .before .before .before)
 
-abbrev lent3 : tie.After-enum-told3 → Tables
+abbrev lent3 : tie.Else3 → Tables
 lent3 c = lent2 (c .before .before .before)
 
-abbrev lent4 : tie.After-enum-told4 → Tables
+abbrev lent4 : tie.Else4 → Tables
 lent4 c = lent3 (c .before .before .before)
 
-abbrev lent5 : tie.After-enum-told5 → Tables
+abbrev lent5 : tie.Else5 → Tables
 lent5 c = lent4 (c .before .before .before)
 
 -- equal verdicts give equal outcomes
 out : {u v : Verdict} → u ≡ v → outcome u (answered 0) ≡ outcome v (answered 0)
 out e = ap (λ (v : Verdict). outcome v (answered 0)) e
 
-lengths-pass : (c : tie.After-enum-told) → lengthChecks (lent c) ≡ none
+lengths-pass : (c : tie.Else1) → lengthChecks (lent c) ≡ none
 lengths-pass c =
     let called = c .before .before .check-lengths in
-    went-on (called .result) (lengthChecks (lent c)) (c .before .match .keys1) (numbered-lengths (lent c)) (called .ensures)
+    went-on (called .result) (lengthChecks (lent c)) (c .if1 .left) (c .before .number .ensures) (numbered-lengths (lent c)) (called .ensures)
 
 -- the lengths that the check of the lengths left
 lengths-fit :
-    (c : tie.After-enum-told) →
+    (c : tie.Else1) →
     (length (lent c .priorities) ≡ vertices (lent c)) × (length (lent c .offsets) ≡ vertices (lent c) + 1)
 lengths-fit c =
     let t = lent c in
@@ -68,109 +68,109 @@ priorities-said c =
     ap (λ (n : ℕ). outcome (check5 n (lent2 (c .before) .priorities)) (answered 0)) (lengths-fit (c .before .before .before .before) .0)
 
 -- what is left past each check is the verdict on the tables
-left4 : (c : tie.After-enum-told) → from4 (lent c) ≡ tableChecks (lent c)
+left4 : (c : tie.Else1) → from4 (lent c) ≡ tableChecks (lent c)
 left4 c = passed (lengthChecks (lent c)) (from4 (lent c)) (tableChecks (lent c)) (lengths-pass c) (sym (tables-grouped (lent c)))
 
-left5 : (c : tie.After-enum-told2) → from5 (lent2 c) ≡ tableChecks (lent2 c)
+left5 : (c : tie.Else2) → from5 (lent2 c) ≡ tableChecks (lent2 c)
 left5 c =
     let t = lent2 c in
     let called = c .before .before .check-owners in
     let check = check4 (vertices t) (t .owners) in
-    let gave-none = went-on (called .result) check (c .before .match2 .keys1) (numbered-check4 _ _) (called .ensures) in
+    let gave-none = went-on (called .result) check (c .if2 .left) (c .before .number2 .ensures) (numbered-check4 _ _) (called .ensures) in
     passed check (from5 t) (tableChecks t) gave-none (left4 (c .before .before .before))
 
-left6 : (c : tie.After-enum-told3) → from6 (lent3 c) ≡ tableChecks (lent3 c)
+left6 : (c : tie.Else3) → from6 (lent3 c) ≡ tableChecks (lent3 c)
 left6 c =
     let t = lent3 c in
     let called = c .before .before .check-priorities in
     let check = check5 (vertices t) (t .priorities) in
-    let gave-none = went-on (called .result) check (c .before .match3 .keys1) (numbered-check5 _ _) (priorities-said (c .before .before)) in
+    let gave-none = went-on (called .result) check (c .if3 .left) (c .before .number3 .ensures) (numbered-check5 _ _) (priorities-said (c .before .before)) in
     passed check (from6 t) (tableChecks t) gave-none (left5 (c .before .before .before))
 
-left7 : (c : tie.After-enum-told4) → from7 (lent4 c) ≡ tableChecks (lent4 c)
+left7 : (c : tie.Else4) → from7 (lent4 c) ≡ tableChecks (lent4 c)
 left7 c =
     let t = lent4 c in
     let called = c .before .before .check-offsets in
     let check = check6 (vertices t) (edgesIn t) (t .offsets) in
-    let gave-none = went-on (called .result) check (c .before .match4 .keys1) (numbered-check6 _ _ _) (called .ensures) in
+    let gave-none = went-on (called .result) check (c .if4 .left) (c .before .number4 .ensures) (numbered-check6 _ _ _) (called .ensures) in
     passed check (from7 t) (tableChecks t) gave-none (left6 (c .before .before .before))
 
-left8 : (c : tie.After-enum-told5) → check8 (vertices (lent5 c)) (lent5 c .offsets) ≡ tableChecks (lent5 c)
+left8 : (c : tie.Else5) → check8 (vertices (lent5 c)) (lent5 c .offsets) ≡ tableChecks (lent5 c)
 left8 c =
     let t = lent5 c in
     let called = c .before .before .check-targets in
     let check = check7 (vertices t) (edgesIn t) (t .targets) in
-    let gave-none = went-on (called .result) check (c .before .match5 .keys1) (numbered-check7 _ _ _) (called .ensures) in
+    let gave-none = went-on (called .result) check (c .if5 .left) (c .before .number5 .ensures) (numbered-check7 _ _ _) (called .ensures) in
     passed check (check8 (vertices t) (t .offsets)) (tableChecks t) gave-none (left7 (c .before .before .before))
 
 check-lengths-requires : tie.Need-check-lengths-requires
 check-lengths-requires c κs = search needs
 
-enum-told : tie.Need-enum-told
-enum-told c = search needs
+number-requires : tie.Need-number-requires
+number-requires c κs = search needs
 
 returns : tie.Need-returns
 returns c =
-    let t = tables (c .before .before .before .before .before .before) in
-    let called = c .before .check-lengths in
-    stopped (called .result) (lengthChecks t) (from4 t) (answered 0) (c .match .keys2) (called .ensures) ∙
+    let t = tables (c .before .before .before .before .before .before .before) in
+    let called = c .before .before .check-lengths in
+    stopped (called .result) (lengthChecks t) (from4 t) (answered 0) (c .if1 .taken) (c .before .number .ensures) (called .ensures) ∙
     out (sym (tables-grouped t))
 
 check-owners-requires : tie.Need-check-owners-requires
 check-owners-requires c κs = search needs
 
-enum-told-2 : tie.Need-enum-told-2
-enum-told-2 c = search needs
+number-requires-2 : tie.Need-number-requires-2
+number-requires-2 c κs = search needs
 
 returns-2 : tie.Need-returns-2
 returns-2 c =
-    let t = lent (c .before .before) in
-    let called = c .before .check-owners in
+    let t = lent (c .before .before .before) in
+    let called = c .before .before .check-owners in
     let check = check4 (vertices t) (t .owners) in
-    stopped (called .result) check (from5 t) (answered 0) (c .match2 .keys2) (called .ensures) ∙
-    out (left4 (c .before .before))
+    stopped (called .result) check (from5 t) (answered 0) (c .if2 .taken) (c .before .number2 .ensures) (called .ensures) ∙
+    out (left4 (c .before .before .before))
 
 check-priorities-requires : tie.Need-check-priorities-requires
 check-priorities-requires c κs = search needs
 
-enum-told-3 : tie.Need-enum-told-3
-enum-told-3 c = search needs
+number-requires-3 : tie.Need-number-requires-3
+number-requires-3 c κs = search needs
 
 returns-3 : tie.Need-returns-3
 returns-3 c =
-    let t = lent2 (c .before .before) in
-    let called = c .before .check-priorities in
+    let t = lent2 (c .before .before .before) in
+    let called = c .before .before .check-priorities in
     let check = check5 (vertices t) (t .priorities) in
-    stopped (called .result) check (from6 t) (answered 0) (c .match3 .keys2) (priorities-said (c .before)) ∙
-    out (left5 (c .before .before))
+    stopped (called .result) check (from6 t) (answered 0) (c .if3 .taken) (c .before .number3 .ensures) (priorities-said (c .before .before)) ∙
+    out (left5 (c .before .before .before))
 
 check-offsets-requires : tie.Need-check-offsets-requires
 check-offsets-requires c κs = lengths-fit (c .before .before .before .before .before .before) .1
 
-enum-told-4 : tie.Need-enum-told-4
-enum-told-4 c = search needs
+number-requires-4 : tie.Need-number-requires-4
+number-requires-4 c κs = search needs
 
 returns-4 : tie.Need-returns-4
 returns-4 c =
-    let t = lent3 (c .before .before) in
-    let called = c .before .check-offsets in
+    let t = lent3 (c .before .before .before) in
+    let called = c .before .before .check-offsets in
     let check = check6 (vertices t) (edgesIn t) (t .offsets) in
-    stopped (called .result) check (from7 t) (answered 0) (c .match4 .keys2) (called .ensures) ∙
-    out (left6 (c .before .before))
+    stopped (called .result) check (from7 t) (answered 0) (c .if4 .taken) (c .before .number4 .ensures) (called .ensures) ∙
+    out (left6 (c .before .before .before))
 
 check-targets-requires : tie.Need-check-targets-requires
 check-targets-requires c κs = search needs
 
-enum-told-5 : tie.Need-enum-told-5
-enum-told-5 c = search needs
+number-requires-5 : tie.Need-number-requires-5
+number-requires-5 c κs = search needs
 
 returns-5 : tie.Need-returns-5
 returns-5 c =
-    let t = lent4 (c .before .before) in
-    let called = c .before .check-targets in
+    let t = lent4 (c .before .before .before) in
+    let called = c .before .before .check-targets in
     let check = check7 (vertices t) (edgesIn t) (t .targets) in
-    stopped (called .result) check (check8 (vertices t) (t .offsets)) (answered 0) (c .match5 .keys2) (called .ensures) ∙
-    out (left7 (c .before .before))
+    stopped (called .result) check (check8 (vertices t) (t .offsets)) (answered 0) (c .if5 .taken) (c .before .number5 .ensures) (called .ensures) ∙
+    out (left7 (c .before .before .before))
 
 is-total-requires : tie.Need-is-total-requires
 is-total-requires c κs = lengths-fit (c .before .before .before .before .before .before .before .before .before .before .before .before) .1
@@ -183,19 +183,19 @@ check-tables-spec =
     tie.close
     (tie.spec
     check-lengths-requires
-    enum-told
+    number-requires
     returns
     check-owners-requires
-    enum-told-2
+    number-requires-2
     returns-2
     check-priorities-requires
-    enum-told-3
+    number-requires-3
     returns-3
     check-offsets-requires
-    enum-told-4
+    number-requires-4
     returns-4
     check-targets-requires
-    enum-told-5
+    number-requires-5
     returns-5
     is-total-requires
     returns-6)

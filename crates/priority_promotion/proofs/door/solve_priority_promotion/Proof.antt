@@ -38,19 +38,19 @@ abbrev won : tie.Start → Player → Set
 won g = wonIn (tables g) (g .args .budget)
 
 -- where the function begins
-abbrev start : tie.After-enum-told → tie.Start
+abbrev start : tie.Else1 → tie.Start
 start d = d .before .before .before .before .before .before .before .before .before .before .before
 
 -- past the checks
-no-refusal : (d : tie.After-enum-told) → solverChecks (tables (start d)) (lent (start d)) ≡ none
+no-refusal : (d : tie.Else1) → solverChecks (tables (start d)) (lent (start d)) ≡ none
 no-refusal d =
     let g = start d in
     let f = d .before .before .check-all in
-    went-on (f .result) (solverChecks (tables g) (lent g)) (d .before .match .keys1) (numbered-checks (tables g) (lent g))
+    went-on (f .result) (solverChecks (tables g) (lent g)) (d .if1 .left) (d .before .number .ensures) (numbered-checks (tables g) (lent g))
     (f .ensures)
 
 passed :
-    (d : tie.After-enum-told) →
+    (d : tie.Else1) →
     let a = start d .args in
     Passed (tables (start d)) (length (a .even .now)) (length (a .odd .now)) (length (a .strategy .now)) (length (a .work .now))
 passed d =
@@ -59,7 +59,7 @@ passed d =
     (length (a .work .now)) (no-refusal d)
 
 -- what the run left
-abbrev checked : tie.After-run → tie.After-enum-told
+abbrev checked : tie.After-run → tie.Else1
 checked r = r .before .before .before .before .before .before
 
 abbrev began : tie.After-run → tie.Start
@@ -100,14 +100,14 @@ solved r {x} e =
 check-all-requires : tie.Need-check-all-requires
 check-all-requires c κs = search needs
 
-enum-told : tie.Need-enum-told
-enum-told c = search needs
+number-requires : tie.Need-number-requires
+number-requires c κs = search needs
 
 returns : tie.Need-returns
 returns c =
-    let g = c .before .before .before .before .before .before .before .before .before .before in
+    let g = c .before .before .before .before .before .before .before .before .before .before .before in
     solves-refused (g .args .compute-strategy) (g .args .budget) (tables g) (needed g) (won g) (lent g) _
-    (c .before .check-all .ensures) (refusal-not-zero (c .before .check-all .result) (c .match .keys2))
+    (c .before .before .check-all .ensures) (refusal-not-zero (c .before .before .check-all .result) (c .if1 .taken) (c .before .number .ensures))
 
 work-words-requires : tie.Need-work-words-requires
 work-words-requires c κs =
@@ -134,8 +134,8 @@ run-requires c κs =
 enum-known-ran : tie.Need-enum-known-ran
 enum-known-ran c = search needs
 
-enum-told-2 : tie.Need-enum-told-2
-enum-told-2 c = search needs
+enum-told : tie.Need-enum-told
+enum-told c = search needs
 
 same-length : tie.Need-same-length
 same-length c = search needs
@@ -151,7 +151,7 @@ same-length-4 c = search needs
 
 returns-2 : tie.Need-returns-2
 returns-2 c =
-    solved (c .before .before .before .before .before .before .before .before .before .before) (c .enum-told2 .given .1)
+    solved (c .before .before .before .before .before .before .before .before .before .before) (c .enum-told .given .1)
 
 same-length-5 : tie.Need-same-length-5
 same-length-5 c = search needs
@@ -174,7 +174,7 @@ solve-priority-promotion-spec =
     tie.close
     (tie.spec
     check-all-requires
-    enum-told
+    number-requires
     returns
     work-words-requires
     sub-run
@@ -182,7 +182,7 @@ solve-priority-promotion-spec =
     part-run-end
     run-requires
     enum-known-ran
-    enum-told-2
+    enum-told
     same-length
     same-length-2
     same-length-3

@@ -22,17 +22,17 @@ tables g = tablesOf (g .args .owners .now) (g .args .priorities .now) (g .args .
 abbrev lent : tie.Start → LentSet
 lent g = record { set = g .args .set .now; work = g .args .work .now }
 
-abbrev start : tie.After-enum-told → tie.Start
+abbrev start : tie.Else1 → tie.Start
 start d = d .before .before .before .before .before .before .before .before .before
 
 -- past the checks
-no-refusal : (d : tie.After-enum-told) → solitaireChecks (tables (start d)) (lent (start d)) ≡ none
+no-refusal : (d : tie.Else1) → solitaireChecks (tables (start d)) (lent (start d)) ≡ none
 no-refusal d =
     let g = start d in
-    went-on (d .before .before .check-all .result) (solitaireChecks (tables g) (lent g)) (d .before .match .keys1) (numbered-checks (tables g) (lent g))
+    went-on (d .before .before .check-all .result) (solitaireChecks (tables g) (lent g)) (d .if1 .left) (d .before .number .ensures) (numbered-checks (tables g) (lent g))
     (d .before .before .check-all .ensures)
 
-passed : (d : tie.After-enum-told) → let g = start d in Passed (tables g) (length (g .args .set .now)) (length (g .args .work .now))
+passed : (d : tie.Else1) → let g = start d in Passed (tables g) (length (g .args .set .now)) (length (g .args .work .now))
 passed d =
     let g = start d in
     checks-passed (tables g) (length (g .args .set .now)) (length (g .args .work .now)) (no-refusal d)
@@ -40,13 +40,13 @@ passed d =
 check-all-requires : tie.Need-check-all-requires
 check-all-requires c κs = search needs
 
-enum-told : tie.Need-enum-told
-enum-told c = search needs
+number-requires : tie.Need-number-requires
+number-requires c κs = search needs
 
 returns : tie.Need-returns
 returns c =
-    let g = c .before .before .before .before .before .before .before .before in
-    solves-refused (tables g) (lent g) _ (c .before .check-all .ensures) (refusal-not-zero (c .before .check-all .result) (c .match .keys2))
+    let g = c .before .before .before .before .before .before .before .before .before in
+    solves-refused (tables g) (lent g) _ (c .before .before .check-all .ensures) (refusal-not-zero (c .before .before .check-all .result) (c .if1 .taken) (c .before .number .ensures))
 
 work-words-requires : tie.Need-work-words-requires
 work-words-requires c κs =
@@ -87,7 +87,7 @@ solve-solitaire-game-spec =
     tie.close
     (tie.spec
     check-all-requires
-    enum-told
+    number-requires
     returns
     work-words-requires
     sub-run

@@ -36,19 +36,19 @@ calls g = zielonka (gameOf (tables g)) .calls
 abbrev won : tie.Start → Player → Set
 won g = zielonka (gameOf (tables g)) .won
 
-abbrev start : tie.After-enum-told → tie.Start
+abbrev start : tie.Else1 → tie.Start
 start d = d .before .before .before .before .before .before .before .before .before .before .before
 
 -- past the checks
-no-refusal : (d : tie.After-enum-told) → solverChecks (tables (start d)) (lent (start d)) ≡ none
+no-refusal : (d : tie.Else1) → solverChecks (tables (start d)) (lent (start d)) ≡ none
 no-refusal d =
     let g = start d in
     let checked = d .before .before .check-all in
-    went-on (checked .result) (solverChecks (tables g) (lent g)) (d .before .match .keys1) (numbered-checks (tables g) (lent g))
+    went-on (checked .result) (solverChecks (tables g) (lent g)) (d .if1 .left) (d .before .number .ensures) (numbered-checks (tables g) (lent g))
     (checked .ensures)
 
 passed :
-    (d : tie.After-enum-told) →
+    (d : tie.Else1) →
     let l = lent (start d) in
     Passed (tables (start d)) (length (l .even)) (length (l .odd)) (length (l .strategy)) (length (l .work))
 passed d =
@@ -98,15 +98,15 @@ solved r {x} e =
 check-all-requires : tie.Need-check-all-requires
 check-all-requires c κs = search needs
 
-enum-told : tie.Need-enum-told
-enum-told c = search needs
+number-requires : tie.Need-number-requires
+number-requires c κs = search needs
 
 returns : tie.Need-returns
 returns c =
-    let g = c .before .before .before .before .before .before .before .before .before .before in
+    let g = c .before .before .before .before .before .before .before .before .before .before .before in
     solves-refused (g .args .compute-strategy) (g .args .budget) (tables g) (calls g) (won g) (lent g) _
-    (c .before .check-all .ensures)
-    (refusal-not-zero (c .before .check-all .result) (c .match .keys2))
+    (c .before .before .check-all .ensures)
+    (refusal-not-zero (c .before .before .check-all .result) (c .if1 .taken) (c .before .number .ensures))
 
 work-words-requires : tie.Need-work-words-requires
 work-words-requires c κs =
@@ -133,8 +133,8 @@ run-requires c κs =
 enum-known-ran : tie.Need-enum-known-ran
 enum-known-ran c = search needs
 
-enum-told-2 : tie.Need-enum-told-2
-enum-told-2 c = search needs
+enum-told : tie.Need-enum-told
+enum-told c = search needs
 
 same-length : tie.Need-same-length
 same-length c = search needs
@@ -149,7 +149,7 @@ same-length-4 : tie.Need-same-length-4
 same-length-4 c = search needs
 
 returns-2 : tie.Need-returns-2
-returns-2 c = solved (c .before .before .before .before .before .before .before .before .before .before) (c .enum-told2 .given .1)
+returns-2 c = solved (c .before .before .before .before .before .before .before .before .before .before) (c .enum-told .given .1)
 
 same-length-5 : tie.Need-same-length-5
 same-length-5 c = search needs
@@ -174,7 +174,7 @@ solve-zielonka-spec =
     tie.close
     (tie.spec
     check-all-requires
-    enum-told
+    number-requires
     returns
     work-words-requires
     sub-run
@@ -182,7 +182,7 @@ solve-zielonka-spec =
     part-run-end
     run-requires
     enum-known-ran
-    enum-told-2
+    enum-told
     same-length
     same-length-2
     same-length-3
