@@ -195,8 +195,9 @@ uint64_t reckonbough_check(
 
 /*
  * Makes the priorities small without changing who wins: the lowest used becomes 0 or 1 by its parity, each next different
- * one the last new number plus 1 where the parity differs and plus 2 where it does not. 3, 7, 4 becomes 1, 3, 2.
- * Writes new_priorities, n numbers.
+ * one the last new number plus 1 where the parity differs and the same number where it does not. 3, 7, 4 becomes 1, 3, 2;
+ * 2, 6 becomes 0, 0; 3, 7, 8 becomes 1, 1, 2. No relabelling that keeps order and parity uses lower or fewer numbers, and
+ * compacting what was compacted changes nothing. Writes new_priorities, n numbers.
  * Gives 0 or 1 to 9. The count is 0.
  */
 uint64_t reckonbough_compact(

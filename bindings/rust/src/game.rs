@@ -225,12 +225,16 @@ impl Game {
         Ok(())
     }
 
-    /// The new priorities: small, in the same order, of the same parity, with the same winners. It refuses nothing.
+    /// The new priorities: the lowest and fewest numbers that keep order and parity, with the same winners. The lowest priority
+    /// used becomes 0 or 1 by its parity, each next different one the last new number plus 1 if parity differs, else the same
+    /// number. Compacting what was compacted changes nothing. It refuses nothing.
     ///
     /// ```
     /// # use reckonbough::{Game, Player::*};
     /// let game = Game::new(&[(Even, 3, &[0]), (Odd, 7, &[0, 1]), (Even, 4, &[2, 1])])?;
     /// assert_eq!(game.compact()?, [1, 3, 2]);
+    /// let game = Game::new(&[(Even, 3, &[0]), (Odd, 7, &[0, 1]), (Even, 8, &[2, 1])])?;
+    /// assert_eq!(game.compact()?, [1, 1, 2]);
     /// # Ok::<(), reckonbough::Refusal>(())
     /// ```
     pub fn compact(&self) -> Result<Vec<u16>, Refusal> {

@@ -129,6 +129,21 @@ fn compaction_keeps_parity_and_winners() {
 }
 
 #[test]
+fn compaction_gives_equal_parity_one_number() {
+    let two = |low, high| game(&[(Even, low, &[0, 1]), (Odd, high, &[0])]);
+    let three = |low, middle, high| game(&[(Even, low, &[0, 1]), (Odd, middle, &[0, 2]), (Even, high, &[1, 2])]);
+    assert_eq!(two(2, 6).compact(), Ok(vec![0, 0]));
+    assert_eq!(three(3, 7, 8).compact(), Ok(vec![1, 1, 2]));
+    for (wide, small) in [(two(2, 6), two(0, 0)), (three(3, 7, 8), three(1, 1, 2))] {
+        assert_eq!(small.compact(), wide.compact());
+        for solve in [Game::solve_zielonka, Game::solve_priority_promotion] {
+            let (wide, small) = (solve(&wide, false, ANY).unwrap(), solve(&small, false, ANY).unwrap());
+            assert_eq!((wide.even, wide.odd), (small.even, small.odd));
+        }
+    }
+}
+
+#[test]
 fn sets_of_two_words() {
     // 100 vertices of Odd's, each with a loop; every third has priority 2, the others 1
     let itself: Vec<u16> = (0..100).collect();

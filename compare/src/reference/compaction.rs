@@ -1,9 +1,9 @@
-//! "Compaction".
+//! "Compaction", as A8 of document 02 has it.
 
 use crate::game::Game;
 
 /// The lowest priority used becomes 0 or 1 by its parity; each next different one the last new number plus 1 if parity
-/// differs, plus 2 if not.
+/// differs, else the same number.
 pub fn compact(game: &Game) -> Vec<u16> {
     let mut used = game.priorities.clone();
     used.sort_unstable();
@@ -13,7 +13,7 @@ pub fn compact(game: &Game) -> Vec<u16> {
         new.push(match at {
             0 => priority % 2,
             _ if priority % 2 != used[at - 1] % 2 => new[at - 1] + 1,
-            _ => new[at - 1] + 2,
+            _ => new[at - 1],
         });
     }
     let renamed = |priority| new[used.binary_search(priority).expect("every priority is used")];

@@ -1,9 +1,9 @@
--- What callers go by: what compaction gives is one thing, an answer leaves tables with the same winners, and a refusal leaves the new
--- table as it was.
+-- What callers go by: what compaction gives is one thing, an answer leaves tables with the same winners, which a second compaction
+-- does not change, and a refusal leaves the new table as it was.
 use mathlib.Core.List.{List, [], _∷_, map}
 use mathlib.Core.Logic.{_↔_}
 use mathlib.Core.Path.{_≡_, refl, sym, ap, _∙_}
-use Prim.Native.Nat.{ℕ}
+use Prim.Native.Nat.{ℕ, _<_}
 use lib.ListN.{length}
 use Rattle.rules.specs.Compaction.{compacted, compactionChecks, newTable, Compacts}
 use Rattle.rules.specs.Counting.{Set}
@@ -12,7 +12,9 @@ use Rattle.rules.specs.Outcome.{Outcome, Verdict, none, refused, outcome, answe
 use Rattle.rules.specs.Tables.{Tables, vertices, gameOf, tableChecks, check9, Accepted}
 use Rattle.rules.specs.Winning.{Wins, WinningSets}
 use Rattle.parity_game.specs.Laws.{Numbered, numbered-then, numbered-tables, numbered-check9, zero-none, then-none}
-use Rattle.theory.specs.Compaction.{withPriorities, compacted-accepted, compaction-keeps-winners, compaction-keeps-winning-sets}
+use Rattle.theory.specs.Compaction.{withPriorities, compacted-accepted}
+use Rattle.theory.specs.CompactionFewest.{compacted-twice}
+use Rattle.theory.specs.Compaction.{compaction-keeps-winners, compaction-keeps-winning-sets, compaction-keeps-answers}
 
 -- a refusal leaves the new table as it was
 pub refusal-leaves :
@@ -77,7 +79,31 @@ module _ (t : Tables) (before after : List ℕ) (o : Outcome) (met : Compacts t 
   pub answered-winners : (a : Player) (v : ℕ) → Wins (gameOf t) a v ↔ Wins (gameOf (withPriorities t after)) a v
   answered-winners a v = rw answered-table (compaction-keeps-winners t answered-accepted a v)
 
-  -- and so do winning sets.
+  -- and so do winning sets,
   pub answered-winning-sets :
       (won : Player → Set) → WinningSets (gameOf t) won ↔ WinningSets (gameOf (withPriorities t after)) won
   answered-winning-sets won = rw answered-table (compaction-keeps-winning-sets t answered-accepted won)
+
+  -- and a solver that finds the winning sets of both games finds the same sets.
+  pub answered-answers :
+      (won won' : Player → Set) →
+      WinningSets (gameOf t) won →
+      WinningSets (gameOf (withPriorities t after)) won' →
+      (a : Player) (v : ℕ) →
+      v < gameOf t .size →
+      won a v ≡ won' a v
+  answered-answers won won' sets sets' =
+      compaction-keeps-answers t answered-accepted won won' sets (rw answered-table at sets')
+
+-- Compacting what was compacted changes nothing.
+pub answered-twice :
+    (t : Tables) (before after before' after' : List ℕ) (o o' : Outcome) →
+    Compacts t before after o →
+    o .number ≡ 0 →
+    Compacts (withPriorities t after) before' after' o' →
+    o' .number ≡ 0 →
+    after' ≡ after
+answered-twice t before after before' after' o o' once zero again zero' =
+    let first = answered-table t before after o once zero in
+    let second = answered-table (withPriorities t after) before' after' o' again zero' in
+    second ∙ rw first (compacted-twice (t .priorities))

@@ -14,7 +14,7 @@ use lib.Seq.{getD-set-same, getD-set-other, ext-getD}
 use Rattle.rules.specs.Compaction.{Last, last, used, nextNumber, lastBelow, compacted}
 use Rattle.rules.specs.Counting.{Set, some}
 use Rattle.theory.specs.Basics.{bool-cases, clash, or-right, below-suc}
-use Rattle.theory.specs.Compaction.{getD-map-below, entry-used, next-small, last-lowered, last-used, last-unused}
+use Rattle.theory.specs.Compaction.{getD-map-below, entry-used, number-small, last-used, last-unused}
 use Rattle.compaction.specs.Marks.{Small, marked, Marks, lastGiven, Numbers}
 
 -- the marks tell which priorities the first v entries have
@@ -78,7 +78,7 @@ pub given-used :
     Given (k + 1) marks (set numbers k r) true r
 given-used k marks numbers any q r given below here is-next =
     let is-new : r ≡ nextNumber (lastBelow (marked marks) k) k = is-next ∙ ap (λ (l : Last). nextNumber l k) (given .latest) in
-    let low = next-small (lastBelow (marked marks) k) k (last-lowered (marked marks) k) in
+    let low = number-small (marked marks) k in
     record {
       long = length-set numbers k r ∙ given .long;
       latest = rw add-one (ap last is-new ∙ sym (last-used (marked marks) k here));

@@ -1,5 +1,5 @@
-// Priority compaction by document 01's rule: the priorities that are used, in order, get the lowest numbers that keep
-// order and parity. The rule itself is in `next_number` alone.
+// Priority compaction: the priorities that are used get the lowest and fewest numbers that keep order, not strictly, and parity.
+// The rule itself is in `next_number` alone.
 use parity_game::Answer;
 ghost use mathlib.Core.List.{map};
 ghost use mathlib.Core.Path.{_≡_};
@@ -23,7 +23,7 @@ fn mark(priorities: &[u16]) -> [u8; 256]
     used
 }
 
-// The new number after `last`, the last new number given, or a first one.
+// The new number of p: the lowest of its parity that is not below `last`, the last new number given, or a first one.
 fn next_number(any: bool, last: u16, p: u16) -> u16
     requires { ⌜ last ≤ 255 ⌝ }
     ensures { λ r. ⌜ r ≡ nextNumber (lastGiven any last) p ⌝ }
@@ -31,11 +31,8 @@ fn next_number(any: bool, last: u16, p: u16) -> u16
     if !any {
         return p % 2;
     }
-    if last % 2 == p % 2 {
-        last + 2
-    } else {
-        last + 1
-    }
+    let step = if last % 2 == p % 2 { 0 } else { 1 };
+    last + step
 }
 
 // The new number of each used priority.

@@ -1,5 +1,6 @@
--- Compaction: the lowest priority used becomes 0 or 1 by its parity; each next different one becomes the last new number plus 1
--- if parity differs, plus 2 if not. And what the function gives back and leaves, for every input.
+-- Compaction, as document 02's A8 has it: the lowest priority used becomes 0 or 1 by its parity; each next different one becomes
+-- the last new number plus 1 if parity differs, and the same number if not. And what the function gives back and leaves, for
+-- every input.
 use mathlib.Core.Bool.{cond}
 use mathlib.Core.List.{List, [], _∷_, map}
 use mathlib.Core.Path.{_≡_}
@@ -22,7 +23,7 @@ pub data Last : Type 0 where
 -- the new number of priority p after that
 unfoldable pub nextNumber : Last → ℕ → ℕ
 nextNumber nothing p = p % 2
-nextNumber (last q) p = q + cond (eqb (q % 2) (p % 2)) 2 1
+nextNumber (last q) p = q + cond (eqb (q % 2) (p % 2)) 0 1
 
 -- the last new number given to a used priority below p
 unfoldable pub lastBelow : Set → ℕ → Last

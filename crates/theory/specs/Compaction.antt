@@ -1,11 +1,12 @@
 -- Compaction keeps winners: by its rule a used priority keeps its parity, a higher one gets no lower number, and no number grows.
--- Of the rule itself only the three laws of `nextNumber` are used. Compacted tables are accepted again.
+-- Of the rule itself only the three laws of `nextNumber` are used: it is the lowest number of its priority's parity that is not
+-- below the last one. Compacted tables are accepted again.
 use mathlib.Core.Bool.{true, false}
 use mathlib.Core.List.{List, [], _∷_, map}
 use mathlib.Core.Logic.{⊎-elim, _↔_}
 use mathlib.Core.Path.{_≡_, refl, sym, ap, _∙_}
 use Prim.Native.Nat.{ℕ, zero, suc, _%_, _≤_, _<_}
-use native.Mathlib.Nat.{le-refl, le-trans, le-of-eq, eq-or-lt-of-le, le-of-suc-le-suc, not-suc-le-zero, le-step}
+use native.Mathlib.Nat.{le-refl, le-trans, le-of-eq, eq-or-lt-of-le, le-of-lt, le-of-suc-le-suc, not-suc-le-zero, le-step}
 use native.Mathlib.Omega.{arith}
 use borrow.Author.Tests.{eqb-true, eqb-false, eq-eqb, le-ltb}
 use lib.Dec.{eqb, ltb}
@@ -17,7 +18,7 @@ use Rattle.rules.specs.Outcome.{none, givenAt}
 use Rattle.rules.specs.Tables.{Tables, vertices, gameOf, tableChecks, check5, Accepted}
 use Rattle.rules.specs.Winning.{Wins, WinningSets}
 use Rattle.theory.specs.Basics.{bool-cases, some-intro, false-some, below-suc}
-use Rattle.theory.specs.Relabelling.{Alike, Keeps, keeps-order, alike-sym, alike-winners, alike-winning-sets}
+use Rattle.theory.specs.Relabelling.{Alike, Keeps, keeps-order, alike-sym, alike-winners, alike-winning-sets, alike-answers}
 use Rattle.theory.specs.Tables.{accepted-sound, accepted-total}
 
 -- ---- relabelled tables
@@ -77,10 +78,10 @@ module _ (t : Tables) (ok : Accepted t) where
 
 -- ---- the three laws of the rule
 
--- l is nothing, or the number of a priority below n, which kept its parity and did not grow
-abbrev pub Lowered : ℕ → Last → Type 0
-Lowered n nothing = Unit {0}
-Lowered n (last q) = (r : ℕ) × (r < n) × (q ≤ r) × (q % 2 ≡ r % 2)
+-- l is nothing, or a number that is not above k
+abbrev pub AtMost : ℕ → Last → Type 0
+AtMost k nothing = Unit {0}
+AtMost k (last q) = q ≤ k
 
 -- l is a number that is not below k
 abbrev pub Reaches : ℕ → Last → Type 0
@@ -103,14 +104,14 @@ unfolding nextNumber
 next-above nothing p k h = absurd h
 next-above (last q) p k h = omega arith
 
--- it is not above its priority
-pub next-small : (l : Last) (p : ℕ) → Lowered p l → nextNumber l p ≤ p
+-- and it is the lowest such number
+pub next-lowest : (l : Last) (p k : ℕ) → k % 2 ≡ p % 2 → AtMost k l → nextNumber l p ≤ k
 unfolding nextNumber
-next-small nothing p h = omega arith
-next-small (last q) p (r, below, small, kept) =
+next-lowest nothing p k kept h = omega arith
+next-lowest (last q) p k kept h =
     ⊎-elim
-    (λ e. let same = eqb-true (q % 2) (p % 2) e in rw e (omega arith))
     (λ e. rw e (omega arith))
+    (λ e. let differ = eqb-false (q % 2) (p % 2) e in rw e (omega arith))
     (bool-cases (eqb (q % 2) (p % 2)))
 
 -- ---- numbers given one after another
@@ -128,20 +129,6 @@ module _ (isUsed : Set) where
   pub last-unused : (n : ℕ) → isUsed n ≡ false → lastBelow isUsed (suc n) ≡ lastBelow isUsed n
   unfolding lastBelow
   last-unused n e = rw e
-
-  -- no number grows
-  pub last-lowered : (n : ℕ) → Lowered n (lastBelow isUsed n)
-  unfolding lastBelow
-  last-lowered zero = tt
-  last-lowered (suc n) =
-      ⊎-elim
-      (λ e. rw e (n, le-refl (suc n), next-small (lastBelow isUsed n) n (last-lowered n), next-parity (lastBelow isUsed n) n))
-      (λ e. rw e (later (lastBelow isUsed n) (last-lowered n)))
-      (bool-cases (isUsed n))
-    where
-      later : (l : Last) → Lowered n l → Lowered (suc n) l
-      later nothing h = tt
-      later (last q) h = (h .0, le-step (h .1), h .2, h .3)
 
   -- what is last below n is not below the number of a used priority below n
   pub last-reaches : (p n : ℕ) → isUsed p ≡ true → p < n → Reaches (number p) (lastBelow isUsed n)
@@ -164,6 +151,38 @@ module _ (isUsed : Set) where
       (λ (less : p < q). next-above (lastBelow isUsed q) q (number p) (last-reaches p q e less))
       (eq-or-lt-of-le l)
 
+  -- f keeps order and parity on the used priorities
+  module _
+      (f : ℕ → ℕ)
+      (order : (p q : ℕ) → isUsed p ≡ true → isUsed q ≡ true → p ≤ q → f p ≤ f q)
+      (kept : (p : ℕ) → isUsed p ≡ true → f p % 2 ≡ p % 2)
+    where
+      -- where f gives no used priority below n a number above k, what is last below n is not above k
+      pub last-lowest :
+          (n k : ℕ) → ((p : ℕ) → isUsed p ≡ true → p < n → f p ≤ k) → AtMost k (lastBelow isUsed n)
+      unfolding lastBelow
+      last-lowest zero k most = tt
+      last-lowest (suc n) k most =
+          ⊎-elim
+          (λ e.
+          rw e
+          (le-trans
+          (next-lowest (lastBelow isUsed n) n (f n) (kept n e) (last-lowest n (f n) (λ p u l. order p n u e (le-of-lt l))))
+          (most n e (le-refl (suc n)))))
+          (λ e. rw e (last-lowest n k (λ p u l. most p u (le-step l))))
+          (bool-cases (isUsed n))
+
+      -- so f gives no used priority a lower number
+      pub number-lowest : (p : ℕ) → isUsed p ≡ true → number p ≤ f p
+      number-lowest p e =
+          next-lowest (lastBelow isUsed p) p (f p) (kept p e) (last-lowest p (f p) (λ r u l. order r p u e (le-of-lt l)))
+
+  -- no number grows
+  pub number-small : (p : ℕ) → number p ≤ p
+  number-small p =
+      next-lowest (lastBelow isUsed p) p p refl
+      (last-lowest (λ r. r) (λ r q u e l. l) (λ r u. refl) p p (λ r u l. le-of-lt l))
+
 -- ---- compaction
 
 -- Compaction keeps order and parity, and no number grows.
@@ -178,13 +197,22 @@ compacted-parity priorities p = ap playerOf (next-parity (lastBelow (used priori
 
 pub compacted-small : (priorities : List ℕ) (p : ℕ) → compacted priorities p ≤ p
 unfolding compacted
-compacted-small priorities p = next-small (lastBelow (used priorities) p) p (last-lowered (used priorities) p)
+compacted-small priorities = number-small (used priorities)
 
 -- every entry is a used priority
 pub entry-used : (priorities : List ℕ) (v : ℕ) → v < length priorities → used priorities (getD priorities v 0) ≡ true
 entry-used priorities v l =
     let p = getD priorities v 0 in
     some-intro (length priorities) (λ u. eqb (getD priorities u 0) p) v l (eq-eqb p p refl)
+
+-- so compaction keeps order and parity on the entries
+pub compacted-keeps :
+    (priorities : List ℕ) → Keeps (length priorities) (λ v. getD priorities v 0) (compacted priorities)
+compacted-keeps priorities =
+    record {
+      monotone = λ v w lv lw up. compacted-monotone priorities _ _ (entry-used priorities v lv) up;
+      parities = λ v l. compacted-parity priorities (getD priorities v 0);
+    }
 
 -- the tables with the new numbers
 abbrev pub compactedTables : Tables → Tables
@@ -207,26 +235,39 @@ module _ (t : Tables) (ok : Accepted t) where
   pub compacted-alike : Alike (gameOf t) (gameOf (compactedTables t))
   compacted-alike =
       relabelled-tables-alike t ok (compacted (t .priorities))
-      (record {
-        monotone =
-            λ v w lv lw up.
-            compacted-monotone (t .priorities) _ _
-            (entry-used (t .priorities) v (rw (accepted-sound t ok .priority-each) lv))
-            up;
-        parities = λ v l. compacted-parity (t .priorities) (getD (t .priorities) v 0);
-      })
+      (rw (accepted-sound t ok .priority-each) at (compacted-keeps (t .priorities)))
 
   -- winners stay,
   pub compaction-keeps-winners : (a : Player) (v : ℕ) → Wins (gameOf t) a v ↔ Wins (gameOf (compactedTables t)) a v
   compaction-keeps-winners = alike-winners compacted-alike
 
-  -- and so do winning sets.
+  -- and so do winning sets,
   pub compaction-keeps-winning-sets :
       (won : Player → Set) → WinningSets (gameOf t) won ↔ WinningSets (gameOf (compactedTables t)) won
   compaction-keeps-winning-sets won =
       (alike-winning-sets compacted-alike, alike-winning-sets (alike-sym compacted-alike))
 
+  -- and whatever finds the winning sets of both games finds the same sets.
+  pub compaction-keeps-answers :
+      (won won' : Player → Set) →
+      WinningSets (gameOf t) won →
+      WinningSets (gameOf (compactedTables t)) won' →
+      (a : Player) (v : ℕ) →
+      v < gameOf t .size →
+      won a v ≡ won' a v
+  compaction-keeps-answers won won' = alike-answers won won' compacted-alike
+
 -- 3, 7, 4 becomes 1, 3, 2
 pub worked-compaction : map (compacted (3 ∷ 7 ∷ 4 ∷ [])) (3 ∷ 7 ∷ 4 ∷ []) ≡ 1 ∷ 3 ∷ 2 ∷ []
 unfolding compacted nextNumber lastBelow some
 worked-compaction = refl
+
+-- 2, 6 becomes 0, 0
+pub worked-same-number : map (compacted (2 ∷ 6 ∷ [])) (2 ∷ 6 ∷ []) ≡ 0 ∷ 0 ∷ []
+unfolding compacted nextNumber lastBelow some
+worked-same-number = refl
+
+-- 3, 7, 8 becomes 1, 1, 2
+pub worked-same-then-next : map (compacted (3 ∷ 7 ∷ 8 ∷ [])) (3 ∷ 7 ∷ 8 ∷ []) ≡ 1 ∷ 1 ∷ 2 ∷ []
+unfolding compacted nextNumber lastBelow some
+worked-same-then-next = refl

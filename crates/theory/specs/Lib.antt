@@ -45,4 +45,6 @@ pub mod PromotionExists
 pub mod PromotionMeasure
 pub mod PromotionBound
 pub mod PromotionAccepted
+pub mod CompactionFewest
+pub mod CompactionAnswers
 pub mod Worked

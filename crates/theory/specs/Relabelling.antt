@@ -8,7 +8,7 @@ use native.Mathlib.Nat.{max-eq-left, max-eq-right}
 use Rattle.rules.specs.Counting.{Set}
 use Rattle.rules.specs.Game.{Player, Game, Edge, parity}
 use Rattle.rules.specs.Winning.{Walk, one, more, Step, Wins, WinningSets}
-use Rattle.theory.specs.Basics.{le-or-ge}
+use Rattle.theory.specs.Basics.{le-or-ge, bool-ext}
 use Rattle.theory.specs.Walks.{Relation, reach-map, walk-map}
 
 -- v and w stand in the same order by p and by p'
@@ -104,7 +104,22 @@ alike-winning-sets alike sets a v l =
     let (sound, whole) = sets a v (size-moves alike l) in
     (λ p. alike-wins alike (sound p), λ w. whole (alike-wins (alike-sym alike) w))
 
--- f keeps order and parity on the priorities that the vertices below n have
+-- So whatever finds the winning sets of both finds the same sets.
+pub alike-answers :
+    {g g' : Game} (won won' : Player → Set) →
+    Alike g g' →
+    WinningSets g won →
+    WinningSets g' won' →
+    (a : Player) (v : ℕ) →
+    v < g .size →
+    won a v ≡ won' a v
+alike-answers won won' alike sets sets' a v l =
+    let (sound, whole) = sets' a v (subst (λ (n : ℕ). v < n) (alike .sizes) l) in
+    bool-ext (won a v) (won' a v)
+    (λ m. whole (alike-wins alike (sets a v l .0 m)))
+    (λ m. sets a v l .1 (alike-wins (alike-sym alike) (sound m)))
+
+-- f keeps order, not strictly, and parity on the priorities that the vertices below n have
 pub record Keeps (n : ℕ) (priority f : ℕ → ℕ) : Type 0 where
   pub monotone : (v w : ℕ) → v < n → w < n → priority v ≤ priority w → f (priority v) ≤ f (priority w)
   pub parities : (v : ℕ) → v < n → parity (f (priority v)) ≡ parity (priority v)
