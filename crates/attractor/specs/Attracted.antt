@@ -13,7 +13,7 @@ use Rattle.rules.specs.Words.{Holds}
 use Rattle.rules.specs.Attractor.{attractor, looksOf}
 use Rattle.theory.specs.AttractorRank.{Certificate}
 use Rattle.predecessors.specs.Table.{start, row, SoundEdges}
-use Rattle.attractor.specs.Area.{free, wordsAt, setAt, entryAt}
+use Rattle.area.specs.Area.{free, wordsAt, setAt, entryAt}
 
 -- two sets of n vertices stand in the free part of the work area, apart from each other
 pub record Placed (n m within set : ℕ) (work : List ℕ) : Type 0 where

@@ -14,16 +14,18 @@ use Rattle.rules.specs.Tables.{words, targetsOf}
 use Rattle.theory.specs.Basics.{clash, bool-ext, not-true-is-false, some-intro, some-elim, count-none, count-le, times-member, member-place}
 use Rattle.theory.specs.AttractorBasics.{countOf}
 use Rattle.theory.specs.Basics.{count-on}
-use Rattle.sets.specs.Laws.{times-members, members-entry, length-members, Rising, rising-members, bit-member, member-bit}
-use Rattle.sets.specs.Walk.{members}
-use Rattle.attractor.specs.Area.{counters, queue, entries, setAt, wordsAt}
+use Rattle.sets.specs.Laws.{bit-member, member-bit}
+use Rattle.walk.specs.MemberLaws.{times-members, members-entry, length-members, Rising, rising-members}
+use Rattle.walk.specs.Walk.{members}
+use Rattle.area.specs.Area.{counters, queue, entries, setAt, wordsAt}
 use Rattle.attractor.specs.Attracted.{Placed, Nested}
 use Rattle.attractor.specs.State.{State}
 use Rattle.attractor.specs.Tally.{tally-nobody}
 use Rattle.attractor.specs.Growth.{Mark, before, place-before, Queue}
 use Rattle.attractor.specs.Taking.{Standing}
 use Rattle.attractor.specs.View.{cells, stateAt, Kept, ownBy}
-use Rattle.attractor.specs.Views.{cells-at, cells-alike, set-alike, words-alike, part-length, words-cover}
+use Rattle.attractor.specs.Views.{cells-at, cells-alike}
+use Rattle.area.specs.Lent.{set-alike, words-alike, part-length, words-cover}
 use Rattle.attractor.specs.Counters.{Counted}
 use Rattle.attractor.specs.Filled.{Filled}
 

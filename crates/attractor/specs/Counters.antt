@@ -15,12 +15,12 @@ use Rattle.theory.specs.Basics.{clash}
 use Rattle.theory.specs.AttractorBasics.{countOf}
 use Rattle.parity_game.specs.Laws.{never-falls}
 use Rattle.predecessors.specs.Table.{SoundEdges}
-use Rattle.sets.specs.declared.members.Members.{Members}
-use Rattle.attractor.specs.Area.{counters, queue, free, setAt}
+use Rattle.walk.specs.declared.members.Members.{Members}
+use Rattle.area.specs.Area.{counters, queue, free, setAt}
 use Rattle.attractor.specs.Tally.{flag}
 use Rattle.attractor.specs.View.{ownBy}
-use Rattle.attractor.specs.Views.{part-length, words-enough}
-use Rattle.attractor.specs.Walked.{Walkable, Keeps, kept-lent, Turn, Always, Beside, wordOf, same-turn, store-turn, WalkedTo}
+use Rattle.area.specs.Lent.{part-length, words-enough}
+use Rattle.area.specs.Walked.{Walkable, Keeps, kept-lent, Turn, Always, Beside, wordOf, same-turn, store-turn, WalkedTo}
 
 -- ---- one vertex
 

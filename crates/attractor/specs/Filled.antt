@@ -9,9 +9,9 @@ use native.Mathlib.Numerals.{add-one}
 use native.Mathlib.Omega.{arith}
 use lib.ListN.{length, getD, take, drop, set, length-take, length-drop, length-set}
 use lib.Seq.{drop-cons, getD-set-same, getD-set-other}
-use Rattle.sets.specs.declared.members.Members.{Members}
-use Rattle.sets.specs.Walk.{members, left}
-use Rattle.attractor.specs.Views.{part-is, slice-alike}
+use Rattle.walk.specs.declared.members.Members.{Members}
+use Rattle.walk.specs.Walk.{members, left}
+use Rattle.area.specs.Lent.{part-is, slice-alike}
 
 -- what `fill_queue` asks for: the set lies in the work area, and its members have room before it
 pub record Fillable (queue base s : ℕ) (work : List ℕ) : Type 0 where

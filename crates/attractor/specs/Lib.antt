@@ -1,5 +1,4 @@
 -- Where things stand in the work area, and what the attractor promises.
-pub mod Area
 pub mod State
 pub mod Tally
 pub mod Growth
@@ -8,19 +7,11 @@ pub mod Taking
 pub mod Ended
 pub mod View
 pub mod Views
-pub mod SetsAt
-pub mod Walking
-pub mod Walked
 pub mod TakeLoop
 pub mod Counters
 pub mod Filled
 pub mod Begun
 pub mod Running
 pub mod Started
-pub mod Door
-pub mod DoorLaws
-pub mod Runs
-pub mod Answered
 pub mod Attracted
-pub mod Alike
-pub mod Promises
+pub mod Listing

@@ -20,14 +20,15 @@ use Rattle.theory.specs.Tables.{accepted-total}
 use Rattle.parity_game.specs.Laws.{accepted-sound}
 use Rattle.predecessors.specs.Table.{start, row}
 use Rattle.sets.specs.Laws.{other-bit}
-use Rattle.attractor.specs.Area.{queue, entries, setAt, wordsAt}
+use Rattle.area.specs.Area.{queue, entries, setAt, wordsAt}
 use Rattle.attractor.specs.Attracted.{Listed, Attractable, Attracted}
 use Rattle.attractor.specs.State.{State}
 use Rattle.attractor.specs.Growth.{before as beforeᵠ, place-before}
 use Rattle.attractor.specs.Taking.{Standing, Row, growing, taking-stands-of, taking-safe-of}
 use Rattle.attractor.specs.Ended.{ended-members, ended-looks, ended-certificate, ended-pull, ended-kept}
 use Rattle.attractor.specs.View.{cells, stateAt, Kept, ownBy}
-use Rattle.attractor.specs.Views.{cells-at, kept-set, kept-placed, kept-then, part-length, slice-alike}
+use Rattle.attractor.specs.Views.{cells-at, kept-set, kept-placed, kept-then}
+use Rattle.area.specs.Lent.{part-length, slice-alike}
 use Rattle.attractor.specs.TakeLoop.{Takeable, Took, row-length}
 
 -- ---- the predecessor table is kept

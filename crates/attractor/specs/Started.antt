@@ -6,10 +6,10 @@ use Prim.Native.Nat.{ℕ, _+_}
 use native.Mathlib.Omega.{arith}
 use lib.ListN.{length}
 use Rattle.rules.specs.Tables.{words}
-use Rattle.attractor.specs.Area.{queue, wordsAt}
+use Rattle.area.specs.Area.{queue, wordsAt}
 use Rattle.attractor.specs.Attracted.{Attractable}
 use Rattle.attractor.specs.View.{Kept}
-use Rattle.attractor.specs.Views.{words-few, words-alike}
+use Rattle.area.specs.Lent.{words-few, words-alike}
 use Rattle.attractor.specs.Counters.{Countable, Counted}
 use Rattle.attractor.specs.Filled.{Fillable, Filled}
 use Rattle.attractor.specs.Begun.{members-few, begun-kept, begun-members, begun-inside, begun-entry, begun-stands}

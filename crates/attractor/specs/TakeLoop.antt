@@ -12,7 +12,7 @@ use Rattle.rules.specs.Game.{Player, Game, same}
 use Rattle.rules.specs.Tables.{words}
 use Rattle.rules.specs.Attractor.{TakesOne}
 use Rattle.predecessors.specs.Table.{start, row}
-use Rattle.attractor.specs.Area.{setAt}
+use Rattle.area.specs.Area.{setAt}
 use Rattle.attractor.specs.Attracted.{Placed}
 use Rattle.attractor.specs.State.{State, touched, looked, looked-none, looked-more}
 use Rattle.attractor.specs.Looks.{Safe}

@@ -8,7 +8,7 @@ use lib.Dec.{eqb, ltb}
 use lib.ListN.{length, getD}
 use Rattle.rules.specs.Counting.{Set}
 use Rattle.rules.specs.Tables.{words}
-use Rattle.attractor.specs.Area.{counters, queue, entries, free, setAt}
+use Rattle.area.specs.Area.{counters, queue, entries, free, setAt}
 use Rattle.attractor.specs.Attracted.{Placed}
 use Rattle.attractor.specs.State.{State}
 use Rattle.attractor.specs.Looks.{Safe}

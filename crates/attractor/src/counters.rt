@@ -1,6 +1,6 @@
 // For each opponent vertex of V, how many of its edges end inside V, parallel edges counted.
-use sets::Members;
-use sets::Next;
+use walk::Members;
+use walk::Next;
 ghost use mathlib.Core.Path.{_≡_};
 ghost use Rattle.rules.specs.Tables.{targetsOf};
 ghost use Rattle.rules.specs.Words.{setOf};

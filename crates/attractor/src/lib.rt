@@ -2,10 +2,8 @@
 // the predecessor table (n + 1 + m words), then a counter, a place in the queue and an entry for each vertex; sets
 // stand at bases that the caller gives.
 mod counters;
-mod door;
 mod queue;
 mod step;
 mod whole;
 
-pub use door::attractor;
 pub use whole::attract;

@@ -1,6 +1,6 @@
 // The queue at first: the members of the target.
-use sets::Members;
-use sets::Next;
+use walk::Members;
+use walk::Next;
 ghost use Rattle.attractor.specs.Filled.{Fillable, Filled};
 
 // Gives the queue's end.

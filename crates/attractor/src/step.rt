@@ -1,6 +1,6 @@
 // One step: a member is taken, and each of its predecessor entries is looked at once, those outside V included.
 ghost use lib.ListN.{length};
-ghost use Rattle.attractor.specs.Area.{setAt};
+ghost use Rattle.area.specs.Area.{setAt};
 ghost use Rattle.attractor.specs.State.{joined, touched};
 ghost use Rattle.attractor.specs.TakeLoop.{Takeable, Took};
 ghost use Rattle.attractor.specs.View.{Joinable, Becomes, Touchable, ownBy};

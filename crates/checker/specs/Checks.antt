@@ -28,7 +28,7 @@ use Rattle.parity_game.specs.Laws.{accepted-sound, outcome-pass}
 use Rattle.parity_game.specs.Laws.{Numbered, numbered-givenAt}
 use Rattle.predecessors.specs.Whole.{accepted-edges}
 use Rattle.solver.specs.Checks.{checksBy, checks-passed}
-use Rattle.parts.specs.Area.{behind, Cleared, marked}
+use Rattle.depth_first.specs.Area.{behind, Cleared, marked}
 use Rattle.checker.specs.Sides.{Sets, Given, Sided, ownBy, sideOf, wrongEntry, leavesSet, entry-is}
 use Rattle.checker.specs.Cycles.{losingAt, Scannable, MarksReady, CyclesMarked}
 

@@ -17,8 +17,8 @@ use Rattle.theory.specs.Chosen.{chosenPart}
 use Rattle.parity_game.specs.Laws.{accepted-sound}
 use Rattle.predecessors.specs.Table.{Ready, Predecessors}
 use Rattle.predecessors.specs.Whole.{accepted-edges}
-use Rattle.parts.specs.Area.{marks, behind, Within, Cleared, marked, marked-alike}
-use Rattle.parts.specs.Seeking.{rows-kept}
+use Rattle.depth_first.specs.Area.{marks, behind, Within, Cleared, marked, marked-alike}
+use Rattle.depth_first.specs.Seeking.{rows-kept}
 use Rattle.parts.specs.Parity.{Sweepable, Swept, predecessor-rows, graph-sound, swept-all}
 
 -- v is marked in the row of the other parity

@@ -21,7 +21,7 @@ use Rattle.parity_game.specs.Said.{refusal}
 use Rattle.parity_game.specs.Search.{FailsBelow, outcome-found, outcome-none}
 use Rattle.predecessors.specs.Table.{SoundEdges}
 use Rattle.predecessors.specs.Steps.{offset-within}
-use Rattle.parts.specs.Leading.{getD-within}
+use Rattle.depth_first.specs.Leading.{getD-within}
 
 -- bit b speaks against the partition
 unfoldable pub strayAt : ℕ → List ℕ → List ℕ → ℕ → Bool

@@ -15,7 +15,7 @@ fn main() {
     let mut result = [0u64; 1];
     let mut strategy = [0u16; 2];
     let mut work = [7u64; 318];
-    let r = attractor::attractor(
+    let r = attractor_door::attractor(
         &[1, 0],
         &[1, 2],
         &[0, 2, 3],

@@ -19,13 +19,13 @@ use Rattle.theory.specs.Basics.{some-intro, some-elim, some-cong, below-suc}
 use Rattle.theory.specs.Chosen.{chosenPart}
 use Rattle.theory.specs.Kosaraju.{Assigned, labels-good-part}
 use Rattle.theory.specs.Solitaire.{edge-test, test-edge, at-most-elim, at-most-intro}
-use Rattle.parts.specs.Area.{labels, hits, pairs, behind, Within, within-same, within-then, within-store}
-use Rattle.parts.specs.Area.{marked, true-marked, marked-true, false-marked, marked-alike, marked-marks}
-use Rattle.parts.specs.Graph.{Graph, size, edgeCount, priority, offset, target, gameIn, low, linksIn, Leads, SoundGraph, keeping}
-use Rattle.parts.specs.Leading.{link, leads, edge-at, edge-place}
+use Rattle.depth_first.specs.Area.{labels, hits, pairs, behind, Within, within-same, within-then, within-store}
+use Rattle.depth_first.specs.Area.{marked, true-marked, marked-true, false-marked, marked-alike, marked-marks}
+use Rattle.depth_first.specs.Graph.{Graph, size, edgeCount, priority, offset, target, gameIn, low, linksIn, Leads, SoundGraph, keeping}
+use Rattle.depth_first.specs.Leading.{link, leads, edge-at, edge-place}
 use Rattle.parts.specs.Noting.{noteTest, tellsOf}
-use Rattle.parts.specs.Seeking.{assigned, labelWord, labelOf}
-use Rattle.parts.specs.Walking.{Room}
+use Rattle.depth_first.specs.Seeking.{assigned, labelWord, labelOf}
+use Rattle.depth_first.specs.Walking.{Room}
 
 -- ---- a vertex that leads to itself
 

@@ -14,8 +14,8 @@ use lib.Seq.{getD-set-same, getD-set-other}
 use Rattle.rules.specs.Counting.{some}
 use Rattle.theory.specs.Basics.{bool-ext, clash, and-intro, and-left, and-right, or-left, or-right, or-cases, not-true-is-false}
 use Rattle.theory.specs.DepthFirst.{Marks, marks-cases, marks-keeps}
-use Rattle.parts.specs.Area.{labels, hits, Within, within-same, within-then, within-store}
-use Rattle.parts.specs.Area.{marked, false-marked, marked-marks}
+use Rattle.depth_first.specs.Area.{labels, hits, Within, within-same, within-then, within-store}
+use Rattle.depth_first.specs.Area.{marked, false-marked, marked-marks}
 
 -- u, whose label's word is l, tells that its part has two vertices, or that p is among its priorities
 unfoldable pub noteTest : List ℕ → ℕ → ℕ → ℕ → Bool → Bool

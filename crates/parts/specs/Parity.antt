@@ -21,9 +21,9 @@ use Rattle.theory.specs.Chosen.{chosenPart}
 use Rattle.parity_game.specs.Laws.{accepted-sound}
 use Rattle.predecessors.specs.Table.{start, row, Ready, Predecessors}
 use Rattle.predecessors.specs.Whole.{starts-grow, row-length, row-at, accepted-edges}
-use Rattle.parts.specs.Area.{marks, behind, marked, false-marked}
-use Rattle.parts.specs.Graph.{Graph, graph, size, edgeCount, gameIn, linksIn, SoundGraph}
-use Rattle.parts.specs.Seeking.{Rows}
+use Rattle.depth_first.specs.Area.{marks, behind, marked, false-marked}
+use Rattle.depth_first.specs.Graph.{Graph, graph, size, edgeCount, gameIn, linksIn, SoundGraph}
+use Rattle.depth_first.specs.Seeking.{Rows}
 use Rattle.parts.specs.Whole.{Markable, Marked}
 
 pub record Sweepable (priorities offsets targets entries : List ℕ) (parity : ℕ) (work : List ℕ) (base : ℕ) : Type 0 where

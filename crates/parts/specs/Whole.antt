@@ -17,11 +17,11 @@ use Rattle.theory.specs.DepthFirst.{dfs-done-order}
 use Rattle.theory.specs.Kosaraju.{Assigned}
 use Rattle.theory.specs.Links.{Together}
 use Rattle.theory.specs.Solitaire.{at-most-elim, at-most-intro}
-use Rattle.parts.specs.Area.{marks, order, queue, labels, hits, pairs, behind, Within, within-then, within-wider, Cleared}
-use Rattle.parts.specs.Area.{segment-length, segment-at, marked, true-marked, marked-true, marked-alike}
-use Rattle.parts.specs.Graph.{Graph, size, edgeCount, gameIn, low, Leads, SoundGraph}
-use Rattle.parts.specs.Walking.{visited, finished, Room, Passes, Finished}
-use Rattle.parts.specs.Seeking.{assigned, labelWord, labelOf, Rows, rows-kept, Labelling, Labelled}
+use Rattle.depth_first.specs.Area.{marks, order, queue, labels, hits, pairs, behind, Within, within-then, within-wider, Cleared}
+use Rattle.depth_first.specs.Area.{segment-length, segment-at, marked, true-marked, marked-true, marked-alike}
+use Rattle.depth_first.specs.Graph.{Graph, size, edgeCount, gameIn, low, Leads, SoundGraph}
+use Rattle.depth_first.specs.Walking.{visited, finished, Room, Passes, Finished}
+use Rattle.depth_first.specs.Seeking.{assigned, labelWord, labelOf, Rows, rows-kept, Labelling, Labelled}
 use Rattle.parts.specs.Noting.{noteTest, tellsOf, Noteable, Noted}
 use Rattle.parts.specs.Good.{goodAt, Collectable, Collected, good-chosen}
 

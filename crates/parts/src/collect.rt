@@ -1,10 +1,10 @@
 // What the labels tell: which parts are good, and so which vertices lie in a good one.
-use crate::links;
+use depth_first::keeps;
 ghost use mathlib.Core.Path.{_≡_};
 ghost use Prim.Native.Nat.{_+_, _≤_, _<_};
 ghost use lib.ListN.{length};
-ghost use Rattle.parts.specs.Area.{Cleared};
-ghost use Rattle.parts.specs.Graph.{graph};
+ghost use Rattle.depth_first.specs.Area.{Cleared};
+ghost use Rattle.depth_first.specs.Graph.{graph};
 ghost use Rattle.parts.specs.Noting.{Noteable, Noted, noteTest};
 ghost use Rattle.parts.specs.Good.{Loopable, loopsAt, Testable, goodAt, Collectable, Collected};
 
@@ -60,7 +60,7 @@ fn has_loop(
     ensures { λ r. ⌜ r ≡ loopsAt (graph (now (priorities .entry)) (now (offsets .entry)) (now (targets .entry))
         (now (entries .entry)) p) v ⌝ }
 {
-    if !links::keeps(entries, v, v) {
+    if !keeps(entries, v, v) {
         return false;
     }
     for e in offsets[v] as usize..offsets[v + 1] as usize {

@@ -2,14 +2,11 @@
 // among vertices of priority at most p that meets p exactly. One routine for solitaire and for the checker's kind 24,
 // linear in vertices and edges.
 mod collect;
-mod first;
-mod links;
 mod parity;
-mod second;
 
 pub use collect::clear;
 pub use parity::mark_parity;
-ghost use Rattle.parts.specs.Graph.{graph};
+ghost use Rattle.depth_first.specs.Graph.{graph};
 ghost use Rattle.parts.specs.Whole.{Markable, Marked};
 
 // Marks those vertices in a row of n words from base on. The predecessor table stands at the front of the work area,
@@ -34,8 +31,8 @@ pub fn mark_parts(
     let marks = n + 1 + m;
     let hits = marks + n + n + n + n;
     collect::clear(work, marks, hits + n + n);
-    let done = first::first_pass(priorities, offsets, targets, entries, p, work);
-    second::second_pass(priorities, offsets, targets, entries, p, work, done);
+    let done = depth_first::first_pass(priorities, offsets, targets, entries, p, work);
+    depth_first::second_pass(priorities, offsets, targets, entries, p, work, done);
     collect::note(priorities, m, p, work, hits, false);
     collect::note(priorities, m, p, work, hits + n, true);
     collect::collect(priorities, offsets, targets, entries, p, work, base);

@@ -3,7 +3,7 @@ ghost use mathlib.Core.Path.{_≡_};
 ghost use lib.Dec.{eqb};
 ghost use lib.ListN.{length, getD};
 ghost use Rattle.rules.specs.Counting.{some};
-ghost use Rattle.parts.specs.Graph.{graph};
+ghost use Rattle.depth_first.specs.Graph.{graph};
 ghost use Rattle.parts.specs.Whole.{Markable, Marked};
 ghost use Rattle.parts.specs.Parity.{Sweepable, Swept};
 

@@ -13,11 +13,11 @@ use lib.Seq.{getD-set-same, getD-set-other}
 use Rattle.rules.specs.Counting.{count}
 use Rattle.rules.specs.Words.{noEntry}
 use Rattle.sets.specs.After.{Cleared}
-use Rattle.attractor.specs.Area.{entries}
-use Rattle.attractor.specs.Walked.{Keeps, keeps-none, keeps-then}
-use Rattle.priority_promotion.specs.Regions.{regionAt, Tallied, highestUnder}
-use Rattle.priority_promotion.specs.Cells.{Aside, Placed, Becomes}
-use Rattle.priority_promotion.specs.Layout.{lowerAt, regionsAt}
+use Rattle.area.specs.Area.{entries}
+use Rattle.area.specs.Walked.{Keeps, keeps-none, keeps-then}
+use Rattle.promotion_region.specs.Regions.{regionAt, Tallied, highestUnder}
+use Rattle.promotion_region.specs.Cells.{Aside, Placed, Becomes}
+use Rattle.promotion_region.specs.Layout.{lowerAt, regionsAt}
 
 -- what `begin` asks for
 pub record Beginnable (priorities : List ℕ) (m s : ℕ) (work : List ℕ) : Type 0 where

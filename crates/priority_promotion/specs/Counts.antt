@@ -14,9 +14,9 @@ use Rattle.rules.specs.Tables.{gameOf, tablesOf}
 use Rattle.rules.specs.Promotion.{Regions, unsolved, roundOf, afterRounds}
 use Rattle.theory.specs.Basics.{count-cong, count-none, lt-or-ge}
 use Rattle.predecessors.specs.Stages.{sumTo}
-use Rattle.attractor.specs.Area.{free, setAt}
-use Rattle.priority_promotion.specs.Regions.{regionAt, Tallied}
-use Rattle.priority_promotion.specs.Layout.{regionsAt, tableAt, table-below, Ready}
+use Rattle.area.specs.Area.{free, setAt}
+use Rattle.promotion_region.specs.Regions.{regionAt, Tallied}
+use Rattle.promotion_region.specs.Layout.{regionsAt, tableAt, table-below, Ready}
 use Rattle.priority_promotion.specs.Round.{Shows}
 use Rattle.priority_promotion.specs.Rounds.{RoundReady, RoundDone}
 use Rattle.priority_promotion.specs.Solve.{Reached, left-is}

@@ -1,17 +1,4 @@
 -- Where the promotion's tables stand in the work area, what each function asks for and leaves behind, and what a reader may conclude.
-pub mod Regions
-pub mod Cells
-pub mod Edges
-pub mod Sorting
-pub mod Settling
-pub mod Promoting
-pub mod Escapes
-pub mod Opening
-pub mod Layout
-pub mod Pulled
-pub mod Query
-pub mod Promotion
-pub mod Dominion
 pub mod Round
 pub mod Rounds
 pub mod Solve

@@ -23,22 +23,22 @@ use Rattle.theory.specs.PromotionStanding.{Standing}
 use Rattle.theory.specs.PromotionBound.{after-standing}
 use Rattle.theory.specs.PromotionTable.{openAt, leadsUp, nextAbove, above-solved, region-table, attracts-table, region-read, remaining-read, open-read, some-way-read}
 use Rattle.theory.specs.PromotionTable.{table-opens, table-promotes, table-solves, promoted-entries-read, solved-entries-read}
-use Rattle.sets.specs.Laws.{length-members}
-use Rattle.attractor.specs.Area.{entries, free, setAt, wordsAt}
+use Rattle.walk.specs.MemberLaws.{length-members}
+use Rattle.area.specs.Area.{entries, free, setAt, wordsAt}
 use Rattle.attractor.specs.Begun.{members-count}
-use Rattle.attractor.specs.Views.{words-few}
-use Rattle.attractor.specs.Walking.{lent-part}
-use Rattle.priority_promotion.specs.Regions.{regionAt, Elsewhere, highestUnder}
-use Rattle.attractor.specs.SetsAt.{set-kept}
-use Rattle.priority_promotion.specs.Opening.{isOpenAt}
-use Rattle.priority_promotion.specs.Escapes.{Escapes, LowestAbove, Reaches}
-use Rattle.priority_promotion.specs.Layout.{heldAt, evenAt, regionsAt, tableAt, table-below, table-above, entryOf, Ready, unsolved-small}
-use Rattle.priority_promotion.specs.Pulled.{owner-test, owner-number, number-owner}
-use Rattle.priority_promotion.specs.Query.{QueryReady, Queried}
-use Rattle.priority_promotion.specs.Promoting.{PromoteAll, PromotedAll}
-use Rattle.priority_promotion.specs.Promotion.{promote-ready, promoted-long, promoted-tallied, promoted-sets, promoted-listed, promoted-region}
-use Rattle.priority_promotion.specs.Promotion.{promoted-entry}
-use Rattle.priority_promotion.specs.Dominion.{wonAt, DominionReady, Dominated}
+use Rattle.area.specs.Lent.{words-few}
+use Rattle.area.specs.Walking.{lent-part}
+use Rattle.promotion_region.specs.Regions.{regionAt, Elsewhere, highestUnder}
+use Rattle.area.specs.SetsAt.{set-kept}
+use Rattle.promotion_region.specs.Opening.{isOpenAt}
+use Rattle.promotion_region.specs.Escapes.{Escapes, LowestAbove, Reaches}
+use Rattle.promotion_region.specs.Layout.{heldAt, evenAt, regionsAt, tableAt, table-below, table-above, entryOf, Ready, unsolved-small}
+use Rattle.promotion_region.specs.Pulled.{owner-test, owner-number, number-owner}
+use Rattle.promotion_region.specs.Query.{QueryReady, Queried}
+use Rattle.promotion_region.specs.Promoting.{PromoteAll, PromotedAll}
+use Rattle.promotion_region.specs.Promotion.{promote-ready, promoted-long, promoted-tallied, promoted-sets, promoted-listed, promoted-region}
+use Rattle.promotion_region.specs.Promotion.{promoted-entry}
+use Rattle.promotion_region.specs.Dominion.{wonAt, DominionReady, Dominated}
 
 -- the work area and the small state show a state of the rules
 pub record Shows (owners priorities offsets targets : List ℕ) (s : ℕ) (r : Regions) (at many : ℕ) (work : List ℕ) : Type 0 where

@@ -7,7 +7,7 @@ use lib.ListN.{length, getD}
 use Rattle.rules.specs.Tables.{gameOf, Accepted, tablesOf}
 use Rattle.rules.specs.Promotion.{roundOf, afterRounds}
 use Rattle.theory.specs.PromotionEntries.{RoundEntries}
-use Rattle.priority_promotion.specs.Layout.{regionsAt, entryOf}
+use Rattle.promotion_region.specs.Layout.{regionsAt, entryOf}
 use Rattle.priority_promotion.specs.Round.{Shows}
 
 -- the work area and the small state show the state after some number of rounds

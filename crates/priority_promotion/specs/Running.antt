@@ -11,11 +11,11 @@ use Rattle.rules.specs.Game.{Player, Even, Odd}
 use Rattle.rules.specs.Tables.{Tables, gameOf, words, workWords, Accepted, tablesOf}
 use Rattle.rules.specs.Promotion.{afterRounds, allSolved, roundsNeeded}
 use Rattle.theory.specs.PromotionAccepted.{accepted-promotion-sets, accepted-promotion-entries}
-use Rattle.attractor.specs.Area.{free, setAt}
+use Rattle.area.specs.Area.{free, setAt}
 use Rattle.solver.specs.Preparing.{Preparable, Prepared}
 use Rattle.solver.specs.Outputs.{wonFrom, Found}
-use Rattle.priority_promotion.specs.Layout.{evenAt, regionsAt, accepted-edges}
-use Rattle.priority_promotion.specs.Dominion.{wonAt}
+use Rattle.promotion_region.specs.Layout.{evenAt, regionsAt, accepted-edges}
+use Rattle.promotion_region.specs.Dominion.{wonAt}
 use Rattle.priority_promotion.specs.Beginning.{Beginnable, Begun}
 use Rattle.priority_promotion.specs.Starting.{tables-room, begin-ready, begun-reached}
 use Rattle.priority_promotion.specs.Solve.{Reached, Ended, none-left, ended-needed, ended-over}

@@ -14,8 +14,8 @@ use Rattle.rules.specs.Tables.{gameOf, Accepted, tablesOf}
 use Rattle.rules.specs.Promotion.{Regions, unsolved, afterRounds, allSolved, roundsNeeded}
 use Rattle.theory.specs.Basics.{some-intro, false-some, count-zero, count-some, lowest-unique, lowest-none}
 use Rattle.theory.specs.PromotionEntries.{Rounded, rounds}
-use Rattle.attractor.specs.Area.{free, setAt}
-use Rattle.priority_promotion.specs.Layout.{regionsAt, table-below, entryOf}
+use Rattle.area.specs.Area.{free, setAt}
+use Rattle.promotion_region.specs.Layout.{regionsAt, table-below, entryOf}
 use Rattle.priority_promotion.specs.Round.{Shows}
 use Rattle.priority_promotion.specs.Rounds.{RoundReady, RoundDone}
 

@@ -18,13 +18,13 @@ use Rattle.theory.specs.Tables.{accepted-sound}
 use Rattle.theory.specs.Greatest.{greatest-cong}
 use Rattle.theory.specs.PromotionBasics.{noted-below}
 use Rattle.theory.specs.PromotionEntries.{starts}
-use Rattle.attractor.specs.Area.{entries, free, setAt}
+use Rattle.area.specs.Area.{entries, free, setAt}
 use Rattle.attractor.specs.Attracted.{Listed}
 use Rattle.attractor.specs.Running.{listed-kept}
-use Rattle.priority_promotion.specs.Regions.{regionAt}
-use Rattle.attractor.specs.SetsAt.{set-kept, set-zeros}
-use Rattle.priority_promotion.specs.Layout.{evenAt, oddAt, regionsAt, tableAt, table-below, accepted-edges}
-use Rattle.priority_promotion.specs.Dominion.{wonAt}
+use Rattle.promotion_region.specs.Regions.{regionAt}
+use Rattle.area.specs.SetsAt.{set-kept, set-zeros}
+use Rattle.promotion_region.specs.Layout.{evenAt, oddAt, regionsAt, tableAt, table-below, accepted-edges}
+use Rattle.promotion_region.specs.Dominion.{wonAt}
 use Rattle.priority_promotion.specs.Beginning.{Beginnable, Begun, BegunOf}
 use Rattle.priority_promotion.specs.Solve.{Reached}
 

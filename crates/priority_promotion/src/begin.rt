@@ -1,7 +1,7 @@
 // The state at first.
-use crate::regions::next_priority;
-use crate::regions::reset;
 use crate::round::State;
+use promotion_region::next_priority;
+use promotion_region::reset;
 ghost use mathlib.Core.Path.{_≡_};
 ghost use lib.ListN.{length};
 ghost use Rattle.priority_promotion.specs.Beginning.{Beginnable, Begun};

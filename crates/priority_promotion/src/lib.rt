@@ -2,12 +2,7 @@
 // sets (the unsolved vertices, those of them up to region p, the region R, what Even and what Odd have won), then a
 // region for each vertex, then how many vertices each region has. A solved vertex has region 256.
 mod begin;
-mod dominion;
 mod door;
-mod open;
-mod promote;
-mod query;
-mod regions;
 mod round;
 mod solve;
 mod step;

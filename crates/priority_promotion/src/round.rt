@@ -1,11 +1,11 @@
 // One round on plain slices, with the small state by value.
-use crate::dominion::solve_dominion;
-use crate::open::is_open;
-use crate::promote::apply_priority_promotion;
-use crate::promote::best_escape;
-use crate::query::query;
-use crate::regions::next_priority;
 use parity_game::Priority;
+use promotion_region::apply_priority_promotion;
+use promotion_region::best_escape;
+use promotion_region::is_open;
+use promotion_region::next_priority;
+use promotion_region::query;
+use promotion_region::solve_dominion;
 ghost use Rattle.priority_promotion.specs.Rounds.{RoundReady, RoundDone};
 
 // The current priority, how many vertices are unsolved, and the rounds made.

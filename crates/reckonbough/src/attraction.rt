@@ -31,7 +31,7 @@ pub extern "C" fn reckonbough_attractor(
 {
     let alpha = Player::from_index(player);
     tell(
-        attractor::attractor(
+        attractor_door::attractor(
             owners,
             priorities,
             offsets,

@@ -1,4 +1,4 @@
-// One member: asked for, added, removed.
+// One member: asked for, added.
 ghost use mathlib.Core.Bool.{_&&_, not};
 ghost use mathlib.Core.Path.{_≡_};
 ghost use Prim.Native.Nat.{_*_, _<_};
@@ -27,12 +27,4 @@ pub fn insert(set: &mut [u64], v: usize)
 {
     let i = v / 64;
     set[i] |= 1u64 << (v % 64);
-}
-
-pub fn remove(set: &mut [u64], v: usize)
-    requires { ⌜ v < 64 * length (now set) ⌝ }
-    ensures { λ r. ⌜ Put v 0 (now (set .entry)) (now (set .exit)) ⌝ }
-{
-    let i = v / 64;
-    set[i] &= !(1u64 << (v % 64));
 }

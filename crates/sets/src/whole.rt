@@ -19,15 +19,6 @@ pub fn union_with(words: &mut [u64], into: usize, from: usize, s: usize)
     }
 }
 
-pub fn intersect_with(words: &mut [u64], into: usize, from: usize, s: usize)
-    requires { ⌜ Parts into from s (now words) ⌝ }
-    ensures { λ r. ⌜ Combined min into from s (now (words .entry)) (now (words .exit)) ⌝ }
-{
-    for i in 0..s {
-        words[into + i] &= words[from + i];
-    }
-}
-
 pub fn difference_with(words: &mut [u64], into: usize, from: usize, s: usize)
     requires { ⌜ Parts into from s (now words) ⌝ }
     ensures { λ r. ⌜ Combined _-_ into from s (now (words .entry)) (now (words .exit)) ⌝ }
@@ -93,20 +84,6 @@ pub fn is_empty(set: &[u64]) -> bool
 {
     for i in 0..set.len() {
         if set[i] != 0 {
-            return false;
-        }
-    }
-    true
-}
-
-// Whether two sets of as many words are the same, bit by bit.
-pub fn same(a: &[u64], b: &[u64]) -> bool
-    requires { ⌜ length (now a) ≡ length (now b) ⌝ }
-    ensures { λ r.
-        ⌜ r ≡ every (64 * length (now (a .entry))) (λ v. eqb (bit (now (a .entry)) v) (bit (now (b .entry)) v)) ⌝ }
-{
-    for i in 0..a.len() {
-        if a[i] != b[i] {
             return false;
         }
     }

@@ -14,10 +14,10 @@ use Rattle.rules.specs.Words.{setOf}
 use Rattle.theory.specs.Basics.{bool-cases, bool-ext, clash, and-intro, and-left, and-right}
 use Rattle.sets.specs.After.{Cleared, Filled, Put}
 use Rattle.sets.specs.Laws.{put-set, filled-set}
-use Rattle.attractor.specs.Area.{setAt, wordsAt}
-use Rattle.attractor.specs.Views.{part-is, part-length, part-set, words-cover, bit-fits, back, back-long, back-front, back-behind, back-part}
-use Rattle.parts.specs.Area.{marked, marked-alike, true-marked, false-marked, marked-true}
-use Rattle.attractor.specs.SetsAt.{set-kept, set-cleared}
+use Rattle.area.specs.Area.{setAt, wordsAt}
+use Rattle.area.specs.Lent.{part-is, part-length, part-set, words-cover, bit-fits, back, back-long, back-front, back-behind, back-part}
+use Rattle.depth_first.specs.Area.{marked, marked-alike, true-marked, false-marked, marked-true}
+use Rattle.area.specs.SetsAt.{set-kept, set-cleared}
 
 -- a row of n words, and behind it a set without a member
 pub record Gatherable (n s row set : ℕ) (work : List ℕ) : Type 0 where

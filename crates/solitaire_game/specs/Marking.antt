@@ -23,8 +23,8 @@ use Rattle.predecessors.specs.Table.{Ready, Predecessors}
 use Rattle.predecessors.specs.Whole.{accepted-edges}
 use Rattle.attractor.specs.Attracted.{Listed}
 use Rattle.attractor.specs.Running.{listed-kept, own-is}
-use Rattle.attractor.specs.Runs.{built-listed}
-use Rattle.parts.specs.Area.{behind, Cleared, marked, marked-true}
+use Rattle.attractor.specs.Listing.{built-listed}
+use Rattle.depth_first.specs.Area.{behind, Cleared, marked, marked-true}
 use Rattle.parts.specs.Parity.{Sweepable, Swept, predecessor-rows, graph-sound, swept-all}
 
 pub record Markable (t : Tables) (owner : ℕ) (work : List ℕ) (row : ℕ) : Type 0 where

@@ -20,12 +20,12 @@ use Rattle.theory.specs.Solitaire.{accepted-one-owner}
 use Rattle.theory.specs.SolitaireAttractor.{solitaire-attractor}
 use Rattle.theory.specs.Tables.{accepted-total}
 use Rattle.parity_game.specs.Laws.{accepted-sound}
-use Rattle.attractor.specs.Area.{setAt, wordsAt}
+use Rattle.area.specs.Area.{setAt, wordsAt}
 use Rattle.attractor.specs.Attracted.{Attractable, Attracted}
 use Rattle.attractor.specs.Running.{listed-kept}
-use Rattle.attractor.specs.Runs.{edges-sound}
-use Rattle.attractor.specs.Views.{part-is}
-use Rattle.parts.specs.Area.{behind, marked-true}
+use Rattle.attractor.specs.Listing.{edges-sound}
+use Rattle.area.specs.Lent.{part-is}
+use Rattle.depth_first.specs.Area.{behind, marked-true}
 use Rattle.solitaire_game.specs.Checks.{Passed}
 use Rattle.solitaire_game.specs.Marking.{Markable, Marked}
 use Rattle.solitaire_game.specs.Gathering.{Placeable, Placed}

@@ -19,8 +19,8 @@ use Rattle.theory.specs.PromotionBasics.{noted-below}
 use Rattle.theory.specs.Tables.{accepted-sound, accepted-total}
 use Rattle.theory.specs.Zielonka.{determinacy}
 use Rattle.sets.specs.Laws.{other-bit}
-use Rattle.attractor.specs.Area.{entries, setAt, entryAt}
-use Rattle.attractor.specs.Views.{part-is, part-length, words-enough}
+use Rattle.area.specs.Area.{entries, setAt, entryAt}
+use Rattle.area.specs.Lent.{part-is, part-length, words-enough}
 use Rattle.solver.specs.Entries.{ownerWins, Enterable, Written}
 use Rattle.solver.specs.Running.{Outputs, Finished}
 

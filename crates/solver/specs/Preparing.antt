@@ -12,12 +12,12 @@ use Rattle.rules.specs.Words.{setOf}
 use Rattle.sets.specs.After.{Cleared, Filled}
 use Rattle.sets.specs.Laws.{filled-set}
 use Rattle.predecessors.specs.Table.{Predecessors}
-use Rattle.attractor.specs.Area.{free, setAt, wordsAt}
+use Rattle.area.specs.Area.{free, setAt, wordsAt}
 use Rattle.attractor.specs.Running.{listed-kept}
-use Rattle.attractor.specs.Runs.{built-listed}
-use Rattle.attractor.specs.Views.{part-is, part-length, back, back-long, back-front, back-part}
-use Rattle.attractor.specs.SetsAt.{set-cleared}
-use Rattle.attractor.specs.Walking.{lent-part}
+use Rattle.attractor.specs.Listing.{built-listed}
+use Rattle.area.specs.Lent.{part-is, part-length, back, back-long, back-front, back-part}
+use Rattle.area.specs.SetsAt.{set-cleared}
+use Rattle.area.specs.Walking.{lent-part}
 use Rattle.attractor.specs.Attracted.{Listed}
 use Rattle.predecessors.specs.Table.{SoundEdges}
 

@@ -17,7 +17,7 @@ use Rattle.rules.specs.Solver.{Lent, solverChecks, Entries, Answered, Leaves, S
 use Rattle.rules.specs.Tables.{Tables, gameOf, vertices, tableChecks, Accepted}
 use Rattle.rules.specs.Winning.{WinningSets}
 use Rattle.rules.specs.Words.{setOf, Holds, noEntry, entry}
-use Rattle.attractor.specs.Alike.{Alike, alike-same, alike-none, alike-equal}
+use Rattle.area.specs.Alike.{Alike, alike-same, alike-none, alike-equal}
 use Rattle.parity_game.specs.Laws.{then-none, zero-none}
 use Rattle.sets.specs.Same.{Narrow, holds-same}
 use Rattle.theory.specs.Basics.{clash}

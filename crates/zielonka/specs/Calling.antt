@@ -19,17 +19,17 @@ use Rattle.theory.specs.Basics.{clash, not-true-is-false, some-elim, some-false
 use Rattle.theory.specs.Run.{Top, highest-top, cut-inside}
 use Rattle.theory.specs.RunSound.{run-sound}
 use Rattle.theory.specs.Tables.{accepted-sound}
-use Rattle.attractor.specs.Area.{free, setAt, wordsAt}
-use Rattle.attractor.specs.Views.{words-few}
-use Rattle.attractor.specs.SetsAt.{set-cleared, set-inside}
-use Rattle.attractor.specs.Walking.{lent-part}
-use Rattle.zielonka.specs.Parts.{highestOf, Searchable}
-use Rattle.zielonka.specs.Level.{nextLevel, wonPlace, onLevel, wonAt, Called, Stays, Done, Over}
-use Rattle.zielonka.specs.Steps.{CutBy, AllAt, JoinedAt, stays-on, stays-next, level-stays, cut-over}
-use Rattle.zielonka.specs.Steps.{nested-called, first-less, cut-less}
-use Rattle.zielonka.specs.Steps.{done-empty, done-all, done-some, over-nested, over-second}
-use Rattle.zielonka.specs.Pieces.{Ready, Losable}
-use Rattle.zielonka.specs.PiecesHold.{apart-cleared, apart-stays, apart-entries, ready-stays, won-range}
+use Rattle.area.specs.Area.{free, setAt, wordsAt}
+use Rattle.area.specs.Lent.{words-few}
+use Rattle.area.specs.SetsAt.{set-cleared, set-inside}
+use Rattle.area.specs.Walking.{lent-part}
+use Rattle.zielonka_level.specs.Parts.{highestOf, Searchable}
+use Rattle.zielonka_level.specs.Level.{nextLevel, wonPlace, onLevel, wonAt, Called, Stays, Done, Over}
+use Rattle.zielonka_level.specs.Steps.{CutBy, AllAt, JoinedAt, stays-on, stays-next, level-stays, cut-over}
+use Rattle.zielonka_level.specs.Steps.{nested-called, first-less, cut-less}
+use Rattle.zielonka_level.specs.Steps.{done-empty, done-all, done-some, over-nested, over-second}
+use Rattle.zielonka_level.specs.Pieces.{Ready, Losable}
+use Rattle.zielonka_level.specs.PiecesHold.{apart-cleared, apart-stays, apart-entries, ready-stays, won-range}
 
 -- there is room for the level above a call on a set that has a member
 eight-fit : (s k base long : ℕ) → 0 < k → base + 4 * (s * (k + 1)) ≤ long → base + 8 * s ≤ long

@@ -17,10 +17,10 @@ use Rattle.theory.specs.RunSame.{Same, Needs}
 use Rattle.theory.specs.RunSound.{run-sound}
 use Rattle.theory.specs.Tables.{accepted-total}
 use Rattle.theory.specs.Zielonka.{everywhere-below, everywhere-total, run-is-zielonka, needs-zielonka, run-entries, zielonka-wins}
-use Rattle.attractor.specs.Area.{free, setAt}
-use Rattle.zielonka.specs.Level.{wonPlace, onLevel, wonAt, entriesOf, Called, Done, Over}
+use Rattle.area.specs.Area.{free, setAt}
+use Rattle.zielonka_level.specs.Level.{wonPlace, onLevel, wonAt, entriesOf, Called, Done, Over}
 use Rattle.zielonka.specs.Calling.{level-fits}
-use Rattle.zielonka.specs.PiecesHold.{sound-edges}
+use Rattle.zielonka_level.specs.PiecesHold.{sound-edges}
 use Rattle.solver.specs.Preparing.{Preparable, Prepared}
 use Rattle.solver.specs.Outputs.{wonFrom, Found}
 

@@ -1,12 +1,13 @@
 // One call on the set V at `base`, its sets at its own level, the calls below it one level up.
-use crate::highest::get_highest_prio;
-use crate::level::attract_highest;
-use crate::level::attract_lost;
-use crate::level::join;
-use crate::level::lost_nothing;
-use crate::level::win_everything;
 use solver::Ran;
-ghost use Rattle.zielonka.specs.Level.{Called, Ends};
+use zielonka_level::attract_highest;
+use zielonka_level::attract_lost;
+use zielonka_level::get_highest_prio;
+use zielonka_level::join;
+use zielonka_level::lost_nothing;
+use zielonka_level::win_everything;
+ghost use Rattle.zielonka_level.specs.Level.{Called};
+ghost use Rattle.zielonka.specs.Ending.{Ends};
 ghost use Rattle.rules.specs.Tables.{tablesOf};
 
 pub fn zielonka_rec(

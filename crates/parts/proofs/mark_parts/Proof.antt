@@ -1,5 +1,5 @@
 -- `mark_parts` meets its contract: each stage leaves what the next one needs.
-use Rattle.parts.specs.Graph.{Graph, graph}
+use Rattle.depth_first.specs.Graph.{Graph, graph}
 use Rattle.parts.specs.Whole.{passes, labelling, hits-noteable, pairs-noteable, collectable, marked-parts}
 use native.Mathlib.Omega.{arith}
 use borrow.Author.Needs.{needs}

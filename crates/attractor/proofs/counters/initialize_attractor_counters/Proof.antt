@@ -6,11 +6,11 @@ use native.Mathlib.Omega.{arith}
 use borrow.Author.Needs.{needs}
 use borrow.Author.Tests.{eq-eqb}
 use lib.ListN.{length, take, drop}
-use Rattle.sets.specs.declared.members.Members.{Members}
-use Rattle.sets.specs.Walk.{left, Walks}
-use Rattle.attractor.specs.Area.{wordsAt}
+use Rattle.walk.specs.declared.members.Members.{Members}
+use Rattle.walk.specs.Walk.{left, Walks}
+use Rattle.area.specs.Area.{wordsAt}
 use Rattle.attractor.specs.Counters.{Elsewhere, CountingTo, count-walkable, counting-own, counting-other, edges-ready}
-use Rattle.attractor.specs.Walked.{Walkable, walked-none, walked-few, walked-all, walked-small, walked-shorter, walked-more}
+use Rattle.area.specs.Walked.{Walkable, walked-none, walked-few, walked-all, walked-small, walked-shorter, walked-more}
 use Rattle.attractor.proofs.counters.initialize_attractor_counters.Statement.{statement}
 use Rattle.attractor.proofs.counters.initialize_attractor_counters.Tie as tie
 

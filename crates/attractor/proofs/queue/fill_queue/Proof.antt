@@ -5,8 +5,8 @@ use mathlib.Core.Path.{_≡_, subst}
 use native.Mathlib.Omega.{arith}
 use borrow.Author.Needs.{needs}
 use lib.ListN.{length, take, drop}
-use Rattle.sets.specs.declared.members.Members.{Members}
-use Rattle.sets.specs.Walk.{left, Walks}
+use Rattle.walk.specs.declared.members.Members.{Members}
+use Rattle.walk.specs.Walk.{left, Walks}
 use Rattle.attractor.specs.Filled.{FillingTo, filling-none, filling-all, filling-more, filling-shorter, part-few, place-fits}
 use Rattle.attractor.proofs.queue.fill_queue.Statement.{statement}
 use Rattle.attractor.proofs.queue.fill_queue.Tie as tie

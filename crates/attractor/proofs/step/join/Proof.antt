@@ -1,5 +1,6 @@
 use borrow.Author.Needs.{needs}
-use Rattle.attractor.specs.Views.{bit-fits, state-joined}
+use Rattle.attractor.specs.Views.{state-joined}
+use Rattle.area.specs.Lent.{bit-fits}
 use Rattle.attractor.proofs.step.join.Statement.{statement}
 use Rattle.attractor.proofs.step.join.Tie as tie
 

@@ -8,10 +8,11 @@ use borrow.Author.Tests.{not-true, not-false, eq-eqb, ne-eqb}
 use lib.ListN.{length, getD, set}
 use Rattle.rules.specs.Counting.{Set}
 use Rattle.theory.specs.Basics.{and-left, and-right}
-use Rattle.attractor.specs.Area.{counters, entries, setAt}
+use Rattle.area.specs.Area.{counters, entries, setAt}
 use Rattle.attractor.specs.State.{State, entered, counted, touched, touched-passed, touched-entry, touched-last, touched-count}
 use Rattle.attractor.specs.View.{stateAt, ownBy, Becomes}
-use Rattle.attractor.specs.Views.{bit-fits, part-set, cells-at, becomes-same, becomes-then, becomes-as, placed-room, store-entry, store-counter}
+use Rattle.attractor.specs.Views.{cells-at, becomes-same, becomes-then, becomes-as, placed-room, store-entry, store-counter}
+use Rattle.area.specs.Lent.{bit-fits, part-set}
 use Rattle.attractor.specs.Views.{kept-room}
 use Rattle.attractor.proofs.step.touch.Statement.{statement}
 use Rattle.attractor.proofs.step.touch.Tie as tie

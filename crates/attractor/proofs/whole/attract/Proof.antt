@@ -5,7 +5,7 @@ use mathlib.Core.Path.{_≡_, _∙_}
 use native.Mathlib.Omega.{arith}
 use borrow.Author.Needs.{needs}
 use lib.ListN.{length, getD}
-use Rattle.attractor.specs.Area.{queue}
+use Rattle.area.specs.Area.{queue}
 use Rattle.attractor.specs.Attracted.{Attractable}
 use Rattle.attractor.specs.Started.{count-ready, fill-ready, started-kept, started-same, started-given, started}
 use Rattle.attractor.specs.Running.{Running, Same, same-back, running-moved, running-more, running-all}

@@ -1,6 +1,6 @@
 -- `check_cycles` meets its contract: the search over the marks is the rule's 24.
 use lib.ListN.{length}
-use Rattle.parts.specs.Area.{behind}
+use Rattle.depth_first.specs.Area.{behind}
 use Rattle.checker.specs.Cycles.{Scannable}
 use Rattle.checker.specs.Checks.{cycles-ready, scan-ready, cycles-told}
 use native.Mathlib.Omega.{arith}

@@ -1,6 +1,6 @@
 -- `clear` meets its contract.
 use native.Mathlib.Omega.{arith}
-use Rattle.parts.specs.Area.{cleared-to}
+use Rattle.depth_first.specs.Area.{cleared-to}
 use borrow.Author.Needs.{needs}
 use Rattle.parts.proofs.collect.clear.Statement.{statement}
 use Rattle.parts.proofs.collect.clear.Tie as tie

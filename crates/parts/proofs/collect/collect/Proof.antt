@@ -4,7 +4,7 @@ use mathlib.Core.List.{List}
 use mathlib.Core.Path.{_≡_, refl, sym, subst, _∙_}
 use Prim.Native.Nat.{ℕ, _+_, _-_, _≤_}
 use lib.ListN.{length}
-use Rattle.parts.specs.Graph.{Graph, graph}
+use Rattle.depth_first.specs.Graph.{Graph, graph}
 use Rattle.parts.specs.Good.{Collected, collected-none, test-ready, collected-passes, collected-marks}
 use native.Mathlib.Omega.{arith}
 use borrow.Author.Needs.{needs}

@@ -4,7 +4,7 @@ use Prim.Native.Nat.{_+_, _-_, _≤_}
 use native.Mathlib.Nat.{le-refl}
 use borrow.Author.Tests.{eqb-true, eqb-false, not-true, not-false}
 use lib.ListN.{getD}
-use Rattle.parts.specs.Graph.{Graph, graph}
+use Rattle.depth_first.specs.Graph.{Graph, graph}
 use Rattle.parts.specs.Good.{Looping, loop-unkept, loop-found, loop-more, loop-none}
 use native.Mathlib.Omega.{arith}
 use borrow.Author.Needs.{needs}

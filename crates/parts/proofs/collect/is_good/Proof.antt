@@ -1,7 +1,7 @@
 -- `is_good` meets its contract: it goes by the marks of the label.
 use mathlib.Core.Path.{_∙_}
-use Rattle.parts.specs.Graph.{Graph, graph}
-use Rattle.parts.specs.Leading.{edge-within}
+use Rattle.depth_first.specs.Graph.{Graph, graph}
+use Rattle.depth_first.specs.Leading.{edge-within}
 use Rattle.parts.specs.Good.{good-high, good-unhit, good-pair, good-loop}
 use native.Mathlib.Omega.{arith}
 use borrow.Author.Needs.{needs}

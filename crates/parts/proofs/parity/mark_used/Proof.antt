@@ -1,6 +1,6 @@
 -- `mark_used` meets its contract: where no vertex has the priority there is nothing to mark.
 use mathlib.Core.Path.{sym, _∙_}
-use Rattle.parts.specs.Graph.{graph}
+use Rattle.depth_first.specs.Graph.{graph}
 use Rattle.parts.specs.Parity.{marked-unused}
 use borrow.Author.Needs.{needs}
 use Rattle.parts.proofs.parity.mark_used.Statement.{statement}

@@ -6,10 +6,10 @@ use native.Mathlib.Omega.{arith}
 use lib.ListN.{length}
 use Rattle.rules.specs.Tables.{Tables, words, tablesOf}
 use Rattle.theory.specs.Tables.{accepted-sound}
-use Rattle.attractor.specs.Views.{words-few}
+use Rattle.area.specs.Lent.{words-few}
 use Rattle.sets.specs.Laws.{cleared-all}
 use Rattle.solver.specs.Outputs.{Found, found-writable, found-finished}
-use Rattle.priority_promotion.specs.Layout.{evenAt}
+use Rattle.promotion_region.specs.Layout.{evenAt}
 use Rattle.priority_promotion.specs.Running.{wonIn, run-preparable, run-beginnable, run-reached, run-over, run-rounds, run-found}
 use borrow.Author.Needs.{needs}
 use Rattle.priority_promotion.proofs.door.run.Statement.{statement}

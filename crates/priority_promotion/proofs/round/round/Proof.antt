@@ -2,7 +2,7 @@
 use mathlib.Core.Logic.{inr}
 use mathlib.Core.Path.{refl, _∙_}
 use native.Mathlib.Omega.{arith}
-use Rattle.priority_promotion.specs.Query.{Queried}
+use Rattle.promotion_region.specs.Query.{Queried}
 use Rattle.priority_promotion.specs.Round.{current-small, round-query, escapes, round-opens, round-promote-ready, promoted-same}
 use Rattle.priority_promotion.specs.Round.{round-promotes, round-dominion-ready, left-few, left-counted, round-solves}
 use borrow.Author.Needs.{needs}

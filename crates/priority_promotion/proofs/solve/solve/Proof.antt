@@ -50,7 +50,7 @@ use denote.Triple.Walked.{says, needs, Stays, stay-none, stay-none-slice, stay-s
 use denote.Exit.{yes}
 use borrow.Rule.Slice.Lend.{keptF, sl-relend, sl-relent-backˡ}
 use Rattle.priority_promotion.specs.declared.round.State.{State}
-use Rattle.priority_promotion.specs.Layout.{regionsAt}
+use Rattle.promotion_region.specs.Layout.{regionsAt}
 use Rattle.priority_promotion.specs.Rounds.{RoundReady, RoundDone}
 use Rattle.priority_promotion.specs.Solve.{Reached, reached-ready, reached-more}
 use Rattle.priority_promotion.proofs.Bare.{Bare, bared, valued}

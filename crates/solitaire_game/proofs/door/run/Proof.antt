@@ -8,7 +8,7 @@ use Rattle.rules.specs.Tables.{Tables, tablesOf}
 use Rattle.rules.specs.Game.{playerOf}
 use Rattle.theory.specs.Tables.{accepted-sound}
 use Rattle.attractor.specs.Attracted.{Attracted}
-use Rattle.attractor.specs.Views.{words-few}
+use Rattle.area.specs.Lent.{words-few}
 use Rattle.sets.specs.Laws.{cleared-all}
 use Rattle.solitaire_game.specs.Running.{baseOf, mark-ready, place-ready, attract-ready, long₃, copy-fits, copy-long, answer-holds}
 use Rattle.solitaire_game.proofs.door.run.Statement.{statement}

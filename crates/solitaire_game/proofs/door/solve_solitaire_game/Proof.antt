@@ -9,7 +9,7 @@ use Rattle.rules.specs.Solitaire.{LentSet, solitaireChecks}
 use Rattle.rules.specs.Tables.{Tables, tablesOf}
 use Rattle.theory.specs.Tables.{accepted-sound}
 use Rattle.parity_game.proofs.Matched.{went-on, refusal-not-zero}
-use Rattle.attractor.specs.Answered.{work-cleared}
+use Rattle.area.specs.Lent.{work-cleared}
 use Rattle.solitaire_game.specs.Checks.{numbered-checks, Passed, checks-passed}
 use Rattle.solitaire_game.specs.Running.{run-ready, solves-refused, solves-answered}
 use Rattle.solitaire_game.proofs.door.solve_solitaire_game.Statement.{statement}

@@ -4,7 +4,7 @@ use mathlib.Core.Path.{_≡_, _∙_}
 use Prim.Native.Nat.{ℕ, _-_, _≤_, _<_}
 use native.Mathlib.Nat.{not-suc-le-zero}
 use lib.ListN.{length, getD, length-set}
-use Rattle.attractor.specs.DoorLaws.{stored-more}
+use Rattle.area.specs.Lent.{stored-more}
 use Rattle.solver.specs.Entries.{chosen}
 use borrow.Author.Needs.{needs}
 use Rattle.solver.proofs.entries.write_strategy.Statement.{statement}

@@ -7,9 +7,9 @@ use lib.ListN.{length}
 use Rattle.rules.specs.Tables.{Tables, words, gameOf, tablesOf}
 use Rattle.rules.specs.Zielonka.{zielonka}
 use Rattle.theory.specs.Tables.{accepted-sound}
-use Rattle.attractor.specs.Area.{free}
-use Rattle.attractor.specs.Views.{words-few}
-use Rattle.zielonka.specs.Level.{Ends}
+use Rattle.area.specs.Area.{free}
+use Rattle.area.specs.Lent.{words-few}
+use Rattle.zielonka.specs.Ending.{Ends}
 use Rattle.zielonka.specs.Solving.{run-preparable, run-called, run-over-budget, run-calls, run-found}
 use Rattle.solver.specs.declared.ran.Ran.{Ran}
 use Rattle.solver.specs.Outputs.{Found, found-writable, found-finished}

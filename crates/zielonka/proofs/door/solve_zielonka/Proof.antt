@@ -13,7 +13,7 @@ use Rattle.rules.specs.Tables.{Tables, gameOf, tablesOf}
 use Rattle.rules.specs.Zielonka.{zielonka}
 use Rattle.theory.specs.Tables.{accepted-sound}
 use Rattle.parity_game.proofs.Matched.{went-on, refusal-not-zero}
-use Rattle.attractor.specs.Answered.{work-cleared}
+use Rattle.area.specs.Lent.{work-cleared}
 use Rattle.solver.specs.Checks.{numbered-checks, Passed, checks-passed}
 use Rattle.solver.specs.declared.ran.Ran.{Ran}
 use Rattle.solver.specs.Running.{outputsOf, Runs, ranOutcome, run-ready, solves-refused, solves-ran}

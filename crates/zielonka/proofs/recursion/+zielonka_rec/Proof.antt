@@ -8,10 +8,11 @@ use native.Mathlib.Omega.{arith}
 use lib.ListN.{length}
 use Rattle.rules.specs.Counting.{count}
 use Rattle.rules.specs.Tables.{Tables, tablesOf}
-use Rattle.attractor.specs.Area.{setAt}
+use Rattle.area.specs.Area.{setAt}
 use Rattle.solver.specs.declared.ran.Ran.{Ran}
-use Rattle.zielonka.specs.Level.{onLevel, Ends}
-use Rattle.zielonka.specs.Steps.{over-first}
+use Rattle.zielonka_level.specs.Level.{onLevel}
+use Rattle.zielonka.specs.Ending.{Ends}
+use Rattle.zielonka_level.specs.Steps.{over-first}
 use Rattle.zielonka.specs.Calling.{level-fits, highest-given, level-empty, level-some, empty-done}
 use Rattle.zielonka.specs.Calling.{member-ready, member-top}
 use Rattle.zielonka.specs.Calling.{Begun, begun-less, begun-called, begun-came, begun-over}
@@ -26,12 +27,12 @@ use Rattle.zielonka.proofs.recursion.+zielonka_rec.Lts-zielonka_rec as 
 use Rattle.parity_game.proofs.set_words.Reads as set-words-reads
 use Rattle.sets.proofs.clear.Reads as clear-reads
 use Rattle.sets.proofs.is_empty.Reads as is-empty-reads
-use Rattle.zielonka.proofs.highest.get_highest_prio.Reads as get-highest-prio-reads
-use Rattle.zielonka.proofs.level.attract_highest.Reads as attract-highest-reads
-use Rattle.zielonka.proofs.level.attract_lost.Reads as attract-lost-reads
-use Rattle.zielonka.proofs.level.join.Reads as join-reads
-use Rattle.zielonka.proofs.level.lost_nothing.Reads as lost-nothing-reads
-use Rattle.zielonka.proofs.level.win_everything.Reads as win-everything-reads
+use Rattle.zielonka_level.proofs.get_highest_prio.Reads as get-highest-prio-reads
+use Rattle.zielonka_level.proofs.attract_highest.Reads as attract-highest-reads
+use Rattle.zielonka_level.proofs.attract_lost.Reads as attract-lost-reads
+use Rattle.zielonka_level.proofs.join.Reads as join-reads
+use Rattle.zielonka_level.proofs.lost_nothing.Reads as lost-nothing-reads
+use Rattle.zielonka_level.proofs.win_everything.Reads as win-everything-reads
 use Rattle.zielonka.proofs.recursion.+zielonka_rec.{statement}
 use Rattle.zielonka.proofs.recursion.+zielonka_rec.Tie.{close}
 

@@ -1,0 +1,146 @@
+-- `advance` meets its contract: the cursor moves, and then the next vertex goes onto the stack, or the top is finished.
+use mathlib.Core.Path.{_∙_}
+use lib.ListN.{length-set}
+use Rattle.depth_first.specs.Graph.{Graph, graph}
+use Rattle.depth_first.specs.Walking.{advance-pushable, advance-pushes, advance-pops}
+use native.Mathlib.Omega.{arith}
+use borrow.Author.Needs.{needs}
+use Rattle.depth_first.proofs.first.advance.Statement.{statement}
+use Rattle.depth_first.proofs.first.advance.Tie as tie
+
+abbrev graph-of : tie.Start → Graph
+graph-of s = graph (s .args .priorities .now) (s .args .offsets .now) (s .args .targets .now) (s .args .entries .now) (s .args .p)
+
+add-marks : tie.Need-add-marks
+add-marks c = search needs
+
+add-marks-2 : tie.Need-add-marks-2
+add-marks-2 c = search needs
+
+add-from : tie.Need-add-from
+add-from c = search needs
+
+mul-from : tie.Need-mul-from
+mul-from c = search needs
+
+slice-read-from : tie.Need-slice-read-from
+slice-read-from c = search needs
+
+sub-from : tie.Need-sub-from
+sub-from c = search needs
+
+next-edge-requires : tie.Need-next-edge-requires
+next-edge-requires c κs = search needs
+
+add-work : tie.Need-add-work
+add-work c = search needs
+
+add-work-2 : tie.Need-add-work-2
+add-work-2 c = search needs
+
+mul-work : tie.Need-mul-work
+mul-work c = search needs
+
+slice-write-work : tie.Need-slice-write-work
+slice-write-work c = search needs
+
+add-if1 : tie.Need-add-if1
+add-if1 c = search needs
+
+mul-if1 : tie.Need-mul-if1
+mul-if1 c = search needs
+
+shared-slice-read-if1 : tie.Need-shared-slice-read-if1
+shared-slice-read-if1 c = search needs
+
+cast-if1 : tie.Need-cast-if1
+cast-if1 c = search needs
+
+target-requires : tie.Need-target-requires
+target-requires c κs = search needs
+
+push-requires : tie.Need-push-requires
+push-requires c κs =
+    let s = c .before .before .before .before .before .before .before .before .before .before .before .before in
+    let a = s .args in
+    let f = c .before .before .before .before .next-edge in
+    rw (c .before .target .ensures)
+    (advance-pushable (graph-of s) (a .work .now) (a .t) (a .at .top) (a .at .done) (s .pre) (f .result) (f .ensures) (c .before .before .if1 .taken))
+
+add-t30 : tie.Need-add-t30
+add-t30 c = search needs
+
+same-length : tie.Need-same-length
+same-length c =
+    let s = c .before .before .before .before .before .before .before .before .before .before .before .before .before .before .before .before in
+    c .before .before .before .push .kept .1 .1 .1 .0 ∙ length-set (s .args .work .now) _ _
+
+returns : tie.Need-returns
+returns c =
+    let s = c .before .before .before .before .before .before .before .before .before .before .before .before .before .before .before .before in
+    let a = s .args in
+    let f = c .before .before .before .before .before .before .before .before .next-edge in
+    advance-pushes (graph-of s) (a .work .now) (a .t) (a .at .top) (a .at .done) (s .pre) (f .result) (f .ensures)
+    (c .before .before .before .before .before .before .if1 .taken) (c .before .before .before .push .last .1 .1 .1 .0)
+    (rw (c .before .before .before .before .before .target .ensures) at (c .before .before .before .push .ensures))
+
+add-work-3 : tie.Need-add-work-3
+add-work-3 c = search needs
+
+add-work-4 : tie.Need-add-work-4
+add-work-4 c = search needs
+
+mul-work-2 : tie.Need-mul-work-2
+mul-work-2 c = search needs
+
+slice-write-work-2 : tie.Need-slice-write-work-2
+slice-write-work-2 c = simp length-set (omega arith)
+
+sub-t15 : tie.Need-sub-t15
+sub-t15 c = search needs
+
+add-t14 : tie.Need-add-t14
+add-t14 c = search needs
+
+same-length-2 : tie.Need-same-length-2
+same-length-2 c = search needs
+
+returns-2 : tie.Need-returns-2
+returns-2 c =
+    let s = c .before .before .before .before .before .before .before .before .before .before .before .before .before in
+    let a = s .args in
+    let f = c .before .before .before .before .before .next-edge in
+    advance-pops (graph-of s) (a .work .now) (a .t) (a .at .top) (a .at .done) (s .pre) (f .result) (f .ensures) (c .before .before .before .if1 .left)
+
+pub advance-spec : {M : Type 1} → statement M
+advance-spec =
+    tie.close
+    (tie.spec
+    add-marks
+    add-marks-2
+    add-from
+    mul-from
+    slice-read-from
+    sub-from
+    next-edge-requires
+    add-work
+    add-work-2
+    mul-work
+    slice-write-work
+    add-if1
+    mul-if1
+    shared-slice-read-if1
+    cast-if1
+    target-requires
+    push-requires
+    add-t30
+    same-length
+    returns
+    add-work-3
+    add-work-4
+    mul-work-2
+    slice-write-work-2
+    sub-t15
+    add-t14
+    same-length-2
+    returns-2)

@@ -1,0 +1,100 @@
+-- `next_edge` meets its contract. The loop's invariant: no edge passed leads to a vertex not yet visited.
+use mathlib.Core.Path.{sym, _∙_}
+use Prim.Native.Nat.{_+_, _-_}
+use Rattle.depth_first.specs.Graph.{Graph, graph}
+use Rattle.depth_first.specs.Walking.{Scanning, scanning-starts, scanning-more, scan-found, scan-nothing}
+use native.Mathlib.Omega.{arith}
+use borrow.Author.Needs.{needs}
+use Rattle.depth_first.proofs.first.next_edge.Statement.{statement}
+use Rattle.depth_first.proofs.first.next_edge.Tie as tie
+
+abbrev Inv-loop : tie.InvT-loop
+Inv-loop priorities offsets targets entries p work t from marks end e₀ e =
+    Scanning (graph priorities offsets targets entries p) work t from end e
+
+abbrev μ-loop : tie.MeasureT-loop
+μ-loop priorities offsets targets entries p work t from marks end e₀ e = end - e
+
+abbrev start-of : tie.At-loop Inv-loop μ-loop → tie.Start Inv-loop μ-loop
+start-of c = c .before .before .before .before .before .before .before
+
+abbrev graph-of : tie.Start Inv-loop μ-loop → Graph
+graph-of s = graph (s .args .priorities .now) (s .args .offsets .now) (s .args .targets .now) (s .args .entries .now) (s .args .p)
+
+add-marks : tie.Need-add-marks Inv-loop μ-loop
+add-marks c = search needs
+
+add-marks-2 : tie.Need-add-marks-2 Inv-loop μ-loop
+add-marks-2 c = search needs
+
+add-end : tie.Need-add-end Inv-loop μ-loop
+add-end c = search needs
+
+mul-end : tie.Need-mul-end Inv-loop μ-loop
+mul-end c = search needs
+
+shared-slice-read-end : tie.Need-shared-slice-read-end Inv-loop μ-loop
+shared-slice-read-end c = search needs
+
+cast-end : tie.Need-cast-end Inv-loop μ-loop
+cast-end c = omega (arith, c .shared-slice-known6 .given (c .before .before .before .before .before .before .args .t + 1))
+
+loop-holds : tie.Need-loop-holds Inv-loop μ-loop
+loop-holds c =
+    let s = c .before .before .before .before .before .before in
+    scanning-starts (graph-of s) (s .args .work .now) (s .args .t) (s .args .from) (s .pre)
+
+target-requires : tie.Need-target-requires Inv-loop μ-loop
+target-requires c κs = search needs
+
+opens-requires : tie.Need-opens-requires Inv-loop μ-loop
+opens-requires c κs =
+    let below = start-of (c .before .before) .pre .sound .edges .target-below (c .before .before .loop .e) (omega arith) in
+    (rw (c .target .ensures) below, omega (arith, c .target .ensures, below))
+
+returns : tie.Need-returns Inv-loop μ-loop
+returns c =
+    let l = c .before .before .before .before in
+    let s = start-of l in
+    scan-found (graph-of s) (s .args .work .now) (s .args .t) (s .args .from) (s .pre) (l .loop .e) (l .loop .inv)
+    (c .before .before .before .loop-test .taken) (rw (c .before .before .target .ensures) at (sym (c .before .opens .ensures) ∙ c .if1 .taken))
+
+add-e : tie.Need-add-e Inv-loop μ-loop
+add-e c = search needs
+
+loop-less : tie.Need-loop-less Inv-loop μ-loop
+loop-less c = search needs
+
+loop-again : tie.Need-loop-again Inv-loop μ-loop
+loop-again c =
+    let l = c .before .before .before .before in
+    let s = start-of l in
+    scanning-more (graph-of s) (s .args .work .now) (s .args .t) (s .args .from) (s .pre) (l .loop .e) (l .loop .inv)
+    (c .before .before .before .loop-test .taken) (rw (c .before .before .target .ensures) at (sym (c .before .opens .ensures) ∙ c .if1 .left))
+
+returns-2 : tie.Need-returns-2 Inv-loop μ-loop
+returns-2 c =
+    let l = c .before in
+    let s = start-of l in
+    scan-nothing (graph-of s) (s .args .work .now) (s .args .t) (s .args .from) (s .pre) (l .loop .e) (l .loop .inv) (c .loop-test .left)
+
+pub next-edge-spec : {M : Type 1} → statement M
+next-edge-spec =
+    tie.close
+    (tie.spec
+    Inv-loop
+    μ-loop
+    add-marks
+    add-marks-2
+    add-end
+    mul-end
+    shared-slice-read-end
+    cast-end
+    loop-holds
+    target-requires
+    opens-requires
+    returns
+    add-e
+    loop-less
+    loop-again
+    returns-2)

@@ -1,0 +1,167 @@
+-- `look_back` meets its contract. The loop's invariant: the entries before e were looked at.
+use mathlib.Core.Logic.{⊎-elim}
+use mathlib.Core.Path.{_≡_, refl, sym, subst, _∙_}
+use Prim.Native.Nat.{ℕ, _+_, _-_, _<_}
+use native.Mathlib.Nat.{le-refl}
+use Rattle.depth_first.specs.Graph.{Graph, graph}
+use Rattle.depth_first.specs.Seeking.{rowStart, Looked, LookingBack, looking-as, looked-starts, entry-vertex, looked-passes, look-putable, looked-puts}
+use native.Mathlib.Omega.{arith}
+use borrow.Author.Needs.{needs}
+use Rattle.depth_first.proofs.second.look_back.Statement.{statement}
+use Rattle.depth_first.proofs.second.look_back.Tie as tie
+
+abbrev Inv-loop : tie.InvT-loop
+Inv-loop priorities offsets targets entries p work₀ w r tail n queue labels end₀ e₀ e-end work end e =
+    LookingBack (graph priorities offsets targets entries p) work₀ w r tail e-end e work end
+
+abbrev μ-loop : tie.MeasureT-loop
+μ-loop priorities offsets targets entries p work₀ w r tail n queue labels end₀ e₀ e-end work end e = e-end - e
+
+abbrev graph-of : tie.Start Inv-loop μ-loop → Graph
+graph-of s = graph (s .args .priorities .now) (s .args .offsets .now) (s .args .targets .now) (s .args .entries .now) (s .args .p)
+
+add-queue : tie.Need-add-queue Inv-loop μ-loop
+add-queue c = search needs
+
+add-queue-2 : tie.Need-add-queue-2 Inv-loop μ-loop
+add-queue-2 c = search needs
+
+add-queue-3 : tie.Need-add-queue-3 Inv-loop μ-loop
+add-queue-3 c = search needs
+
+add-queue-4 : tie.Need-add-queue-4 Inv-loop μ-loop
+add-queue-4 c = search needs
+
+add-labels : tie.Need-add-labels Inv-loop μ-loop
+add-labels c = search needs
+
+mul-e : tie.Need-mul-e Inv-loop μ-loop
+mul-e c = search needs
+
+slice-read-e : tie.Need-slice-read-e Inv-loop μ-loop
+slice-read-e c = search needs
+
+add-e-end : tie.Need-add-e-end Inv-loop μ-loop
+add-e-end c = search needs
+
+mul-e-end : tie.Need-mul-e-end Inv-loop μ-loop
+mul-e-end c = search needs
+
+slice-read-e-end : tie.Need-slice-read-e-end Inv-loop μ-loop
+slice-read-e-end c = search needs
+
+loop-holds : tie.Need-loop-holds Inv-loop μ-loop
+loop-holds c =
+    let s = c .before .before .before .before .before .before .before in
+    record {
+      is-last = refl;
+      low-end = le-refl _;
+      high-end = s .pre .rising;
+      long = refl;
+      looked = looked-starts (graph-of s) (s .args .work .now) (s .args .w) (s .args .r) (s .args .tail) (s .pre);
+    }
+
+add-v : tie.Need-add-v Inv-loop μ-loop
+add-v c = search needs
+
+add-v-2 : tie.Need-add-v-2 Inv-loop μ-loop
+add-v-2 c = search needs
+
+mul-v : tie.Need-mul-v Inv-loop μ-loop
+mul-v c = search needs
+
+slice-read-v : tie.Need-slice-read-v Inv-loop μ-loop
+slice-read-v c = search needs
+
+opens-requires : tie.Need-opens-requires Inv-loop μ-loop
+opens-requires c κs =
+    let s = c .before .before .before .before .before .before .before .before .before .before .before in
+    let l = c .before .before .before .loop in
+    let below = entry-vertex (graph-of s) (s .args .work .now) (s .args .w) (s .args .r) (s .args .tail) (s .pre) (l .e) (l .work) (l .end)
+    (l .inv .looked) (l .inv .low-end) (omega arith) in
+    (below, omega (arith, s .pre .room, l .inv .long))
+
+add-put : tie.Need-add-put Inv-loop μ-loop
+add-put c = search needs
+
+put-requires : tie.Need-put-requires Inv-loop μ-loop
+put-requires c κs =
+    let s = c .before .before .before .before .before .before .before .before .before .before .before .before .before .before in
+    let l = c .before .before .before .before .before .before .loop in
+    look-putable (graph-of s) (s .args .work .now) (s .args .w) (s .args .r) (s .args .tail) (s .pre) (l .e) (l .work) (l .end) (l .inv .looked)
+    (l .inv .low-end) (omega arith) (sym (c .before .before .opens .ensures) ∙ c .before .if1 .taken)
+
+add-end : tie.Need-add-end Inv-loop μ-loop
+add-end c = search needs
+
+add-e : tie.Need-add-e Inv-loop μ-loop
+add-e c = search needs
+
+loop-less : tie.Need-loop-less Inv-loop μ-loop
+loop-less c = search needs
+
+loop-again : tie.Need-loop-again Inv-loop μ-loop
+loop-again c =
+    let s = c .before .before .before .before .before .before .before .before .before .before .before .before .before in
+    let l = c .before .before .before .before .before .loop in
+    let more : l .e < rowStart (s .args .work .now) (s .args .w + 1) = omega arith in
+    let next = ⊎-elim
+    (λ w.
+    looking-as {before = s .args .work .now} (w .5 ∙ w .2 .ensures) (w .6)
+    (looked-puts (graph-of s) (s .args .work .now) (s .args .w) (s .args .r) (s .args .tail) (s .pre) (l .e) (l .work) (l .end) (l .inv .looked)
+    (l .inv .low-end) more (sym (c .before .opens .ensures) ∙ w .0 .taken)))
+    (λ w.
+    looking-as {before = s .args .work .now} (w .1) (w .2)
+    (looked-passes (graph-of s) (s .args .work .now) (s .args .w) (s .args .r) (s .args .tail) (s .pre) (l .e) (l .work) (l .end) (l .inv .looked)
+    (l .inv .low-end) more (sym (c .before .opens .ensures) ∙ w .0 .left)))
+    (c .if1 .came) in
+    record {
+      is-last = refl;
+      low-end = omega arith;
+      high-end = omega arith;
+      long = next .within .long;
+      looked = next;
+    }
+
+same-length : tie.Need-same-length Inv-loop μ-loop
+same-length c = c .before .loop .inv .long
+
+returns : tie.Need-returns Inv-loop μ-loop
+returns c =
+    let s = c .before .before .before .before .before .before .before .before .before in
+    let l = c .before .loop in
+    let end : l .e ≡ rowStart (s .args .work .now) (s .args .w + 1) = omega arith in
+    subst
+    (λ (e : ℕ). Looked (graph-of s) (s .args .work .now) (s .args .w) (s .args .r) (s .args .tail) e (l .work) (l .end))
+    end (l .inv .looked)
+
+pub look-back-spec : {M : Type 1} → statement M
+look-back-spec =
+    tie.close
+    (tie.spec
+    Inv-loop
+    μ-loop
+    add-queue
+    add-queue-2
+    add-queue-3
+    add-queue-4
+    add-labels
+    mul-e
+    slice-read-e
+    add-e-end
+    mul-e-end
+    slice-read-e-end
+    loop-holds
+    add-v
+    add-v-2
+    mul-v
+    slice-read-v
+    opens-requires
+    add-put
+    put-requires
+    add-end
+    add-e
+    loop-less
+    loop-again
+    same-length
+    returns)

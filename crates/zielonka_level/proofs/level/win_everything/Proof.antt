@@ -1,0 +1,79 @@
+-- `win_everything` meets its contract.
+use native.Mathlib.Omega.{arith}
+use Rattle.rules.specs.Game.{parity}
+use Rattle.zielonka_level.specs.PiecesHold.{won-parts, all-extends, all-made}
+use borrow.Author.Needs.{needs}
+use Rattle.zielonka_level.proofs.level.win_everything.Statement.{statement}
+use Rattle.zielonka_level.proofs.level.win_everything.Tie as tie
+
+-- the places of the function, each from the next: where it begins, and after each call
+abbrev start-of : tie.After-clear → tie.Start
+start-of c = c .before .before .before .before .before .before .before
+
+abbrev after-clear : tie.After-won-at → tie.After-clear
+after-clear c = c .before .before .before
+
+abbrev after-won-at : tie.After-copy-with → tie.After-won-at
+after-won-at c = c .before .before
+
+abbrev after-copy : tie.After-extend-arbitrary → tie.After-copy-with
+after-copy c = c .before .before .before .before
+
+mul-clear : tie.Need-mul-clear
+mul-clear c = search needs
+
+add-clear : tie.Need-add-clear
+add-clear c = search needs
+
+mul-clear-2 : tie.Need-mul-clear-2
+mul-clear-2 c = search needs
+
+clear-requires : tie.Need-clear-requires
+clear-requires c κs = search needs
+
+won-at-requires : tie.Need-won-at-requires
+won-at-requires c κs =
+    let g = start-of (c .before .before) in omega (arith, g .pre .high, g .good)
+
+copy-with-requires : tie.Need-copy-with-requires
+copy-with-requires c κs =
+    let placed = c .before in
+    let cleared = after-clear placed in
+    let g = start-of cleared in
+    won-parts (g .args .base) (parity (g .args .p)) (placed .won-at .ensures) (omega arith)
+    (omega (arith, g .pre .high, cleared .clear .kept .0))
+
+extend-arbitrary-requires : tie.Need-extend-arbitrary-requires
+extend-arbitrary-requires c κs =
+    let copied = c .before .before .before in
+    let placed = after-won-at copied in
+    let cleared = after-clear placed in
+    let g = start-of cleared in
+    all-extends (g .args .p) (g .pre) (placed .won-at .ensures) (cleared .clear .ensures) (copied .copy-with .ensures)
+
+same-length : tie.Need-same-length
+same-length c = search needs
+
+returns : tie.Need-returns
+returns c =
+    let extended = c .before .before in
+    let copied = after-copy extended in
+    let placed = after-won-at copied in
+    let cleared = after-clear placed in
+    let g = start-of cleared in
+    all-made (g .args .p) (g .pre) (placed .won-at .ensures) (cleared .clear .ensures) (copied .copy-with .ensures)
+    (extended .extend-arbitrary .ensures)
+
+pub win-everything-spec : {M : Type 1} → statement M
+win-everything-spec =
+    tie.close
+    (tie.spec
+    mul-clear
+    add-clear
+    mul-clear-2
+    clear-requires
+    won-at-requires
+    copy-with-requires
+    extend-arbitrary-requires
+    same-length
+    returns)

@@ -1,0 +1,583 @@
+-- The pieces of a call leave what they promise.
+use mathlib.Core.Bool.{Bool, true, false, _&&_, _||_, not}
+use mathlib.Core.List.{List}
+use mathlib.Core.Logic.{_⊎_, inl, inr}
+use mathlib.Core.Path.{_≡_, refl, sym, ap, ap₂, subst, fun-ext, _∙_}
+use Prim.Native.Nat.{ℕ, zero, suc, _+_, _-_, _*_, _%_, _≤_, _<_, max}
+use native.Mathlib.Omega.{arith}
+use lib.Dec.{eqb}
+use lib.ListN.{length, getD, take, drop}
+use Rattle.rules.specs.Counting.{Set, without, some}
+use Rattle.rules.specs.Game.{Player, Even, Odd, opponent, parity, playerOf}
+use Rattle.rules.specs.Tables.{Tables, gameOf, vertices, edgesIn, words, Accepted, tablesOf}
+use Rattle.rules.specs.Attractor.{attractor}
+use Rattle.rules.specs.Words.{setOf}
+use Rattle.rules.specs.Zielonka.{withPriority}
+use Rattle.sets.specs.After.{Parts, Combined, Cleared, other}
+use Rattle.sets.specs.Laws.{bit-other}
+use Rattle.theory.specs.Attractor.{attractor-below}
+use Rattle.theory.specs.AttractorComplement.{TotalIn}
+use Rattle.theory.specs.Basics.{lt-or-ge, and-left, not-true-is-false}
+use Rattle.theory.specs.Tables.{accepted-sound}
+use Rattle.area.specs.Area.{entries, free, wordsAt, setAt}
+use Rattle.attractor.specs.Attracted.{Attractable, Attracted}
+use Rattle.attractor.specs.Running.{listed-kept}
+use Rattle.area.specs.Lent.{part-is, part-length}
+use Rattle.predecessors.specs.Table.{SoundEdges}
+use Rattle.area.specs.SetsAt.{set-kept, set-cleared, set-copied, set-copied-here, set-united, set-reduced}
+use Rattle.zielonka_level.specs.Level.{nextLevel, wonPlace, onLevel, drawnAt, wonAt, entriesOf, Called, Stays}
+use Rattle.zielonka_level.specs.Steps.{CutBy, AllAt, JoinedAt, stays-on, level-stays, cut-over}
+use Rattle.zielonka_level.specs.Parts.{Collects, Collected}
+use Rattle.zielonka_level.specs.Extending.{Extends, Extended}
+use Rattle.zielonka_level.specs.Pieces.{Ready, Cuttable, Losable}
+
+-- ---- words below a bound stay
+
+pub record Apart (k : ℕ) (before after : List ℕ) : Type 0 where
+  pub long : length after ≡ length before
+  pub low : (i : ℕ) → i < k → getD after i 0 ≡ getD before i 0
+
+pub apart-then : {k : ℕ} {x y z : List ℕ} → Apart k x y → Apart k y z → Apart k x z
+apart-then a b = record { long = b .long ∙ a .long; low = λ i l. b .low i l ∙ a .low i l }
+
+pub apart-cleared : {k at s : ℕ} {x y : List ℕ} → k ≤ at → Cleared at s x y → Apart k x y
+apart-cleared h c = record { long = c .long; low = λ i l. c .rest i (inl (omega arith)) }
+
+pub apart-combined : {k into from s : ℕ} {f : ℕ → ℕ → ℕ} {x y : List ℕ} → k ≤ into → Combined f into from s x y → Apart k x y
+apart-combined h c = record { long = c .long; low = λ i l. c .rest i (inl (omega arith)) }
+
+pub apart-collected :
+    {k p within into : ℕ} {priorities x y : List ℕ} → k ≤ into → Collected priorities p within into x y → Apart k x y
+apart-collected h c = record { long = c .long; low = λ i l. c .rest i (inl (omega arith)) }
+
+module _ (t : Tables) {base k : ℕ} {x y : List ℕ}
+    (low : free (vertices t) (edgesIn t) ≤ base)
+    (high : base + words (vertices t) ≤ k)
+    (a : Apart k x y)
+  where
+    pub apart-stays : Stays t base x y
+    apart-stays =
+        record {
+          long = a .long;
+          table = λ i l. a .low i (omega arith);
+          lower = λ i l h. a .low i (omega arith);
+        }
+
+    pub apart-entries : (v : ℕ) → v < vertices t → entriesOf t y v ≡ entriesOf t x v
+    apart-entries v l = a .low (entries (vertices t) (edgesIn t) + v) (omega arith)
+
+-- what a call asks for stays
+pub called-stays : {t : Tables} {base : ℕ} {x y : List ℕ} → Stays t base x y → Called t base x → Called t base y
+called-stays {t} {base} {x} {y} stays c =
+    record {
+      accepted = c .accepted;
+      table = listed-kept (vertices t) (t .offsets) (t .targets) x y (stays .long) (stays .table) (c .table);
+      low = c .low;
+      room = rw (fun-ext same) (omega (arith, stays .long, c .room));
+      below = λ v p. c .below v (sym (same v) ∙ p);
+      total = subst (λ (S : Set). TotalIn (gameOf t) S) (sym (fun-ext same)) (c .total);
+    }
+  where
+    same : (v : ℕ) → onLevel t base y v ≡ onLevel t base x v
+    same = level-stays (c .low) stays
+
+pub ready-stays : {t : Tables} {s base : ℕ} {x y : List ℕ} → Stays t base x y → Ready t s base x → Ready t s base y
+ready-stays stays r =
+    record { called = called-stays stays (r .called); size = r .size; high = omega (arith, stays .long, r .high) }
+
+-- a cut from an earlier state of the work area
+pub cut-from :
+    {t : Tables} {c : Player} {base : ℕ} {V' T : Set} {x y z : List ℕ} →
+    Stays t base x y →
+    ((v : ℕ) → v < vertices t → entriesOf t y v ≡ entriesOf t x v) →
+    CutBy t c base V' T y z →
+    CutBy t c base V' T x z
+cut-from stays same k =
+    record {
+      stays = stays-on stays (k .stays);
+      cut = k .cut;
+      slot = k .slot;
+      entered = k .entered;
+      kept = λ v l d. k .kept v l d ∙ same v l;
+    }
+
+-- the edges of accepted tables are sound
+pub sound-edges : (t : Tables) → Accepted t → SoundEdges (vertices t) (t .offsets) (t .targets)
+sound-edges t ok =
+    let f = accepted-sound t ok in
+    record {
+      few-vertices = f .few-vertices;
+      few-edges = f .few-edges;
+      offset-each = f .offset-each;
+      offset-first = f .offset-first;
+      offset-next = f .offset-next;
+      offset-last = f .offset-last;
+      target-below = f .target-below;
+    }
+
+-- ---- the cut
+
+-- what `attract` asks for
+pub cut-attractable :
+    {owners offsets targets : List ℕ} {alpha s base : ℕ} {work : List ℕ} →
+    Cuttable owners offsets targets alpha s base work →
+    Attractable owners offsets targets alpha base (base + s) work
+cut-attractable {owners} {offsets} {targets} {s} {base} {work} c =
+    let called = c .ready .called in
+    let size = c .ready .size in
+    let high = c .ready .high in
+    record {
+      placed =
+          record {
+            within-low = called .low;
+            within-high = omega arith;
+            set-low = let low = called .low in omega arith;
+            set-high = omega arith;
+            apart = inl (omega arith);
+          };
+      nested =
+          record {
+            below = called .below;
+            part = λ v p. c .part v (ap (λ (k : ℕ). setAt (length owners) (base + k) work v) (sym size) ∙ p);
+          };
+      edges = sound-edges (tablesOf owners (c .priorities) offsets targets) (called .accepted);
+      listed = called .table;
+      side = c .player;
+    }
+
+module _ {t : Tables} {a : Player} {base looks : ℕ} {w₀ w₁ w₂ w₃ : List ℕ}
+    (ok : Accepted t)
+    (low : free (vertices t) (edgesIn t) ≤ base)
+    (drawn : Attracted t a base (base + words (vertices t)) w₀ w₁ looks)
+    (copied : Combined other (base + 4 * words (vertices t)) base (words (vertices t)) w₁ w₂)
+    (reduced : Combined _-_ (base + 4 * words (vertices t)) (base + words (vertices t)) (words (vertices t)) w₂ w₃)
+  where
+    abbrev n : ℕ
+    n = vertices t
+
+    abbrev s : ℕ
+    s = words (vertices t)
+
+    abbrev S : Set
+    S = attractor (gameOf t) a (onLevel t base w₀) (drawnAt t base w₀)
+
+    -- the words of the attractor are the rules'
+    held : (v : ℕ) → drawnAt t base w₁ v ≡ S v
+    unfolding gameOf
+    held v = go (lt-or-ge v n)
+      where
+        go : (v < n) ⊎ (n ≤ v) → drawnAt t base w₁ v ≡ S v
+        go (inl l) = drawn .holds .bits v l
+        go (inr l) =
+            bit-other (wordsAt n (base + s) w₁) v (drawn .holds .clear v l) ∙
+            sym
+            (not-true-is-false (S v)
+            (λ p. let less = attractor-below (gameOf t) a (onLevel t base w₀) (drawnAt t base w₀) v p in omega arith))
+
+    above : Apart (base + 4 * words (vertices t)) w₁ w₃
+    above = apart-then (apart-combined (omega arith) copied) (apart-combined (omega arith) reduced)
+
+    level : (v : ℕ) → onLevel t base w₁ v ≡ onLevel t base w₀ v
+    level = set-kept n base w₀ w₁ (λ i l h. drawn .rest i (omega arith) (inl (omega arith)))
+
+    rest : (v : ℕ) → onLevel t (nextLevel s base) w₃ v ≡ without (onLevel t base w₀) S v
+    rest v =
+        set-reduced n (base + 4 * s) (base + s) w₂ w₃ reduced v ∙
+        ap₂ (λ (x y : Bool). x && not y)
+        (set-copied-here n (base + 4 * s) base w₁ w₂ copied v ∙ level v)
+        (set-kept n (base + s) w₁ w₂ (λ i l h. copied .rest i (inl (omega arith))) v ∙ held v)
+
+    -- **A cut is made.**
+    pub cut-made : CutBy t a base (onLevel t base w₀) (drawnAt t base w₀) w₀ w₃
+    unfolding gameOf
+    cut-made =
+        record {
+          stays =
+              record {
+                long = above .long ∙ drawn .long;
+                table = λ i l. above .low i (omega arith) ∙ drawn .table i l;
+                lower = λ i l h. above .low i (omega arith) ∙ drawn .rest i l (inl h);
+              };
+          cut = record { drawn = drawn .certificate; left = rest };
+          slot =
+              λ v.
+              set-kept n (base + s) w₁ w₃ (λ i l h. above .low i (omega arith)) v ∙ held v;
+          entered =
+              λ v p out mine.
+              let less = attractor-below (gameOf t) a (onLevel t base w₀) (drawnAt t base w₀) v p in
+              above .low (entries n (edgesIn t) + v) (omega arith) ∙ drawn .entered v p out mine;
+          kept = λ v l d. above .low (entries n (edgesIn t) + v) (omega arith) ∙ drawn .kept v l d;
+        }
+
+-- the same, by the number of words that the code has
+pub cut-done :
+    {owners offsets targets : List ℕ} {alpha s base : ℕ} {w₀ : List ℕ} →
+    Cuttable owners offsets targets alpha s base w₀ →
+    (priorities : List ℕ) →
+    Accepted (tablesOf owners priorities offsets targets) →
+    {looks : ℕ} {w₁ w₂ w₃ : List ℕ} →
+    Attracted (tablesOf owners priorities offsets targets) (playerOf alpha) base (base + s) w₀ w₁ looks →
+    Combined other (base + 4 * s) base s w₁ w₂ →
+    Combined _-_ (base + 4 * s) (base + s) s w₂ w₃ →
+    CutBy (tablesOf owners priorities offsets targets) (playerOf alpha) base
+    (onLevel (tablesOf owners priorities offsets targets) base w₀)
+    (drawnAt (tablesOf owners priorities offsets targets) base w₀)
+    w₀ w₃
+cut-done c priorities ok drawn copied reduced =
+    let size = c .ready .size in
+    cut-made ok (c .ready .called .low) (rw size at drawn) (rw size at copied) (rw size at reduced)
+
+-- the numbers 0 and 1 stand for the players, and 1 less the number for the opponent
+pub other-number : (k : ℕ) → k < 2 → playerOf (1 - k) ≡ opponent (playerOf k)
+other-number zero h = refl
+other-number (suc zero) h = refl
+other-number (suc (suc k)) h = absurd (omega arith)
+
+pub opponent-number : (p : ℕ) → playerOf (1 - p % 2) ≡ opponent (parity p)
+opponent-number p = other-number (p % 2) (omega arith)
+
+-- ---- the first cut
+
+module _ {t : Tables} {s base : ℕ} {w₀ w₁ : List ℕ} (ready : Ready t s base w₀) (cleared : Cleared (base + s) s w₀ w₁) where
+  size : s ≡ words (vertices t)
+  size = ready .size
+
+  long : length (t .priorities) ≡ vertices t
+  long = accepted-sound t (ready .called .accepted) .priority-each
+
+  stays₁ : Stays t base w₀ w₁
+  stays₁ = apart-stays t (ready .called .low) (omega (arith, size)) (apart-cleared {k = base + s} (omega arith) cleared)
+
+  -- what `collect` asks for
+  pub highest-collects : Collects (length (t .priorities)) s base (base + s) w₁
+  highest-collects =
+      rw long
+      (record {
+        size = size;
+        few = accepted-sound t (ready .called .accepted) .few-vertices;
+        parts =
+            record {
+              into-fits = omega (arith, size, ready .high, cleared .long);
+              from-fits = omega (arith, size, ready .high, cleared .long);
+              apart = inr (omega (arith, size));
+            };
+        below = called-stays stays₁ (ready .called) .below;
+        nothing = set-cleared (vertices t) (base + s) s (base + s) cleared (omega arith) (omega (arith, size));
+      })
+
+  module _ {p : ℕ} {w₂ : List ℕ} (collected : Collected (t .priorities) p base (base + s) w₁ w₂) where
+    stays₂ : Stays t base w₀ w₂
+    stays₂ =
+        apart-stays t (ready .called .low) (omega (arith, size))
+        (apart-then (apart-cleared {k = base + s} (omega arith) cleared) (apart-collected (omega arith) collected))
+
+    level₂ : (v : ℕ) → onLevel t base w₂ v ≡ onLevel t base w₀ v
+    level₂ = level-stays (ready .called .low) stays₂
+
+    -- U stands in the attractor's place
+    top-set : (v : ℕ) → drawnAt t base w₂ v ≡ withPriority (gameOf t) (onLevel t base w₀) p v
+    unfolding gameOf
+    top-set v =
+        (rw (long, size) at (collected .set v)) ∙
+        ap (λ (b : Bool). b && eqb (getD (t .priorities) v 0) p) (level-stays (ready .called .low) stays₁ v)
+
+    -- what the cut asks for
+    pub highest-cuttable : Cuttable (t .owners) (t .offsets) (t .targets) (p % 2) s base w₂
+    highest-cuttable =
+        record {
+          priorities = t .priorities;
+          ready = ready-stays stays₂ ready;
+          player = omega arith;
+          part = λ v q. level₂ v ∙ and-left (onLevel t base w₀ v) (eqb (gameOf t .priority v) p) (sym (top-set v) ∙ q);
+        }
+
+    -- **The first cut is made.**
+    pub highest-made :
+        {w₃ : List ℕ} →
+        CutBy t (parity p) base (onLevel t base w₂) (drawnAt t base w₂) w₂ w₃ →
+        CutBy t (parity p) base (onLevel t base w₀) (withPriority (gameOf t) (onLevel t base w₀) p) w₀ w₃
+    highest-made k =
+        cut-from stays₂
+        (apart-entries t (ready .called .low) (omega (arith, size))
+        (apart-then (apart-cleared {k = base + s} (omega arith) cleared) (apart-collected (omega arith) collected)))
+        (cut-over level₂ top-set k)
+
+-- ---- the second cut
+
+module _ {owners offsets targets : List ℕ} {p s base place : ℕ} {w₀ w₁ : List ℕ}
+    (losable : Losable owners offsets targets p s base w₀)
+    (there : place ≡ wonPlace s (base + 4 * s) (playerOf (1 - p % 2)))
+    (copied : Combined other (base + s) place s w₀ w₁)
+  where
+    size₁ : s ≡ words (length owners)
+    size₁ = losable .ready .size
+
+    apart₁ : Apart (base + s) w₀ w₁
+    apart₁ = apart-combined (omega arith) copied
+
+    stays-lost : (priorities : List ℕ) → Stays (tablesOf owners priorities offsets targets) base w₀ w₁
+    stays-lost priorities =
+        apart-stays (tablesOf owners priorities offsets targets) (losable .ready .called .low) (omega (arith, size₁)) apart₁
+
+    level-lost :
+        (priorities : List ℕ) (v : ℕ) →
+        onLevel (tablesOf owners priorities offsets targets) base w₁ v ≡
+        onLevel (tablesOf owners priorities offsets targets) base w₀ v
+    level-lost priorities = level-stays (losable .ready .called .low) (stays-lost priorities)
+
+    -- what the opponent won stands in the attractor's place
+    lost-set :
+        (priorities : List ℕ) (v : ℕ) →
+        drawnAt (tablesOf owners priorities offsets targets) base w₁ v ≡
+        wonAt (tablesOf owners priorities offsets targets) (nextLevel s base) w₀ (opponent (parity p)) v
+    lost-set priorities v =
+        set-copied-here (length owners) (base + words (length owners)) place w₀ w₁ (rw size₁ at copied) v ∙
+        ap (λ (k : ℕ). setAt (length owners) k w₀ v)
+        (there ∙ ap₂ (λ (k : ℕ) (c : Player). wonPlace k (base + 4 * s) c) size₁ (opponent-number p))
+
+    -- what the cut asks for
+    pub lost-cuttable : Cuttable owners offsets targets (1 - p % 2) s base w₁
+    lost-cuttable =
+        record {
+          priorities = losable .priorities;
+          ready = ready-stays (stays-lost (losable .priorities)) (losable .ready);
+          player = omega arith;
+          part = λ v q. level-lost (losable .priorities) v ∙ losable .part v (sym (lost-set (losable .priorities) v) ∙ q);
+        }
+
+    -- **The second cut is made.**
+    pub lost-made :
+        (priorities : List ℕ) {w₂ : List ℕ} →
+        CutBy (tablesOf owners priorities offsets targets) (playerOf (1 - p % 2)) base
+        (onLevel (tablesOf owners priorities offsets targets) base w₁)
+        (drawnAt (tablesOf owners priorities offsets targets) base w₁)
+        w₁ w₂ →
+        CutBy (tablesOf owners priorities offsets targets) (opponent (parity p)) base
+        (onLevel (tablesOf owners priorities offsets targets) base w₀)
+        (wonAt (tablesOf owners priorities offsets targets) (nextLevel s base) w₀ (opponent (parity p)))
+        w₀ w₂
+    lost-made priorities {w₂} k =
+        cut-from (stays-lost priorities)
+        (apart-entries (tablesOf owners priorities offsets targets) (losable .ready .called .low) (omega (arith, size₁)) apart₁)
+        (cut-over (level-lost priorities) (lost-set priorities)
+        (subst
+        (λ (c : Player).
+        CutBy (tablesOf owners priorities offsets targets) c base
+        (onLevel (tablesOf owners priorities offsets targets) base w₁)
+        (drawnAt (tablesOf owners priorities offsets targets) base w₁)
+        w₁ w₂)
+        (opponent-number p)
+        k))
+
+-- ---- what each player wins
+
+-- the two sets of a level stand after V and the attractor
+pub won-range : (s base : ℕ) (c : Player) → (base + 2 * s ≤ wonPlace s base c) × (wonPlace s base c ≤ base + 3 * s)
+won-range s base Even = (omega arith, omega arith)
+won-range s base Odd = (omega arith, omega arith)
+
+-- so each is apart from a set before them
+pub won-parts :
+    {place from s : ℕ} {work : List ℕ} (base : ℕ) (c : Player) →
+    place ≡ wonPlace s base c →
+    from + s ≤ base + 2 * s →
+    base + 4 * s ≤ length work →
+    Parts place from s work
+won-parts {s} base c there low high =
+    let range = won-range s base c in
+    record { into-fits = omega arith; from-fits = omega arith; apart = inr (omega arith) }
+
+-- and apart from each other
+pub won-apart :
+    (s base : ℕ) (c : Player) →
+    (wonPlace s base c + s ≤ wonPlace s base (opponent c)) ⊎ (wonPlace s base (opponent c) + s ≤ wonPlace s base c)
+won-apart s base Even = inl (omega arith)
+won-apart s base Odd = inr (omega arith)
+
+-- a player's set, by how far it stands from the first
+won-offset :
+    (s base : ℕ) (c : Player) →
+    (k : ℕ) × (k ≤ s) × (wonPlace s base c ≡ base + 2 * s + k) × (wonPlace s (base + 4 * s) c ≡ base + 6 * s + k)
+won-offset s base Even = (0, omega arith, omega arith, omega arith)
+won-offset s base Odd = (s, omega arith, omega arith, omega arith)
+
+module _ {t : Tables} {s base : ℕ} (p : ℕ) {place : ℕ} {w₀ w₁ w₂ : List ℕ}
+    (ready : Ready t s base w₀)
+    (there : place ≡ wonPlace s base (parity p))
+    (cleared : Cleared (base + 2 * s) (2 * s) w₀ w₁)
+    (copied : Combined other place base s w₁ w₂)
+  where
+    size₂ : s ≡ words (vertices t)
+    size₂ = ready .size
+
+    apart₂ : Apart (base + s) w₀ w₂
+    apart₂ =
+        let range = won-range s base (parity p) in
+        apart-then (apart-cleared (omega arith) cleared) (apart-combined (omega arith) copied)
+
+    stays-all : Stays t base w₀ w₂
+    stays-all = apart-stays t (ready .called .low) (omega (arith, size₂)) apart₂
+
+    -- what the walk asks for
+    pub all-extends : Extends t s base w₂
+    all-extends =
+        let called = called-stays stays-all (ready .called) in
+        record {
+          accepted = called .accepted;
+          size = size₂;
+          low = called .low;
+          high = omega (arith, size₂, ready .high, stays-all .long);
+          below = called .below;
+          total = called .total;
+        }
+
+    module _ {w₃ : List ℕ} (extended : Extended t p base w₂ w₃) where
+      stays-last : Stays t base w₂ w₃
+      stays-last =
+          record {
+            long = extended .long;
+            table = λ i l. extended .rest i (inl (omega arith));
+            lower = λ i l h. extended .rest i (inr l);
+          }
+
+      level-all : (v : ℕ) → onLevel t base w₂ v ≡ onLevel t base w₀ v
+      level-all = level-stays (ready .called .low) stays-all
+
+      won-kept : (c : Player) (v : ℕ) → wonAt t base w₃ c v ≡ wonAt t base w₂ c v
+      won-kept c =
+          let range = won-range (words (vertices t)) base c in
+          set-kept (vertices t) (wonPlace (words (vertices t)) base c) w₂ w₃
+          (λ i l h. extended .rest i (inr (omega (arith, ready .called .low))))
+
+      place-is : place ≡ wonPlace (words (vertices t)) base (parity p)
+      place-is = there ∙ ap (λ (k : ℕ). wonPlace k base (parity p)) size₂
+
+      -- **p's player wins everything.**
+      pub all-made : AllAt t p base w₀ w₃
+      all-made =
+          record {
+            stays = stays-on stays-all stays-last;
+            mine =
+                λ v.
+                won-kept (parity p) v ∙
+                ap (λ (k : ℕ). setAt (vertices t) k w₂ v) (sym place-is) ∙
+                set-copied-here (vertices t) place base w₁ w₂ (rw size₂ at copied) v ∙
+                level-stays (ready .called .low)
+                (apart-stays t (ready .called .low) (omega (arith, size₂)) (apart-cleared {k = base + s} (omega arith) cleared))
+                v;
+            theirs =
+                λ v.
+                let range = won-range (words (vertices t)) base (opponent (parity p)) in
+                won-kept (opponent (parity p)) v ∙
+                set-kept (vertices t) (wonPlace (words (vertices t)) base (opponent (parity p))) w₁ w₂
+                (λ i l h. copied .rest i (beside i l h (won-apart (words (vertices t)) base (parity p))))
+                v ∙
+                set-cleared (vertices t) (base + 2 * s) (2 * s) (wonPlace (words (vertices t)) base (opponent (parity p))) cleared
+                (omega (arith, size₂))
+                (omega (arith, size₂))
+                v;
+            chosen =
+                λ v u mine.
+                let (e, q) =
+                extended .chosen v (ap (λ (b : Bool). b && eqb (gameOf t .priority v) p) (level-all v) ∙ u, mine) in
+                (e, sym (level-all (entriesOf t w₃ v)) ∙ q);
+            kept =
+                λ v l d.
+                extended .kept v l
+                (λ u. d (ap (λ (b : Bool). b && eqb (gameOf t .priority v) p) (sym (level-all v)) ∙ u .0) (u .1)) ∙
+                apart-entries t (ready .called .low) (omega (arith, size₂)) apart₂ v l;
+          }
+        where
+          beside :
+              (i : ℕ) →
+              wonPlace (words (vertices t)) base (opponent (parity p)) ≤ i →
+              i < wonPlace (words (vertices t)) base (opponent (parity p)) + words (vertices t) →
+              (wonPlace (words (vertices t)) base (parity p) + words (vertices t) ≤
+              wonPlace (words (vertices t)) base (opponent (parity p))) ⊎
+              (wonPlace (words (vertices t)) base (opponent (parity p)) + words (vertices t) ≤
+              wonPlace (words (vertices t)) base (parity p)) →
+              (i < place) ⊎ (place + s ≤ i)
+          beside i l h (inl q) = inr (omega (arith, place-is, size₂))
+          beside i l h (inr q) = inl (omega (arith, place-is, size₂))
+
+module _ {s base : ℕ} (p : ℕ) {place : ℕ} {w₀ w₁ w₂ : List ℕ}
+    (copied : Combined other (base + 2 * s) (base + 6 * s) (2 * s) w₀ w₁)
+    (there : place ≡ wonPlace s base (playerOf (1 - p % 2)))
+    (united : Combined max place (base + s) s w₁ w₂)
+    (t : Tables)
+    (sized : s ≡ words (vertices t))
+    (low : free (vertices t) (edgesIn t) ≤ base)
+  where
+    place-lost : place ≡ wonPlace (words (vertices t)) base (opponent (parity p))
+    place-lost = there ∙ ap₂ (λ (k : ℕ) (c : Player). wonPlace k base c) sized (opponent-number p)
+
+    apart-join : Apart (base + 2 * s) w₀ w₂
+    apart-join =
+        let range = won-range s base (playerOf (1 - p % 2)) in
+        apart-then (apart-combined (omega arith) copied) (apart-combined (omega arith) united)
+
+    -- each player's set comes from the next level
+    from-next : (c : Player) (v : ℕ) → wonAt t base w₁ c v ≡ wonAt t (nextLevel (words (vertices t)) base) w₀ c v
+    from-next c v =
+        let n = vertices t in
+        let (k, few, here, next) = won-offset (words n) base c in
+        ap (λ (x : ℕ). setAt n x w₁ v) here ∙
+        set-copied n (base + 2 * words n) (base + 6 * words n) (2 * words n) w₀ w₁ (rw sized at copied) k (omega arith) v ∙
+        ap (λ (x : ℕ). setAt (vertices t) x w₀ v) (sym next)
+
+    -- **The sets are joined.**
+    pub joined-made : JoinedAt t p base w₀ w₂
+    joined-made =
+        record {
+          stays = apart-stays t low (omega (arith, sized)) apart-join;
+          mine =
+              λ v.
+              set-kept (vertices t) (wonPlace (words (vertices t)) base (parity p)) w₁ w₂
+              (λ i l h. united .rest i (beside i l h (won-apart (words (vertices t)) base (parity p))))
+              v ∙
+              from-next (parity p) v;
+          theirs =
+              λ v.
+              ap (λ (x : ℕ). setAt (vertices t) x w₂ v) (sym place-lost) ∙
+              set-united (vertices t) place (base + words (vertices t)) w₁ w₂ (rw sized at united) v ∙
+              ap₂ (λ (x y : Bool). x || y)
+              (ap (λ (x : ℕ). setAt (vertices t) x w₁ v) place-lost ∙ from-next (opponent (parity p)) v)
+              (set-kept (vertices t) (base + words (vertices t)) w₀ w₁ (λ i l h. copied .rest i (inl (omega (arith, sized)))) v) ∙
+              or-swap
+              (wonAt t (nextLevel (words (vertices t)) base) w₀ (opponent (parity p)) v)
+              (drawnAt t base w₀ v);
+          entries = apart-entries t low (omega (arith, sized)) apart-join;
+        }
+      where
+        beside :
+            (i : ℕ) →
+            wonPlace (words (vertices t)) base (parity p) ≤ i →
+            i < wonPlace (words (vertices t)) base (parity p) + words (vertices t) →
+            (wonPlace (words (vertices t)) base (parity p) + words (vertices t) ≤
+            wonPlace (words (vertices t)) base (opponent (parity p))) ⊎
+            (wonPlace (words (vertices t)) base (opponent (parity p)) + words (vertices t) ≤
+            wonPlace (words (vertices t)) base (parity p)) →
+            (i < place) ⊎ (place + s ≤ i)
+        beside i l h (inl q) = inl (omega (arith, place-lost, sized))
+        beside i l h (inr q) = inr (omega (arith, place-lost, sized))
+
+        or-swap : (x y : Bool) → (x || y) ≡ (y || x)
+        or-swap true true = refl
+        or-swap true false = refl
+        or-swap false true = refl
+        or-swap false false = refl
+
+-- whether the opponent won nothing, by the part that is lent
+pub lost-told :
+    (s base p : ℕ) {place : ℕ} (work : List ℕ) {r : Bool} →
+    place ≡ wonPlace s base (playerOf (1 - p % 2)) →
+    place + s ≤ length work →
+    (let lent = take ((place + s) - place) (drop place work) in r ≡ not (some (64 * length lent) (setOf lent))) →
+    r ≡ not (some (64 * s) (setOf (take s (drop (wonPlace s base (opponent (parity p))) work))))
+lost-told s base p {place} work there fits told =
+    let there′ : place ≡ wonPlace s base (opponent (parity p)) =
+    there ∙ ap (λ (c : Player). wonPlace s base c) (opponent-number p) in
+    told ∙
+    ap (λ (xs : List ℕ). not (some (64 * length xs) (setOf xs))) (part-is place s work) ∙
+    ap (λ (k : ℕ). not (some (64 * k) (setOf (take s (drop place work))))) (part-length place s work fits) ∙
+    ap (λ (k : ℕ). not (some (64 * s) (setOf (take s (drop k work))))) there′

@@ -1,0 +1,100 @@
+// The highest priority in V, the vertices that have it, and an edge inside V for each of them.
+use parity_game::Priority;
+use walk::Members;
+use walk::Next;
+ghost use mathlib.Core.Path.{_≡_};
+ghost use lib.ListN.{length};
+ghost use Rattle.rules.specs.Words.{setOf};
+ghost use Rattle.zielonka_level.specs.Parts.{highestOf, Searchable, Collects, Collected, Inside, Ends};
+ghost use Rattle.zielonka_level.specs.Extending.{Extends, Extended};
+ghost use Rattle.rules.specs.Tables.{tablesOf};
+
+// The highest priority in V, its members found by words.
+pub fn get_highest_prio(priorities: &[u16], set: &[u64]) -> Priority
+    requires { ⌜ Searchable (length (now priorities)) (now set) ⌝ }
+    ensures { λ r. ⌜ r .0 ≡ highestOf (now (priorities .entry)) (setOf (now (set .entry))) ⌝ }
+{
+    let mut highest: u16 = 0;
+    let mut walk = Members::new(set);
+    loop {
+        let next = walk.next(set);
+        let Next::Member(member, rest) = next else {
+            return Priority(highest as usize);
+        };
+        let v = member.0;
+        let p = priorities[v];
+        if highest < p {
+            highest = p;
+        }
+        walk = rest;
+    }
+}
+
+// U: the members of V with priority p, found by words.
+pub fn collect(priorities: &[u16], p: usize, s: usize, work: &mut [u64], within: usize, into: usize)
+    requires { ⌜ Collects (length (now priorities)) s within into (now work) ⌝ }
+    ensures { λ r. ⌜ Collected (now (priorities .entry)) p within into (now (work .entry)) (now (work .exit)) ⌝ }
+{
+    let mut walk = Members::new(&work[within..within + s]);
+    loop {
+        let next = walk.next(&work[within..within + s]);
+        let Next::Member(member, rest) = next else {
+            return;
+        };
+        let v = member.0;
+        if priorities[v] as usize == p {
+            sets::insert(&mut work[into..into + s], v);
+        }
+        walk = rest;
+    }
+}
+
+// The end of the first edge of v that ends inside the set.
+fn first_inside(offsets: &[u16], targets: &[u16], v: usize, set: &[u64]) -> u16
+    requires { ⌜ Inside (now offsets) (now targets) v (now set) ⌝ }
+    ensures { λ r. ⌜ Ends (now (offsets .entry)) (now (targets .entry)) v (now (set .entry)) r ⌝ }
+{
+    for e in offsets[v]..offsets[v + 1] {
+        let w = targets[e as usize];
+        if sets::contains(set, w as usize) {
+            return w;
+        }
+    }
+    0
+}
+
+// Each vertex of V of priority p that p's player owns takes an edge inside V, found by words.
+pub fn extend_arbitrary(
+    owners: &[u8],
+    priorities: &[u16],
+    offsets: &[u16],
+    targets: &[u16],
+    p: usize,
+    s: usize,
+    work: &mut [u64],
+    base: usize,
+)
+    requires { ⌜ Extends (tablesOf (now owners) (now priorities) (now offsets) (now targets)) s base (now work) ⌝ }
+    ensures { λ r.
+        ⌜ Extended
+        (tablesOf (now (owners .entry)) (now (priorities .entry)) (now (offsets .entry)) (now (targets .entry)))
+        p base (now (work .entry)) (now (work .exit)) ⌝ }
+{
+    let n = owners.len();
+    let m = targets.len();
+    let mut walk = Members::new(&work[base..base + s]);
+    loop {
+        let next = walk.next(&work[base..base + s]);
+        let Next::Member(member, rest) = next else {
+            return;
+        };
+        let v = member.0;
+        if priorities[v] as usize == p {
+            if owners[v] as usize == p % 2 {
+                let w = first_inside(offsets, targets, v, &work[base..base + s]);
+                work[n + 1 + m + n + n + v] = w as u64;
+            }
+        }
+        walk = rest;
+    }
+}

@@ -1,0 +1,159 @@
+// The pieces of a call, over the four sets of its level: V at `base`, then the attractor, then what Even and Odd win.
+// The next level begins after them. `s` is the words of a set, `p` the highest priority in V.
+use crate::highest::collect;
+use crate::highest::extend_arbitrary;
+ghost use mathlib.Core.List.{List};
+ghost use mathlib.Core.Bool.{not};
+ghost use mathlib.Core.Path.{_≡_};
+ghost use Prim.Native.Nat.{ℕ, _+_, _*_, _-_, _%_, _^_, _≤_, _<_};
+ghost use lib.ListN.{length, take, drop};
+ghost use Rattle.rules.specs.Counting.{some};
+ghost use Rattle.rules.specs.Game.{opponent, parity, playerOf};
+ghost use Rattle.rules.specs.Tables.{Tables, Accepted, gameOf, vertices, edgesIn, words, tablesOf};
+ghost use Rattle.rules.specs.Words.{setOf};
+ghost use Rattle.rules.specs.Zielonka.{withPriority};
+ghost use Rattle.area.specs.Area.{free};
+ghost use Rattle.zielonka_level.specs.Level.{nextLevel, wonPlace, onLevel, drawnAt, wonAt};
+ghost use Rattle.zielonka_level.specs.Steps.{CutBy, AllAt, JoinedAt};
+ghost use Rattle.zielonka_level.specs.Pieces.{Ready, Cuttable, Losable};
+
+// Where the set that a player wins stands at a level; 0 is Even.
+fn won_at(base: usize, s: usize, player: usize) -> usize
+    requires { ⌜ base + 3 * s < 2 ^ 64 ⌝ }
+    ensures { λ r. ⌜ r ≡ wonPlace s base (playerOf player) ⌝ }
+{
+    if player == 0 {
+        base + 2 * s
+    } else {
+        base + 3 * s
+    }
+}
+
+// Draws to the set in the attractor's place, and puts V without the attractor at the next level.
+fn cut(
+    owners: &[u8],
+    offsets: &[u16],
+    targets: &[u16],
+    alpha: u8,
+    s: usize,
+    work: &mut [u64],
+    base: usize,
+)
+    requires { ⌜ Cuttable (now owners) (now offsets) (now targets) alpha s base (now work) ⌝ }
+    ensures { λ r.
+        ⌜ ((priorities : List ℕ) →
+        Accepted (tablesOf (now (owners .entry)) priorities (now (offsets .entry)) (now (targets .entry))) →
+        CutBy (tablesOf (now (owners .entry)) priorities (now (offsets .entry)) (now (targets .entry)))
+        (playerOf alpha) base
+        (onLevel (tablesOf (now (owners .entry)) priorities (now (offsets .entry)) (now (targets .entry))) base
+        (now (work .entry)))
+        (drawnAt (tablesOf (now (owners .entry)) priorities (now (offsets .entry)) (now (targets .entry))) base
+        (now (work .entry)))
+        (now (work .entry)) (now (work .exit))) ⌝ }
+{
+    attractor::attract(owners, offsets, targets, alpha, work, base, base + s);
+    sets::copy_with(work, base + 4 * s, base, s);
+    sets::difference_with(work, base + 4 * s, base + s, s);
+}
+
+// U: the vertices of V with priority p; A: the attractor of U for p's player. V without A goes to the next level.
+pub fn attract_highest(
+    owners: &[u8],
+    priorities: &[u16],
+    offsets: &[u16],
+    targets: &[u16],
+    p: usize,
+    s: usize,
+    work: &mut [u64],
+    base: usize,
+)
+    requires { ⌜ Ready (tablesOf (now owners) (now priorities) (now offsets) (now targets)) s base (now work) ⌝ }
+    ensures { λ r.
+        ⌜ CutBy (tablesOf (now (owners .entry)) (now (priorities .entry)) (now (offsets .entry))
+        (now (targets .entry))) (parity p) base
+        (onLevel (tablesOf (now (owners .entry)) (now (priorities .entry)) (now (offsets .entry))
+        (now (targets .entry))) base (now (work .entry)))
+        (withPriority (gameOf (tablesOf (now (owners .entry)) (now (priorities .entry)) (now (offsets .entry))
+        (now (targets .entry))))
+        (onLevel (tablesOf (now (owners .entry)) (now (priorities .entry)) (now (offsets .entry))
+        (now (targets .entry))) base (now (work .entry))) p)
+        (now (work .entry)) (now (work .exit)) ⌝ }
+{
+    sets::clear(work, base + s, s);
+    collect(priorities, p, s, work, base, base + s);
+    cut(owners, offsets, targets, (p % 2) as u8, s, work, base);
+}
+
+// B: the attractor of what the opponent of p's player won at the next level, for that opponent. V without B goes to
+// the next level.
+pub fn attract_lost(
+    owners: &[u8],
+    offsets: &[u16],
+    targets: &[u16],
+    p: usize,
+    s: usize,
+    work: &mut [u64],
+    base: usize,
+)
+    requires { ⌜ Losable (now owners) (now offsets) (now targets) p s base (now work) ⌝ }
+    ensures { λ r.
+        ⌜ ((priorities : List ℕ) →
+        Accepted (tablesOf (now (owners .entry)) priorities (now (offsets .entry)) (now (targets .entry))) →
+        CutBy (tablesOf (now (owners .entry)) priorities (now (offsets .entry)) (now (targets .entry)))
+        (opponent (parity p)) base
+        (onLevel (tablesOf (now (owners .entry)) priorities (now (offsets .entry)) (now (targets .entry))) base
+        (now (work .entry)))
+        (wonAt (tablesOf (now (owners .entry)) priorities (now (offsets .entry)) (now (targets .entry)))
+        (nextLevel s base) (now (work .entry)) (opponent (parity p)))
+        (now (work .entry)) (now (work .exit))) ⌝ }
+{
+    let lost = won_at(base + 4 * s, s, 1 - p % 2);
+    sets::copy_with(work, base + s, lost, s);
+    cut(owners, offsets, targets, (1 - p % 2) as u8, s, work, base);
+}
+
+// Whether the opponent of p's player won nothing at a level.
+pub fn lost_nothing(p: usize, s: usize, work: &[u64], base: usize) -> bool
+    requires { ⌜ base + 4 * s ≤ length (now work) ⌝ }
+    ensures { λ r.
+        ⌜ r ≡ not (some (64 * s) (setOf (take s
+        (drop (wonPlace s base (opponent (parity p))) (now (work .entry)))))) ⌝ }
+{
+    let lost = won_at(base, s, 1 - p % 2);
+    sets::is_empty(&work[lost..lost + s])
+}
+
+// p's player wins V, and its vertices of priority p take any edge inside V.
+pub fn win_everything(
+    owners: &[u8],
+    priorities: &[u16],
+    offsets: &[u16],
+    targets: &[u16],
+    p: usize,
+    s: usize,
+    work: &mut [u64],
+    base: usize,
+)
+    requires { ⌜ Ready (tablesOf (now owners) (now priorities) (now offsets) (now targets)) s base (now work) ⌝ }
+    ensures { λ r.
+        ⌜ AllAt (tablesOf (now (owners .entry)) (now (priorities .entry)) (now (offsets .entry))
+        (now (targets .entry))) p base
+        (now (work .entry)) (now (work .exit)) ⌝ }
+{
+    sets::clear(work, base + 2 * s, 2 * s);
+    let won = won_at(base, s, p % 2);
+    sets::copy_with(work, won, base, s);
+    extend_arbitrary(owners, priorities, offsets, targets, p, s, work, base);
+}
+
+// Each player wins what it won at the next level, and the opponent of p's player B too.
+pub fn join(p: usize, s: usize, work: &mut [u64], base: usize)
+    requires { ⌜ base + 8 * s ≤ length (now work) ⌝ }
+    ensures { λ r.
+        ⌜ ((t : Tables) → s ≡ words (vertices t) → free (vertices t) (edgesIn t) ≤ base →
+        JoinedAt t p base (now (work .entry)) (now (work .exit))) ⌝ }
+{
+    sets::copy_with(work, base + 2 * s, base + 6 * s, 2 * s);
+    let lost = won_at(base, s, 1 - p % 2);
+    sets::union_with(work, lost, base + s, s);
+}
