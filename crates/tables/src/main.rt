@@ -52,22 +52,36 @@ fn places() {
 
 // A game of two self loops, broken in one place for each line: 2, 4, 6, 7 and 8.
 fn broken() {
-    report(b"one priority", &[0, 1], &[0], &[0, 1, 2], &[0, 1]);
-    report(b"two offsets", &[0, 1], &[0, 1], &[0, 1], &[0, 1]);
+    broken_lengths();
     report(b"owner 2", &[0, 2], &[0, 1], &[0, 1, 2], &[0, 1]);
-    report(b"offsets 1,1,2", &[0, 1], &[0, 1], &[1, 1, 2], &[0, 1]);
-    report(b"offsets 0,1,1", &[0, 1], &[0, 1], &[0, 1, 1], &[0, 1]);
+    broken_offsets();
     report(b"target 2", &[0, 1], &[0, 1], &[0, 1, 2], &[0, 2]);
     report(b"no edge", &[0, 1], &[0, 1], &[0, 2, 2], &[0, 1]);
 }
 
-fn worked() {
+fn broken_lengths() {
+    report(b"one priority", &[0, 1], &[0], &[0, 1, 2], &[0, 1]);
+    report(b"two offsets", &[0, 1], &[0, 1], &[0, 1], &[0, 1]);
+}
+
+fn broken_offsets() {
+    report(b"offsets 1,1,2", &[0, 1], &[0, 1], &[1, 1, 2], &[0, 1]);
+    report(b"offsets 0,1,1", &[0, 1], &[0, 1], &[0, 1, 1], &[0, 1]);
+}
+
+fn worked_small() {
     report(b"C1", &[], &[], &[0], &[]);
     report(b"C2", &[0], &[0], &[0, 1], &[0]);
     report(b"C3", &[0], &[1], &[0, 1], &[0]);
+}
+
+fn worked_two() {
     report(b"C4", &[0, 1], &[0, 1], &[0, 1, 3], &[1, 0, 1]);
     report(b"C5", &[1, 0], &[1, 2], &[0, 2, 3], &[1, 1, 1]);
     report(b"C6", &[0, 1], &[2, 1], &[0, 1, 2], &[1, 1]);
+}
+
+fn worked_more() {
     report(b"C7", &[0, 1], &[2, 0], &[0, 1, 3], &[1, 0, 1]);
     report(
         b"C8",
@@ -85,5 +99,7 @@ fn main() {
     edges();
     places();
     broken();
-    worked();
+    worked_small();
+    worked_two();
+    worked_more();
 }
