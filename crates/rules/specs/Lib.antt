@@ -15,3 +15,5 @@ pub mod Attracts
 pub mod Solitaire
 pub mod Checker
 pub mod Compaction
+pub mod Pgsolver
+pub mod Reading
