@@ -1,3 +1,7 @@
 -- The machine that reads a text byte by byte, and that it gives what the rules say.
 pub mod Machine
+pub mod Free
+pub mod Classes
+pub mod Pieces
+pub mod Standing
 pub mod Waiting
