@@ -4,4 +4,5 @@ pub mod Free
 pub mod Classes
 pub mod Pieces
 pub mod Standing
+pub mod Reaches
 pub mod Waiting
