@@ -27,15 +27,18 @@ of-class b = first (separates b) refl
     last : (t : Bool) → isLetter b ≡ t → (b ≡ quote → ⊥) → OfClass b (cond t letterByte otherByte)
     last true e q = letter q e
     last false e q = other q
+
     fifth : (t : Bool) → eqb b quote ≡ t → OfClass b (cond t quoteByte (cond (isLetter b) letterByte otherByte))
     fifth true e = aQuote (eqb-true b quote e)
     fifth false e = last (isLetter b) refl (eqb-false b quote e)
+
     fourth :
         (t : Bool) →
         eqb b semicolon ≡ t →
         OfClass b (cond t semicolonByte (cond (eqb b quote) quoteByte (cond (isLetter b) letterByte otherByte)))
     fourth true e = aSemicolon (eqb-true b semicolon e)
     fourth false e = fifth (eqb b quote) refl
+
     third :
         (t : Bool) →
         eqb b comma ≡ t →
@@ -44,6 +47,7 @@ of-class b = first (separates b) refl
         (cond (eqb b semicolon) semicolonByte (cond (eqb b quote) quoteByte (cond (isLetter b) letterByte otherByte))))
     third true e = aComma (eqb-true b comma e)
     third false e = fourth (eqb b semicolon) refl
+
     second :
         (t : Bool) →
         isDigit b ≡ t →
@@ -53,6 +57,7 @@ of-class b = first (separates b) refl
         (cond (eqb b semicolon) semicolonByte (cond (eqb b quote) quoteByte (cond (isLetter b) letterByte otherByte)))))
     second true e = digit e
     second false e = third (eqb b comma) refl
+
     first :
         (t : Bool) →
         separates b ≡ t →
@@ -105,9 +110,15 @@ pub digit-class : (b : ℕ) → isDigit b ≡ true → classOf b ≡ digitByte
 unfolding classOf
 digit-class b h = rw (digit-no-separator b h, h)
 
--- a quote neither separates nor is a digit
+-- a quote is of one class
 pub separator-no-quote : (b : ℕ) → separates b ≡ true → b ≡ quote → ⊥
 separator-no-quote b h e = true≢false (sym h ∙ ap separates e)
 
 pub digit-no-quote : (b : ℕ) → isDigit b ≡ true → b ≡ quote → ⊥
 digit-no-quote b h e = true≢false (sym h ∙ ap isDigit e)
+
+pub comma-no-quote : (b : ℕ) → b ≡ comma → b ≡ quote → ⊥
+comma-no-quote b h e = omega (arith, h, e)
+
+pub semicolon-no-quote : (b : ℕ) → b ≡ semicolon → b ≡ quote → ⊥
+semicolon-no-quote b h e = omega (arith, h, e)

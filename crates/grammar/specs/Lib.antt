@@ -5,4 +5,5 @@ pub mod Classes
 pub mod Pieces
 pub mod Standing
 pub mod Reaches
+pub mod Sound
 pub mod Waiting
