@@ -6,4 +6,5 @@ pub mod Pieces
 pub mod Standing
 pub mod Reaches
 pub mod Sound
+pub mod Viable
 pub mod Waiting
