@@ -7,4 +7,5 @@ pub mod Standing
 pub mod Reaches
 pub mod Sound
 pub mod Viable
+pub mod Limited
 pub mod Waiting
