@@ -8,4 +8,6 @@ pub mod Reaches
 pub mod Sound
 pub mod Viable
 pub mod Limited
+pub mod Runs
+pub mod Correct
 pub mod Waiting

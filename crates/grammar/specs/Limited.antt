@@ -57,7 +57,7 @@ far l s = farAt (s .phase) l s
 abbrev pub limited : Limits → Went → Went
 limited l (on s) = cond (far l s) over (on s)
 limited l off = off
-limited l over = over
+limited l over = off
 
 -- ---- the machine's step is that
 
