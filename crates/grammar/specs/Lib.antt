@@ -10,4 +10,5 @@ pub mod Viable
 pub mod Limited
 pub mod Runs
 pub mod Correct
+pub mod OneReading
 pub mod Waiting
