@@ -11,4 +11,5 @@ pub mod Limited
 pub mod Runs
 pub mod Correct
 pub mod OneReading
+pub mod WorkedText
 pub mod Waiting

@@ -143,7 +143,7 @@ C6 =
     }
 
 -- C7: E2→1; O0→0,1. Even wins both; 3 calls, 3 rounds, one promotion.
-pub C7 : Worked
+unfoldable pub C7 : Worked
 C7 =
     record {
       tables =
