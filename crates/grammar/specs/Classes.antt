@@ -1,13 +1,14 @@
 -- What the class of a byte says of it, and the class of each byte that the grammar names.
-use mathlib.Core.Bool.{Bool, true, false, true≢false, cond, _&&_, _||_}
-use mathlib.Core.Path.{_≡_, refl, sym, ap, subst, _∙_}
-use Prim.Native.Nat.{ℕ, _≤_, _<_}
+use mathlib.Core.Bool.{Bool, true, false, true≢false, cond}
+use mathlib.Core.Path.{_≡_, refl, sym, ap, _∙_}
+use Prim.Native.Nat.{ℕ, _≤_}
 use native.Mathlib.Omega.{arith}
 use borrow.Author.Tests.{eqb-true, eqb-false, leb-true, ne-eqb}
 use lib.Dec.{eqb, leb}
 use Rattle.rules.specs.Pgsolver.{separates, isDigit, quote, comma, semicolon}
-use Rattle.theory.specs.Basics.{and-left, and-right, or-cases, or-false-both}
-use Rattle.grammar.specs.Machine.{Class, separatorByte, digitByte, commaByte, semicolonByte, quoteByte, letterByte, otherByte}
+use Rattle.theory.specs.Basics.{and-left, and-right}
+use Rattle.grammar.specs.Machine.{Class, separatorByte, digitByte, commaByte, semicolonByte, quoteByte, letterByte}
+use Rattle.grammar.specs.Machine.{otherByte}
 use Rattle.grammar.specs.Machine.{classOf, isLetter, Went, byClass, Machine, on}
 
 -- a byte of each class
@@ -79,7 +80,7 @@ pub by-class :
     (b ≡ comma → m ≡ on t → G) →
     (b ≡ semicolon → e ≡ on t → G) →
     (b ≡ quote → q ≡ on t → G) →
-    ((b ≡ quote → ⊥) → isLetter b ≡ true → l ≡ on t → G) →
+    ((b ≡ quote → ⊥) × (isLetter b ≡ true) → l ≡ on t → G) →
     ((b ≡ quote → ⊥) → o ≡ on t → G) →
     G
 by-class G (separator h) r fs fd fm fe fq fl fo = fs h r
@@ -87,7 +88,7 @@ by-class G (digit h) r fs fd fm fe fq fl fo = fd h r
 by-class G (aComma h) r fs fd fm fe fq fl fo = fm h r
 by-class G (aSemicolon h) r fs fd fm fe fq fl fo = fe h r
 by-class G (aQuote h) r fs fd fm fe fq fl fo = fq h r
-by-class G (letter n h) r fs fd fm fe fq fl fo = fl n h r
+by-class G (letter n h) r fs fd fm fe fq fl fo = fl (n, h) r
 by-class G (other n) r fs fd fm fe fq fl fo = fo n r
 
 -- ---- the class of a separator and of a digit
@@ -103,8 +104,12 @@ pub digit-no-separator : (b : ℕ) → isDigit b ≡ true → separates b ≡ fa
 digit-no-separator b h =
     let r = digit-range b h in
     let p : (48 ≤ b) = r .0 in
-    rw
-    (ne-eqb b 32 (λ e. omega arith), ne-eqb b 9 (λ e. omega arith), ne-eqb b 13 (λ e. omega arith), ne-eqb b 10 (λ e. omega arith))
+    rw (
+      ne-eqb b 32 (λ e. omega arith),
+      ne-eqb b 9 (λ e. omega arith),
+      ne-eqb b 13 (λ e. omega arith),
+      ne-eqb b 10 (λ e. omega arith),
+    )
 
 pub digit-class : (b : ℕ) → isDigit b ≡ true → classOf b ≡ digitByte
 unfolding classOf

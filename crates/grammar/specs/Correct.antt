@@ -1,9 +1,9 @@
 -- What the machine gives is what the rules say of the text: its verdict, the header and the records.
 use mathlib.Core.Bool.{Bool, true, false, true≢false, cond}
-use mathlib.Core.List.{List, [], _∷_, _++_, append-assoc, append-nil}
-use mathlib.Core.Logic.{_⊎_, inl, inr, ⊎-elim}
+use mathlib.Core.List.{List, [], _∷_, _++_, append-nil}
+use mathlib.Core.Logic.{inl, inr, ⊎-elim}
 use mathlib.Core.Path.{_≡_, refl, sym, ap, subst, _∙_}
-use Prim.Native.Nat.{ℕ, zero, suc, _+_, _≤_, _<_}
+use Prim.Native.Nat.{ℕ, suc, _≤_, _<_}
 use native.Mathlib.Omega.{arith}
 use borrow.Author.Tests.{ltb-true, ltb-false}
 use lib.Dec.{ltb}
@@ -13,10 +13,10 @@ use Rattle.rules.specs.Outcome.{Verdict, none, refused}
 use Rattle.rules.specs.Pgsolver.{Entry, Header, unsaid, Blank, Opening, Records, Text, Viable}
 use Rattle.rules.specs.Reading.{Limits, Stuck, Beyond, Over, Reads}
 use Rattle.theory.specs.Basics.{below-suc}
-use Rattle.grammar.specs.Machine.{Machine, atFirst, Went, on, off, over, Run, live, ended, next, runFrom, mayEnd, Read}
+use Rattle.grammar.specs.Machine.{Machine, atFirst, Went, on, off, over, Run, live, ended, runFrom, mayEnd, Read}
 use Rattle.grammar.specs.Machine.{endOf, readingOf, nothingRead}
-use Rattle.grammar.specs.Free.{freeStep, freeRun, follow, Goes, goes-first, goes-same, off-not-on, over-not-on}
-use Rattle.grammar.specs.Standing.{restPhase, resting, Before, Stands}
+use Rattle.grammar.specs.Free.{freeStep, follow, Goes, goes-first, goes-same, off-not-on, over-not-on}
+use Rattle.grammar.specs.Standing.{Before, Stands}
 use Rattle.grammar.specs.Reaches.{reaches, stands-same}
 use Rattle.grammar.specs.Sound.{stands-on}
 use Rattle.grammar.specs.Viable.{grow, stands-viable, viable-goes, text-ends, ends-text, text-stands}
@@ -40,7 +40,7 @@ below-length : {text : List ℕ} (s : List ℕ) (b : ℕ) (t : List ℕ) → s +
 below-length {text} s b t e =
     subst (λ (r : List ℕ). length s < length r) e (omega (arith, length-append s (b ∷ t)))
 
--- viable bytes have no viable place before them where it is stuck
+-- a text is stuck at no place of its viable bytes
 pub not-stuck : {text : List ℕ} {j : ℕ} (s t : List ℕ) → Stuck text j → s ++ t ≡ text → Viable s → j < length s → ⊥
 not-stuck {text} s t (Stuck.byte j h v n) e w p =
     n
@@ -217,7 +217,9 @@ reads-along l text s (b ∷ t) x small a =
         ReadsAs l text (endOf (length text) (runFrom l (length (s ++ (b ∷ []))) (live y) t))
 
     byte : b < 256
-    byte = subst (λ (c : ℕ). c < 256) (ap (λ (r : List ℕ). getD r (length s) 0) (sym (a .split)) ∙ getD-append-seam s b t 0) (small (length s))
+    byte =
+        subst (λ (c : ℕ). c < 256) (ap (λ (r : List ℕ). getD r (length s) 0) (sym (a .split)) ∙ getD-append-seam s b t 0)
+        (small (length s))
 
     onward :
         Onward →

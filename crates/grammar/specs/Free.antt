@@ -1,5 +1,5 @@
 -- The machine without limits: the same steps, but none says over. A run of it over some bytes, and how runs follow one another.
-use mathlib.Core.Bool.{true, cond}
+use mathlib.Core.Bool.{cond}
 use mathlib.Core.List.{List, [], _∷_, _++_}
 use mathlib.Core.Path.{_≡_, refl, sym, ap, subst, _∙_}
 use Prim.Native.Nat.{ℕ, suc, _-_}

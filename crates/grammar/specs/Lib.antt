@@ -1,4 +1,5 @@
--- The machine that reads a text byte by byte, and that it gives what the rules say.
+-- The machine that reads a text byte by byte, and that it gives what the rules say: without limits it stands exactly where the
+-- grammar's pieces say, the limits stop it where the rules do, and a text has one reading.
 pub mod Machine
 pub mod Free
 pub mod Classes

@@ -1,22 +1,22 @@
 -- The machine is the one without limits, stopped where its state is beyond a limit; and that is where the rules say 32.
 use mathlib.Core.Bool.{Bool, true, false, true≢false, cond, _||_}
-use mathlib.Core.List.{List, [], _∷_, _++_}
+use mathlib.Core.List.{List, [], _∷_}
 use mathlib.Core.Logic.{⊎-elim}
-use mathlib.Core.Path.{_≡_, refl, sym, ap, subst, _∙_}
-use Prim.Native.Nat.{ℕ, zero, suc, _+_, _-_, _≤_, _<_}
+use mathlib.Core.Path.{_≡_, refl, sym, subst, _∙_}
+use Prim.Native.Nat.{ℕ, suc, _-_}
 use native.Mathlib.Omega.{arith}
 use borrow.Author.Tests.{ltb-true, ltb-false, lt-ltb, le-ltb, leb-true, le-leb, lt-leb}
 use lib.Dec.{eqb, leb, ltb}
 use lib.ListN.{length, getD}
-use Rattle.rules.specs.Pgsolver.{isDigit, parityWord, Number, Entry, Header, unsaid, highest}
-use Rattle.rules.specs.Reading.{Limits, highestNumber, targetsIn, Kind, asHighest, asIdentifier, asPriority, asOwner, asTarget}
-use Rattle.rules.specs.Reading.{Awaits, TooMuch, Beyond}
+use Rattle.rules.specs.Pgsolver.{isDigit, parityWord, Entry, Header, unsaid, highest}
+use Rattle.rules.specs.Reading.{Limits, highestNumber, Kind, asHighest, asIdentifier, asPriority, asOwner, asTarget}
+use Rattle.rules.specs.Reading.{TooMuch, Beyond}
 use Rattle.theory.specs.Basics.{or-left, or-right, or-cases, or-false-both}
-use Rattle.grammar.specs.Machine.{Class, byClass, Machine, Went, on, off, over, reading, longer, targetsRead, stepFrom, begins, to}
+use Rattle.grammar.specs.Machine.{Class, byClass, Machine, Went, on, off, over, reading, targetsRead, stepFrom, begins, to}
 use Rattle.grammar.specs.Machine.{Phase, atStart, inWord, pastWord, inHighest, pastHighest, betweenRecords, inIdentifier}
 use Rattle.grammar.specs.Machine.{pastIdentifier, inPriority, pastPriority, inOwner, pastOwner, inTarget, pastTarget}
 use Rattle.grammar.specs.Machine.{pastComma, inName, pastName}
-use Rattle.grammar.specs.Free.{freeFrom}
+use Rattle.grammar.specs.Free.{freeFrom, starts}
 use Rattle.grammar.specs.Classes.{OfClass, digit-range}
 use Rattle.grammar.specs.Standing.{restPhase, fieldPhase, resting, fielding, inPhase, Before, Stands, awaits, awaited}
 use Rattle.grammar.specs.Reaches.{stands-same}
@@ -87,12 +87,21 @@ limited-class (OfClass.aQuote h) ps pd pm pe pq pw po = pq .same
 limited-class (OfClass.letter n h) ps pd pm pe pq pw po = pw .same
 limited-class (OfClass.other n) ps pd pm pe pq pw po = po .same
 
-stay : (l : Limits) (s : Machine) → far l s ≡ false → on s ≡ limited l (on s)
-stay l s h = rw h
+-- where only a separator or a digit goes on
+limited-two :
+    {b : ℕ} {c : Class} {s s′ d d′ : Went} {l : Limits} →
+    OfClass b c →
+    Stops l s s′ →
+    (isDigit b ≡ true → Stops l d d′) →
+    byClass c s d off off off off off ≡ limited l (byClass c s′ d′ off off off off off)
+limited-two v ps pd = limited-class v ps pd (alike refl) (alike refl) (alike refl) (alike refl) (alike refl)
 
-limited-cond : (l : Limits) (t : Bool) (s : Machine) → far l s ≡ false → cond t (on s) off ≡ limited l (cond t (on s) off)
+stay : (l : Limits) (s : Machine) → far l s ≡ false → Stops l (on s) (on s)
+stay l s h = alike (rw h)
+
+limited-cond : (l : Limits) (t : Bool) (s : Machine) → far l s ≡ false → Stops l (cond t (on s) off) (cond t (on s) off)
 limited-cond l true s h = stay l s h
-limited-cond l false s h = refl
+limited-cond l false s h = alike refl
 
 -- one digit is no large number
 digit-small : (b : ℕ) → isDigit b ≡ true → ltb highestNumber (b - 48) ≡ false
@@ -114,6 +123,19 @@ kept a c d x y g =
     let e : a ≡ false = or-false-both a d g .0 in
     rw e
 
+-- the first digit of an identifier, and of a target
+identifier-begins :
+    (b : ℕ) (l : Limits) (s : Machine) →
+    isDigit b ≡ true →
+    Stops l (begins (ltb (length (s .entries)) (l .vertices)) inIdentifier s b) (starts inIdentifier s b)
+identifier-begins b l s h = alike (room (length (s .entries)) (l .vertices) _ _ _ (digit-small b h))
+
+target-begins :
+    (b : ℕ) (l : Limits) (s : Machine) →
+    isDigit b ≡ true →
+    Stops l (begins (ltb (targetsRead s) (l .edges)) inTarget s b) (starts inTarget s b)
+target-begins b l s h = alike (room (targetsRead s) (l .edges) _ _ _ (digit-small b h))
+
 pub step-limited :
     {b : ℕ} {c : Class} (φ : Phase) (l : Limits) (s : Machine) →
     OfClass b c →
@@ -122,36 +144,44 @@ pub step-limited :
     stepFrom φ l s b c ≡ limited l (freeFrom φ s b c)
 unfolding stepFrom
 step-limited {b} atStart l s v f g =
-    limited-class v (alike (stay l s f)) (λ h. alike (room (length (s .entries)) (l .vertices) _ _ _ (digit-small b h))) (alike refl) (alike refl) (alike refl)
-    (alike (limited-cond l (eqb b (getD parityWord 0 0)) (to (inWord 1) s) refl))
+    limited-class v (stay l s f) (identifier-begins b l s) (alike refl) (alike refl) (alike refl)
+    (limited-cond l (eqb b (getD parityWord 0 0)) (to (inWord 1) s) refl)
     (alike refl)
 step-limited {b} (inWord k) l s v f g =
-    limited-class v (alike (limited-cond l (eqb k 6) (to pastWord s) refl)) (λ h. alike refl) (alike refl) (alike refl) (alike refl)
-    (alike (limited-cond l (eqb b (getD parityWord k 0)) (to (inWord (suc k)) s) refl))
+    limited-class v (limited-cond l (eqb k 6) (to pastWord s) refl) (λ h. alike refl) (alike refl) (alike refl) (alike refl)
+    (limited-cond l (eqb b (getD parityWord k 0)) (to (inWord (suc k)) s) refl)
     (alike refl)
 step-limited {b} pastWord l s v f g =
-    limited-class v (alike (stay l s f)) (λ h. alike (stay l (reading inHighest (b - 48) s) (digit-small b h))) (alike refl) (alike refl) (alike refl) (alike refl) (alike refl)
-step-limited inHighest l s v f g = limited-class v (alike refl) (λ h. alike refl) (alike refl) (alike refl) (alike refl) (alike refl) (alike refl)
-step-limited pastHighest l s v f g = limited-class v (alike (stay l s f)) (λ h. alike refl) (alike refl) (alike refl) (alike refl) (alike refl) (alike refl)
-step-limited {b} betweenRecords l s v f g =
-    limited-class v (alike (stay l s f)) (λ h. alike (room (length (s .entries)) (l .vertices) _ _ _ (digit-small b h))) (alike refl) (alike refl) (alike refl) (alike refl) (alike refl)
-step-limited {b} inIdentifier l s v f g =
-    limited-class v (alike refl) (λ h. alike (kept (leb (l .vertices) (length (s .entries))) _ (ltb highestNumber (s .value)) _ _ g)) (alike refl) (alike refl) (alike refl) (alike refl) (alike refl)
+    limited-two v (stay l s f) (λ h. stay l (reading inHighest (b - 48) s) (digit-small b h))
+step-limited inHighest l s v f g =
+    limited-class v (alike refl) (λ h. alike refl) (alike refl) (alike refl) (alike refl) (alike refl) (alike refl)
+step-limited pastHighest l s v f g =
+    limited-class v (stay l s f) (λ h. alike refl) (alike refl) (alike refl) (alike refl) (alike refl) (alike refl)
+step-limited {b} betweenRecords l s v f g = limited-two v (stay l s f) (identifier-begins b l s)
+step-limited inIdentifier l s v f g =
+    limited-two v (alike refl)
+    (λ h. alike (kept (leb (l .vertices) (length (s .entries))) _ (ltb highestNumber (s .value)) _ _ g))
 step-limited {b} pastIdentifier l s v f g =
-    limited-class v (alike (stay l s f)) (λ h. alike (stay l (reading inPriority (b - 48) s) (digit-small b h))) (alike refl) (alike refl) (alike refl) (alike refl) (alike refl)
-step-limited inPriority l s v f g = limited-class v (alike refl) (λ h. alike refl) (alike refl) (alike refl) (alike refl) (alike refl) (alike refl)
+    limited-two v (stay l s f) (λ h. stay l (reading inPriority (b - 48) s) (digit-small b h))
+step-limited inPriority l s v f g = limited-two v (alike refl) (λ h. alike refl)
 step-limited {b} pastPriority l s v f g =
-    limited-class v (alike (stay l s f)) (λ h. alike (stay l (reading inOwner (b - 48) s) (digit-small b h))) (alike refl) (alike refl) (alike refl) (alike refl) (alike refl)
-step-limited inOwner l s v f g = limited-class v (alike refl) (λ h. alike refl) (alike refl) (alike refl) (alike refl) (alike refl) (alike refl)
-step-limited {b} pastOwner l s v f g =
-    limited-class v (alike (stay l s f)) (λ h. alike (room (targetsRead s) (l .edges) _ _ _ (digit-small b h))) (alike refl) (alike refl) (alike refl) (alike refl) (alike refl)
-step-limited inTarget l s v f g = limited-class v (alike refl) (λ h. alike (kept (leb (l .edges) (targetsRead s)) _ (ltb highestNumber (s .value)) _ _ g)) (alike refl) (alike refl) (alike refl) (alike refl) (alike refl)
-step-limited pastTarget l s v f g = limited-class v (alike (stay l s f)) (λ h. alike refl) (alike refl) (alike refl) (alike refl) (alike refl) (alike refl)
-step-limited {b} pastComma l s v f g =
-    limited-class v (alike (stay l s f)) (λ h. alike (room (targetsRead s) (l .edges) _ _ _ (digit-small b h))) (alike refl) (alike refl) (alike refl) (alike refl) (alike refl)
+    limited-two v (stay l s f) (λ h. stay l (reading inOwner (b - 48) s) (digit-small b h))
+step-limited inOwner l s v f g = limited-two v (alike refl) (λ h. alike refl)
+step-limited {b} pastOwner l s v f g = limited-two v (stay l s f) (target-begins b l s)
+step-limited inTarget l s v f g =
+    limited-class v (alike refl) (λ h. alike (kept (leb (l .edges) (targetsRead s)) _ (ltb highestNumber (s .value)) _ _ g))
+    (alike refl)
+    (alike refl)
+    (alike refl)
+    (alike refl)
+    (alike refl)
+step-limited pastTarget l s v f g =
+    limited-class v (stay l s f) (λ h. alike refl) (alike refl) (alike refl) (alike refl) (alike refl) (alike refl)
+step-limited {b} pastComma l s v f g = limited-two v (stay l s f) (target-begins b l s)
 step-limited inName l s v f g =
-    limited-class v (alike (stay l s f)) (λ h. alike (stay l s f)) (alike (stay l s f)) (alike (stay l s f)) (alike refl) (alike (stay l s f)) (alike (stay l s f))
-step-limited pastName l s v f g = limited-class v (alike (stay l s f)) (λ h. alike refl) (alike refl) (alike refl) (alike refl) (alike refl) (alike refl)
+    limited-class v (stay l s f) (λ h. stay l s f) (stay l s f) (stay l s f) (alike refl) (stay l s f) (stay l s f)
+step-limited pastName l s v f g =
+    limited-class v (stay l s f) (λ h. alike refl) (alike refl) (alike refl) (alike refl) (alike refl) (alike refl)
 
 -- ---- and it stops where the rules say
 

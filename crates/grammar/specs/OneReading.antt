@@ -1,10 +1,10 @@
--- The rules give one reading of a text, and the texts that get none of 30 to 32 are exactly those of the grammar that keep the limits
--- and the rule on identifiers.
-use mathlib.Core.Bool.{Bool, true, false, true≢false, not, cond}
-use mathlib.Core.List.{List, [], _∷_, _++_, map, append-nil}
+-- The rules give one reading of a text, and the texts that get none of 30 to 32 are exactly those of the grammar that keep the
+-- limits and the rule on identifiers.
+use mathlib.Core.Bool.{Bool, true, false, not}
+use mathlib.Core.List.{List, [], map, append-nil}
 use mathlib.Core.Logic.{_↔_, ⊎-elim}
-use mathlib.Core.Path.{_≡_, refl, sym, ap, subst, _∙_}
-use Prim.Native.Nat.{ℕ, zero, suc, _+_, _-_, _≤_, _<_}
+use mathlib.Core.Path.{_≡_, refl, sym, ap, subst}
+use Prim.Native.Nat.{ℕ, _+_, _≤_, _<_}
 use native.Mathlib.Omega.{arith}
 use borrow.Author.Tests.{eqb-true, eq-eqb, not-false}
 use lib.Dec.{eqb}
@@ -14,10 +14,10 @@ use Rattle.rules.specs.Counting.{times, some}
 use Rattle.rules.specs.Outcome.{Verdict, none, refused, given, givenAt, _then_}
 use Rattle.rules.specs.Pgsolver.{Entry, Header, unsaid, highest, Text, Viable}
 use Rattle.rules.specs.Reading.{Limits, Stuck, Over, Reads, check31, wrongHighest}
-use Rattle.theory.specs.Basics.{lt-or-ge, bool-cases, some-false, false-some}
+use Rattle.theory.specs.Basics.{lt-or-ge, some-false, false-some}
 use Rattle.grammar.specs.Machine.{Machine}
 use Rattle.grammar.specs.Reaches.{stands-same}
-use Rattle.grammar.specs.Viable.{grow, text-viable, text-stands}
+use Rattle.grammar.specs.Viable.{text-viable, text-stands}
 use Rattle.grammar.specs.Correct.{not-stuck}
 
 -- ---- one reading
@@ -52,7 +52,10 @@ stuck-text {text} (Stuck.byte k h v n) t = not-stuck text [] (Stuck.byte k h v n
 stuck-text (Stuck.end v n) t = n _ _ t
 
 same-place : {j k : ℕ} → (j < k → ⊥) → (k < j → ⊥) → j ≡ k
-same-place {j} {k} p q = ⊎-elim (λ h. absurd (p h)) (λ h. ⊎-elim (λ g. absurd (q g)) (λ g. omega (arith, h, g)) (lt-or-ge k j)) (lt-or-ge j k)
+same-place {j} {k} p q = ⊎-elim (λ h. absurd (p h)) above (lt-or-ge j k)
+  where
+    above : k ≤ j → j ≡ k
+    above h = ⊎-elim (λ g. absurd (q g)) (λ g. omega (arith, h, g)) (lt-or-ge k j)
 
 -- 32 and 30 are not both given
 beyond-and-stuck :

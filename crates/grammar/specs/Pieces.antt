@@ -48,7 +48,11 @@ recorded-more z h (Recorded.recorded {s} {t} {b} {c} {d} {e} {w} f n bb nc bd) =
     (sym (simp append-assoc))
     (Recorded.recorded f n bb nc (blank-more z h bd))
 
-pub records-more : {s : List ℕ} {o : Header} {es : List Entry} (b : ℕ) → separates b ≡ true → Records s o es → Records (s ++ (b ∷ [])) o es
+pub records-more :
+    {s : List ℕ} {o : Header} {es : List Entry} (b : ℕ) →
+    separates b ≡ true →
+    Records s o es →
+    Records (s ++ (b ∷ [])) o es
 records-more z h (Records.opened p) = Records.opened (opening-more z h p)
 records-more z h (Records.another {s} {r} {h = o} {es} {e} p q) =
     subst (λ (t : List ℕ). Records t o (es ++ (e ∷ [])))

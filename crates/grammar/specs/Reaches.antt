@@ -2,20 +2,23 @@
 use mathlib.Core.Bool.{true}
 use mathlib.Core.List.{List, [], _∷_, _++_, append-assoc}
 use mathlib.Core.Path.{_≡_, refl, sym, ap, subst, _∙_}
-use Prim.Native.Nat.{ℕ, zero, suc, _+_, _-_, _<_}
+use Prim.Native.Nat.{ℕ, zero, suc, _-_, _<_}
 use native.Mathlib.Omega.{arith}
-use lib.ListN.{length, take}
-use Rattle.rules.specs.Pgsolver.{separates, isDigit, quote, comma, semicolon, parityWord, Entry, withTarget, Header, unsaid, highest}
+use lib.ListN.{take}
+use Rattle.rules.specs.Pgsolver.{separates, isDigit, quote, comma, semicolon, parityWord, Entry, withTarget, Header, unsaid}
+use Rattle.rules.specs.Pgsolver.{highest}
 use Rattle.rules.specs.Pgsolver.{Blank, Gap, Number, Quoted, Name, Fields, Recorded, Opening, Records}
-use Rattle.rules.specs.Reading.{Kind, asHighest, asIdentifier, asPriority, asOwner, asTarget}
-use Rattle.grammar.specs.Machine.{Class, separatorByte, digitByte, commaByte, semicolonByte, quoteByte, classOf, Machine, Went, on, off, atFirst, noEntryYet, to}
-use Rattle.grammar.specs.Machine.{reading, longer, closed}
-use Rattle.grammar.specs.Machine.{Phase, atStart, inWord, pastWord, inHighest, pastHighest, betweenRecords, inIdentifier}
-use Rattle.grammar.specs.Machine.{pastIdentifier, inPriority, pastPriority, inOwner, pastOwner, inTarget, pastTarget}
-use Rattle.grammar.specs.Machine.{pastComma, inName, pastName}
+use Rattle.rules.specs.Reading.{Kind}
+use Rattle.grammar.specs.Machine.{Class, separatorByte, digitByte, commaByte, semicolonByte, quoteByte, classOf, Machine}
+use Rattle.grammar.specs.Machine.{on, atFirst, noEntryYet, to}
+use Rattle.grammar.specs.Machine.{reading, longer}
+use Rattle.grammar.specs.Machine.{Phase, inWord, pastWord, inHighest, pastHighest, betweenRecords, inIdentifier}
+use Rattle.grammar.specs.Machine.{pastIdentifier, pastPriority, inTarget, pastTarget}
+use Rattle.grammar.specs.Machine.{inName, pastName}
 use Rattle.grammar.specs.Free.{freeFrom, Steps, Goes, stays, goes-step, goes-on, goes-same}
 use Rattle.grammar.specs.Classes.{separator-class, digit-class, of-class, OfClass}
-use Rattle.grammar.specs.Standing.{restPhase, fieldPhase, having, resting, fielding, inPhase, rest-after, field-after}
+use Rattle.grammar.specs.Standing.{fieldPhase, numbered, rankedAs, having, resting, fielding, inPhase, rest-after}
+use Rattle.grammar.specs.Standing.{field-after}
 use Rattle.grammar.specs.Standing.{Before, Aimed, Stands}
 
 -- ---- one byte
@@ -145,9 +148,9 @@ goes-opened (Opening.headed {k = k} ba gb nc bd be) =
 goes-fields : {r : List ℕ} {e : Entry} (h : Header) (es : List Entry) → Fields r e → Goes (resting h es) r (fielding h es e)
 goes-fields h es (Fields.begun {i = i} {p} na gb nc gd ne gf) =
     goes-on (goes-number (rest-counts h es) na)
-    (goes-on (goes-gap {t = having pastIdentifier h es (record { identifier = i; priority = 0; owner = 0; targets = [] })} (parts (λ b. refl)) (parts (λ b. refl)) gb)
+    (goes-on (goes-gap {t = having pastIdentifier h es (numbered i)} (parts (λ b. refl)) (parts (λ b. refl)) gb)
     (goes-on (goes-number (counts (λ b. refl) (λ v b. refl)) nc)
-    (goes-on (goes-gap {t = having pastPriority h es (record { identifier = i; priority = p; owner = 0; targets = [] })} (parts (λ b. refl)) (parts (λ b. refl)) gd)
+    (goes-on (goes-gap {t = having pastPriority h es (rankedAs i p)} (parts (λ b. refl)) (parts (λ b. refl)) gd)
     (goes-on (goes-number (counts (λ b. refl) (λ v b. refl)) ne) (goes-gap (parts (λ b. refl)) (parts (λ b. refl)) gf)))))
 goes-fields h es (Fields.target {e = e} {w} f n bb bc) =
     goes-on (goes-fields h es f)
@@ -198,10 +201,15 @@ goes-named h es e q g =
     goes-on (goes-quoted h es e q) (goes-step (on-class quoteByte quote-class refl) (goes-blank (parts (λ b. refl)) g))
 
 -- the record is whole
-closes : (h : Header) (es : List Entry) (e : Entry) → having betweenRecords h (es ++ (e ∷ [])) noEntryYet ≡ resting h (es ++ (e ∷ []))
+closes :
+    (h : Header) (es : List Entry) (e : Entry) →
+    having betweenRecords h (es ++ (e ∷ [])) noEntryYet ≡ resting h (es ++ (e ∷ []))
 closes h es e = ap (λ (φ : Phase). having φ h (es ++ (e ∷ [])) noEntryYet) (sym (rest-after h es e))
 
-goes-recorded : {r : List ℕ} {e : Entry} (h : Header) (es : List Entry) → Recorded r e → Goes (resting h es) r (resting h (es ++ (e ∷ [])))
+goes-recorded :
+    {r : List ℕ} {e : Entry} (h : Header) (es : List Entry) →
+    Recorded r e →
+    Goes (resting h es) r (resting h (es ++ (e ∷ [])))
 goes-recorded h es (Recorded.recorded {e = e} {w} f n bb Name.absent bd) =
     goes-target-byte h es f n bb (on-class semicolonByte semicolon-class (ap on (closes h es (withTarget e w))))
     (on-class semicolonByte semicolon-class (ap on (closes h es (withTarget e w))))
@@ -226,7 +234,7 @@ goes-before (Before.identified {h = h} {es} r a b) =
 goes-before (Before.ranked {h = h} {es} {i} r a b c d) =
     goes-on (goes-records r)
     (goes-on (goes-number (rest-counts h es) a)
-    (goes-on (goes-gap {t = having pastIdentifier h es (record { identifier = i; priority = 0; owner = 0; targets = [] })} (parts (λ b. refl)) (parts (λ b. refl)) b)
+    (goes-on (goes-gap {t = having pastIdentifier h es (numbered i)} (parts (λ b. refl)) (parts (λ b. refl)) b)
     (goes-on (goes-number (counts (λ b. refl) (λ v b. refl)) c) (goes-gap (parts (λ b. refl)) (parts (λ b. refl)) d))))
 goes-before (Before.fielded {h = h} {es} r f) = goes-on (goes-records r) (goes-fields h es f)
 

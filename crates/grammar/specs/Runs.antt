@@ -1,14 +1,14 @@
 -- Laws of a run: over two parts one after the other, after a verdict, and by one byte.
-use mathlib.Core.Bool.{Bool, true, false, cond}
+use mathlib.Core.Bool.{false, cond}
 use mathlib.Core.List.{List, [], _∷_, _++_}
-use mathlib.Core.Path.{_≡_, refl, sym, ap, _∙_}
-use Prim.Native.Nat.{ℕ, zero, suc, _+_}
+use mathlib.Core.Path.{_≡_, refl, ap, _∙_}
+use Prim.Native.Nat.{ℕ, suc, _+_}
 use native.Mathlib.Omega.{arith}
 use lib.Dec.{ltb}
 use lib.ListN.{length}
 use Rattle.rules.specs.Outcome.{Verdict, refused}
 use Rattle.rules.specs.Reading.{Limits}
-use Rattle.grammar.specs.Machine.{Machine, Went, on, off, over, classOf, stepAt, Run, live, ended, next, runFrom}
+use Rattle.grammar.specs.Machine.{Machine, Went, on, off, over, stepAt, Run, live, ended, next, runFrom}
 use Rattle.grammar.specs.Free.{freeStep}
 use Rattle.grammar.specs.Classes.{of-class}
 use Rattle.grammar.specs.Limited.{far, limited, step-limited}

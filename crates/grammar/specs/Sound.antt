@@ -3,25 +3,27 @@ use mathlib.Core.Bool.{Bool, true, false, true≢false, cond}
 use mathlib.Core.Logic.{⊎-elim}
 use mathlib.Core.List.{List, [], _∷_, _++_, append-assoc, append-nil}
 use mathlib.Core.Path.{_≡_, refl, sym, ap, subst, _∙_}
-use Prim.Native.Nat.{ℕ, zero, suc, _+_, _-_, _≤_, _<_}
+use Prim.Native.Nat.{ℕ, suc, _≤_, _<_}
 use native.Mathlib.Omega.{arith}
 use borrow.Author.Tests.{eqb-true}
 use lib.Dec.{eqb, lit<}
 use lib.ListN.{length, length-append, take, getD}
 use lib.Seq.{take-suc}
-use Rattle.rules.specs.Pgsolver.{separates, isDigit, quote, comma, semicolon, parityWord, Entry, withTarget, Header, unsaid, highest}
+use Rattle.rules.specs.Pgsolver.{separates, isDigit, quote, comma, semicolon, parityWord, Entry, withTarget, Header, unsaid}
+use Rattle.rules.specs.Pgsolver.{highest}
 use Rattle.rules.specs.Pgsolver.{Blank, Gap, Number, Quoted, Name, Fields, Recorded, Opening, Records}
-use Rattle.rules.specs.Reading.{Kind, asHighest, asIdentifier, asPriority, asOwner, asTarget}
-use Rattle.grammar.specs.Machine.{Class, classOf, byClass, Machine, Went, on, off, atFirst, noEntryYet, to, isLetter}
-use Rattle.grammar.specs.Machine.{reading, longer, closed}
-use Rattle.grammar.specs.Machine.{Phase, atStart, inWord, pastWord, inHighest, pastHighest, betweenRecords, inIdentifier}
-use Rattle.grammar.specs.Machine.{pastIdentifier, inPriority, pastPriority, inOwner, pastOwner, inTarget, pastTarget}
+use Rattle.rules.specs.Reading.{Kind, asTarget}
+use Rattle.grammar.specs.Machine.{Class, byClass, Machine, on, off, atFirst, noEntryYet, to, isLetter}
+use Rattle.grammar.specs.Machine.{reading, longer}
+use Rattle.grammar.specs.Machine.{Phase, inWord, pastHighest, betweenRecords}
+use Rattle.grammar.specs.Machine.{pastTarget}
 use Rattle.grammar.specs.Machine.{pastComma, inName, pastName}
-use Rattle.grammar.specs.Free.{freeFrom, freeStep, starts, grows, Goes, on-same, off-not-on, over-not-on}
-use Rattle.grammar.specs.Classes.{OfClass, of-class, by-class, separator-no-quote, digit-no-quote, comma-no-quote, semicolon-no-quote}
+use Rattle.grammar.specs.Free.{freeFrom, freeStep, starts, on-same, off-not-on}
+use Rattle.grammar.specs.Classes.{OfClass, of-class, by-class, separator-no-quote, digit-no-quote, comma-no-quote}
+use Rattle.grammar.specs.Classes.{semicolon-no-quote}
 use Rattle.theory.specs.Basics.{lt-or-ge}
-use Rattle.grammar.specs.Pieces.{blank-more, blank-one, gap-more, gap-one, gap-blank, quoted-more, fields-more, records-more}
-use Rattle.grammar.specs.Standing.{restPhase, fieldPhase, having, resting, fielding, inPhase, rest-after, field-after}
+use Rattle.grammar.specs.Pieces.{blank-more, gap-more, gap-one, gap-blank, quoted-more, fields-more, records-more}
+use Rattle.grammar.specs.Standing.{restPhase, fieldPhase, having, resting, inPhase, rest-after, field-after}
 use Rattle.grammar.specs.Standing.{Before, Aimed, Stands}
 
 highest-said : {k : ℕ} → highest k ≡ unsaid → ⊥
@@ -40,6 +42,10 @@ not-empty es e p =
 land : {s : List ℕ} {x t : Machine} → Stands s x → on x ≡ on t → Stands s t
 land {s} p r = subst (λ (y : Machine). Stands s y) (on-same r) p
 
+-- no step
+gone : {A G : Type 0} {t : Machine} → A → off ≡ on t → G
+gone a r = absurd (off-not-on r)
+
 -- the same bytes, in other brackets
 bracket : {s t : List ℕ} {x : Machine} → Stands s x → s ≡ t → Stands t x
 bracket {x = x} p e = subst (λ (r : List ℕ). Stands r x) e p
@@ -52,7 +58,10 @@ rebracket {k} {n} {m} {x = x} p e = subst (λ (r : List ℕ). Before k n m r x) 
 
 -- one separator more
 pub before-more :
-    {k : Kind} {n m : ℕ} {s : List ℕ} {x : Machine} (b : ℕ) → separates b ≡ true → Before k n m s x → Before k n m (s ++ (b ∷ [])) x
+    {k : Kind} {n m : ℕ} {s : List ℕ} {x : Machine} (b : ℕ) →
+    separates b ≡ true →
+    Before k n m s x →
+    Before k n m (s ++ (b ∷ [])) x
 before-more z h (Before.worded {a} {b} ba gb) = rebracket (Before.worded ba (gap-more z h gb)) (sym (simp append-assoc))
 before-more z h (Before.rested r) = Before.rested (records-more z h r)
 before-more z h (Before.identified {s} {a} {b} r na gb) =
@@ -71,11 +80,7 @@ separator-or-digit :
 separator-or-digit {s = s} {t = t} {b} p v r =
     by-class (Stands (s ++ (b ∷ [])) t) v r (λ h r. land (Stands.before (before-more b h p)) r)
     (λ h r. land (Stands.within p (Number.first b h)) r)
-    (λ h r. absurd (off-not-on r))
-    (λ h r. absurd (off-not-on r))
-    (λ h r. absurd (off-not-on r))
-    (λ h q r. absurd (off-not-on r))
-    (λ h r. absurd (off-not-on r))
+    gone gone gone gone gone
 
 -- separators alone, before any record
 unopened : {s : List ℕ} {h : Header} {es : List Entry} → Records s h es → h ≡ unsaid → es ≡ [] → Blank s
@@ -96,14 +101,14 @@ rested-on :
 rested-on {s} {t} {b} unsaid [] rs v r =
     by-class (Stands (s ++ (b ∷ [])) t) v r (λ h r. land (Stands.before (before-more b h (Before.rested rs))) r)
     (λ h r. land (Stands.within (Before.rested rs) (Number.first b h)) r)
-    (λ h r. absurd (off-not-on r))
-    (λ h r. absurd (off-not-on r))
-    (λ h r. absurd (off-not-on r))
-    (λ h q r.
+    gone
+    gone
+    gone
+    (λ q r.
     let p = when-on (eqb b 112) r in
     land (bracket (Stands.word 0 (unopened rs refl refl) (lit< tt)) (ap (λ (z : ℕ). s ++ (z ∷ [])) (sym (eqb-true b 112 (p .0)))))
     (p .1))
-    (λ h r. absurd (off-not-on r))
+    gone
 rested-on unsaid (e ∷ es) rs v r = separator-or-digit (Before.rested rs) v r
 rested-on (highest k) es rs v r = separator-or-digit (Before.rested rs) v r
 
@@ -133,9 +138,13 @@ before-on (Before.fielded {e = e} rs f) v r = fielded-on (e .targets) (Before.fi
 aimed-at : {s t : List ℕ} {h : Header} {es : List Entry} {e : Entry} → Aimed s h es e → s ≡ t → Aimed t h es e
 aimed-at {h = h} {es} {e} p q = subst (λ (r : List ℕ). Aimed r h es e) q p
 
-comma-on : {s : List ℕ} {h : Header} {es : List Entry} {e : Entry} → Aimed s h es e → Stands (s ++ (comma ∷ [])) (having pastComma h es e)
+comma-on :
+    {s : List ℕ} {h : Header} {es : List Entry} {e : Entry} →
+    Aimed s h es e →
+    Stands (s ++ (comma ∷ [])) (having pastComma h es e)
 comma-on (Aimed.aimed {s} {r} {t} {b} {h} {es} {e} {w} rs f n bb) =
-    subst (λ (φ : Phase). Stands ((s ++ (r ++ (t ++ b))) ++ (comma ∷ [])) (having φ h es (withTarget e w))) (field-after (e .targets) w)
+    subst (λ (φ : Phase). Stands ((s ++ (r ++ (t ++ b))) ++ (comma ∷ [])) (having φ h es (withTarget e w)))
+    (field-after (e .targets) w)
     (bracket (Stands.before (Before.fielded rs (Fields.target f n bb Blank.empty))) (sym (simp append-assoc)))
 
 -- the record is whole, with a name or without
@@ -149,7 +158,8 @@ whole-on {c = c} (Aimed.aimed {s} {r} {t} {b} {h} {es} {e} {w} rs f n bb) nc =
     (λ (φ : Phase).
     Stands ((s ++ (r ++ (t ++ b))) ++ (c ++ (semicolon ∷ []))) (having φ h (es ++ (withTarget e w ∷ [])) noEntryYet))
     (rest-after h es (withTarget e w))
-    (bracket (Stands.before (Before.rested (Records.another rs (Recorded.recorded f n bb nc Blank.empty)))) (sym (simp append-assoc)))
+    (bracket (Stands.before (Before.rested (Records.another rs (Recorded.recorded f n bb nc Blank.empty))))
+    (sym (simp append-assoc)))
 
 -- ---- in a number
 
@@ -173,11 +183,7 @@ number-on :
     Stands ((s ++ d) ++ (b ∷ [])) t
 number-on {b = b} {s} {d} {t = t} p n v parted r =
     by-class (Stands ((s ++ d) ++ (b ∷ [])) t) v r (λ h r. land (parted h) r) (λ h r. land (digit-on b p n h) r)
-    (λ h r. absurd (off-not-on r))
-    (λ h r. absurd (off-not-on r))
-    (λ h r. absurd (off-not-on r))
-    (λ h q r. absurd (off-not-on r))
-    (λ h r. absurd (off-not-on r))
+    gone gone gone gone gone
 
 within-on :
     {k : Kind} {n m v b : ℕ} {s d : List ℕ} {x t : Machine} {c : Class} →
@@ -190,17 +196,19 @@ within-on {b = z} {d = d} {t = t} (Before.worded {a} {b} ba gb) n v r =
     by-class (Stands (((a ++ (parityWord ++ b)) ++ d) ++ (z ∷ [])) t) v r
     (λ h r. land (bracket (Stands.headed ba gb n (gap-one z h)) (sym (simp append-assoc))) r)
     (λ h r. land (digit-on z (Before.worded ba gb) n h) r)
-    (λ h r. absurd (off-not-on r))
+    gone
     (λ h r.
     land
     (bracket (Stands.before (Before.rested (Records.opened (Opening.headed ba gb n Blank.empty Blank.empty))))
     (sym (simp (append-assoc, h))))
     r)
-    (λ h r. absurd (off-not-on r))
-    (λ h q r. absurd (off-not-on r))
-    (λ h r. absurd (off-not-on r))
+    gone
+    gone
+    gone
 within-on {b = z} (Before.rested rs) n v r =
-    number-on (Before.rested rs) n v (λ h. bracket (Stands.before (Before.identified rs n (gap-one z h))) (sym (simp append-assoc))) r
+    number-on (Before.rested rs) n v
+    (λ h. bracket (Stands.before (Before.identified rs n (gap-one z h))) (sym (simp append-assoc)))
+    r
 within-on {b = z} (Before.identified rs na gb) n v r =
     number-on (Before.identified rs na gb) n v
     (λ h. bracket (Stands.before (Before.ranked rs na gb n (gap-one z h))) (sym (simp append-assoc)))
@@ -217,8 +225,8 @@ within-on {b = z} {d = d} {t = t} (Before.fielded {s} {r} {h} {es} {e} rs f) n v
     (λ h r. land (bracket (comma-on p) (simp h)) r)
     (λ h r. land (bracket (whole-on p Name.absent) (simp h)) r)
     (λ h r. land (bracket (Stands.naming p Quoted.empty) (simp h)) r)
-    (λ h q r. absurd (off-not-on r))
-    (λ h r. absurd (off-not-on r))
+    gone
+    gone
 
 -- ---- in the word
 
@@ -263,14 +271,14 @@ word-on {a} {t} {b} k ba h v r =
     (sym (append-assoc a parityWord (b ∷ [])) ∙
     ap (λ (j : ℕ). (a ++ take j parityWord) ++ (b ∷ [])) (sym (eqb-true (suc k) 6 (p .0)))))
     (p .1))
-    (λ h r. absurd (off-not-on r))
-    (λ h r. absurd (off-not-on r))
-    (λ h r. absurd (off-not-on r))
-    (λ h r. absurd (off-not-on r))
-    (λ q l r.
+    gone
+    gone
+    gone
+    gone
+    (λ q r.
     let p = when-on (eqb b (getD parityWord (suc k) 0)) r in
-    letter-on k ba h l (eqb-true b (getD parityWord (suc k) 0) (p .0)) (p .1))
-    (λ h r. absurd (off-not-on r))
+    letter-on k ba h (q .1) (eqb-true b (getD parityWord (suc k) 0) (p .0)) (p .1))
+    gone
 
 -- ---- behind the highest identifier, a target or a name
 
@@ -286,16 +294,16 @@ headed-on :
 headed-on {a} {b} {c} {d} {z = z} {t} ba gb nc gd v r =
     by-class (Stands ((a ++ (parityWord ++ (b ++ (c ++ d)))) ++ (z ∷ [])) t) v r
     (λ h r. land (bracket (Stands.headed ba gb nc (gap-more z h gd)) (sym (simp append-assoc))) r)
-    (λ h r. absurd (off-not-on r))
-    (λ h r. absurd (off-not-on r))
+    gone
+    gone
     (λ h r.
     land
     (bracket (Stands.before (Before.rested (Records.opened (Opening.headed ba gb nc (gap-blank gd) Blank.empty))))
     (sym (simp (append-assoc, h))))
     r)
-    (λ h r. absurd (off-not-on r))
-    (λ h q r. absurd (off-not-on r))
-    (λ h r. absurd (off-not-on r))
+    gone
+    gone
+    gone
 
 targeted-on :
     {s r t g : List ℕ} {h : Header} {es : List Entry} {e : Entry} {w z : ℕ} {x : Machine} {c : Class} →
@@ -310,12 +318,12 @@ targeted-on {s} {r} {t} {g} {z = z} {x} rs f n gg v o =
     let p = Aimed.aimed rs f n (gap-blank gg) in
     by-class (Stands ((s ++ (r ++ (t ++ g))) ++ (z ∷ [])) x) v o
     (λ h r. land (bracket (Stands.targeted rs f n (gap-more z h gg)) (sym (simp append-assoc))) r)
-    (λ h r. absurd (off-not-on r))
+    gone
     (λ h r. land (bracket (comma-on p) (simp h)) r)
     (λ h r. land (bracket (whole-on p Name.absent) (simp h)) r)
     (λ h r. land (bracket (Stands.naming p Quoted.empty) (simp h)) r)
-    (λ h q r. absurd (off-not-on r))
-    (λ h r. absurd (off-not-on r))
+    gone
+    gone
 
 naming-on :
     {s q : List ℕ} {h : Header} {es : List Entry} {e : Entry} {b : ℕ} {x : Machine} {c : Class} →
@@ -331,7 +339,7 @@ naming-on {s} {q} {h} {es} {e} {b} {x} p qs small v o =
     (λ h r. more (comma-no-quote b h) r)
     (λ h r. more (semicolon-no-quote b h) r)
     (λ h r. land (bracket (Stands.named p qs Blank.empty) (sym (simp (append-assoc, h)))) r)
-    (λ n l r. more n r)
+    (λ q r. more (q .0) r)
     (λ n r. more n r)
   where
     more : (b ≡ quote → ⊥) → on (having inName h es e) ≡ on x → Stands ((s ++ (quote ∷ q)) ++ (b ∷ [])) x
@@ -348,12 +356,12 @@ named-on :
 named-on {s} {q} {b} {z = z} {x} p qs bb v o =
     by-class (Stands ((s ++ (quote ∷ (q ++ (quote ∷ b)))) ++ (z ∷ [])) x) v o
     (λ h r. land (bracket (Stands.named p qs (blank-more z h bb)) (sym (simp append-assoc))) r)
-    (λ h r. absurd (off-not-on r))
-    (λ h r. absurd (off-not-on r))
+    gone
+    gone
     (λ h r. land (bracket (whole-on p (Name.quoted qs bb)) (sym (simp (append-assoc, h)))) r)
-    (λ h r. absurd (off-not-on r))
-    (λ h q r. absurd (off-not-on r))
-    (λ h r. absurd (off-not-on r))
+    gone
+    gone
+    gone
 
 -- ---- one byte, and many
 

@@ -1,5 +1,4 @@
 -- Where the machine without limits stands after some bytes, in the pieces of the grammar: what each state means.
-use mathlib.Core.Bool.{Bool}
 use mathlib.Core.List.{List, [], _∷_, _++_}
 use mathlib.Core.Path.{_≡_, refl}
 use Prim.Native.Nat.{ℕ, suc, _+_, _<_}
@@ -22,6 +21,13 @@ restPhase (highest k) es = betweenRecords
 abbrev pub fieldPhase : List ℕ → Phase
 fieldPhase [] = pastOwner
 fieldPhase (w ∷ ws) = pastComma
+
+-- a record of which the identifier is read, and one of which the priority is read too
+abbrev pub numbered : ℕ → Entry
+numbered i = record { identifier = i; priority = 0; owner = 0; targets = [] }
+
+abbrev pub rankedAs : ℕ → ℕ → Entry
+rankedAs i p = record { identifier = i; priority = p; owner = 0; targets = [] }
 
 -- in no number, with these whole records and this one begun
 abbrev pub having : Phase → Header → List Entry → Entry → Machine
@@ -54,7 +60,7 @@ pub data Before : Kind → ℕ → ℕ → List ℕ → Machine → Type 0 where
       Number a i →
       Gap b →
       Before asPriority (suc (length es)) (targetsIn es) (s ++ (a ++ b))
-      (having pastIdentifier h es (record { identifier = i; priority = 0; owner = 0; targets = [] }))
+      (having pastIdentifier h es (numbered i))
   ranked :
       {s a b c d : List ℕ} {h : Header} {es : List Entry} {i p : ℕ} →
       Records s h es →
@@ -63,7 +69,7 @@ pub data Before : Kind → ℕ → ℕ → List ℕ → Machine → Type 0 where
       Number c p →
       Gap d →
       Before asOwner (suc (length es)) (targetsIn es) (s ++ (a ++ (b ++ (c ++ d))))
-      (having pastPriority h es (record { identifier = i; priority = p; owner = 0; targets = [] }))
+      (having pastPriority h es (rankedAs i p))
   fielded :
       {s r : List ℕ} {h : Header} {es : List Entry} {e : Entry} →
       Records s h es →

@@ -1,19 +1,20 @@
--- Wherever the machine without limits stands, some bytes make a text of the grammar; and where no text can follow, it stands nowhere.
+-- Wherever the machine without limits stands, some bytes make a text of the grammar; over bytes that can become one it goes on;
+-- and it may end exactly at a text.
 use mathlib.Core.Bool.{Bool, true, false, true≢false}
 use mathlib.Core.List.{List, [], _∷_, _++_, append-assoc, append-nil}
 use mathlib.Core.Path.{_≡_, refl, sym, ap, subst, _∙_}
-use Prim.Native.Nat.{ℕ, zero, suc, _+_, _<_}
+use Prim.Native.Nat.{ℕ, suc, _<_}
 use native.Mathlib.Omega.{arith}
 use borrow.Author.Tests.{ltb-true, lt-ltb}
-use lib.ListN.{length, length-append, take, drop, take-append-drop}
-use Rattle.rules.specs.Pgsolver.{quote, semicolon, parityWord, Entry, withTarget, Header, unsaid, highest}
-use Rattle.rules.specs.Pgsolver.{Blank, Gap, Number, Quoted, Name, Fields, Recorded, Opening, Records, Text, Viable}
+use lib.ListN.{length, length-append, drop, take-append-drop}
+use Rattle.rules.specs.Pgsolver.{quote, semicolon, parityWord, Entry, Header, unsaid, highest}
+use Rattle.rules.specs.Pgsolver.{Blank, Gap, Number, Name, Fields, Recorded, Opening, Records, Text, Viable}
 use Rattle.rules.specs.Reading.{Kind, asHighest, asIdentifier, asPriority, asOwner, asTarget}
 use Rattle.grammar.specs.Machine.{Machine, atFirst, mayEnd}
 use Rattle.grammar.specs.Free.{Goes, goes-first}
 use Rattle.grammar.specs.Pieces.{gap-one, gap-blank}
 use Rattle.grammar.specs.Standing.{restPhase, fieldPhase, resting, inPhase, Before, Aimed, Stands}
-use Rattle.grammar.specs.Reaches.{goes-records, stands-same}
+use Rattle.grammar.specs.Reaches.{goes-records}
 
 -- ---- every state has a completion
 
@@ -67,7 +68,8 @@ ranked-viable :
     Gap d →
     Viable (s ++ (a ++ (b ++ (c ++ d))))
 ranked-viable rs na gb nc gd =
-    grow (48 ∷ 32 ∷ []) (fields-viable rs (Fields.begun na gb nc gd (Number.first 48 refl) (gap-one 32 refl))) (sym (simp append-assoc))
+    grow (48 ∷ 32 ∷ []) (fields-viable rs (Fields.begun na gb nc gd (Number.first 48 refl) (gap-one 32 refl)))
+    (sym (simp append-assoc))
 
 identified-viable :
     {s a b : List ℕ} {h : Header} {es : List Entry} {i : ℕ} → Records s h es → Number a i → Gap b → Viable (s ++ (a ++ b))

@@ -2,7 +2,7 @@
 use mathlib.Core.Bool.{Bool, true, _&&_}
 use mathlib.Core.List.{List, [], _∷_}
 use mathlib.Core.Path.{_≡_, refl, subst}
-use Prim.Native.Nat.{ℕ, zero, suc, _<_, min}
+use Prim.Native.Nat.{ℕ, zero, suc, _<_}
 use borrow.Author.Tests.{ltb-true}
 use lib.Dec.{ltb, lit<}
 use lib.ListN.{getD}
@@ -18,7 +18,8 @@ use Rattle.grammar.specs.Correct.{machine-reads}
 -- the text, byte by byte
 abbrev pub workedText : List ℕ
 workedText =
-    112 ∷ 97 ∷ 114 ∷ 105 ∷ 116 ∷ 121 ∷ 32 ∷ 49 ∷ 59 ∷ 32 ∷ 48 ∷ 32 ∷ 50 ∷ 32 ∷ 48 ∷ 32 ∷ 49 ∷ 59 ∷ 32 ∷ 49 ∷ 32 ∷ 48 ∷ 32 ∷ 49 ∷ 32 ∷ 48 ∷ 44 ∷ 49 ∷ 59 ∷ []
+    112 ∷ 97 ∷ 114 ∷ 105 ∷ 116 ∷ 121 ∷ 32 ∷ 49 ∷ 59 ∷ 32 ∷ 48 ∷ 32 ∷ 50 ∷ 32 ∷ 48 ∷ 32 ∷ 49 ∷ 59 ∷ 32 ∷ 49 ∷ 32 ∷ 48 ∷ 32 ∷ 49 ∷
+    32 ∷ 48 ∷ 44 ∷ 49 ∷ 59 ∷ []
 
 -- its two records
 abbrev pub workedEntries : List Entry
@@ -49,7 +50,7 @@ pub worked-text :
 unfolding check31 givenAt some lowest times tablesRead listed entryOf targetsUpTo C7
 worked-text = (
   subst (λ (r : Read). Reads limitsOfA1 workedText (r .verdict) (r .header) (r .entries)) worked-run
-  (machine-reads limitsOfA1 workedText (each-byte workedText refl)),
+      (machine-reads limitsOfA1 workedText (each-byte workedText refl)),
   refl,
-  refl
+  refl,
 )
