@@ -1,4 +1,5 @@
--- What the class of a byte says of it, and the class of each byte that the grammar names.
+-- What the class of a byte says of it, and the class of each byte that the grammar names. A step goes by the class, the
+-- grammar by the byte.
 use mathlib.Core.Bool.{Bool, true, false, true≢false, cond}
 use mathlib.Core.Path.{_≡_, refl, sym, ap, _∙_}
 use Prim.Native.Nat.{ℕ, _≤_}
@@ -8,8 +9,7 @@ use lib.Dec.{eqb, leb}
 use Rattle.rules.specs.Pgsolver.{separates, isDigit, quote, comma, semicolon}
 use Rattle.theory.specs.Basics.{and-left, and-right}
 use Rattle.grammar.specs.Machine.{Class, separatorByte, digitByte, commaByte, semicolonByte, quoteByte, letterByte}
-use Rattle.grammar.specs.Machine.{otherByte}
-use Rattle.grammar.specs.Machine.{classOf, isLetter, Went, byClass, Machine, on}
+use Rattle.grammar.specs.Machine.{otherByte, classOf, isLetter, Went, byClass, Machine, on}
 
 -- a byte of each class
 pub data OfClass (b : ℕ) : Class → Type 0 where

@@ -1,4 +1,5 @@
--- What the machine gives is what the rules say of the text: its verdict, the header and the records.
+-- What the machine gives is what the rules say of the text: its verdict, the header and the records. Along the text, as long
+-- as no byte is over a limit and some text can follow, the machine with limits stands where the one without them does.
 use mathlib.Core.Bool.{Bool, true, false, true≢false, cond}
 use mathlib.Core.List.{List, [], _∷_, _++_, append-nil}
 use mathlib.Core.Logic.{inl, inr, ⊎-elim}
@@ -13,8 +14,8 @@ use Rattle.rules.specs.Outcome.{Verdict, none, refused}
 use Rattle.rules.specs.Pgsolver.{Entry, Header, unsaid, Blank, Opening, Records, Text, Viable}
 use Rattle.rules.specs.Reading.{Limits, Stuck, Beyond, Over, Reads}
 use Rattle.theory.specs.Basics.{below-suc}
-use Rattle.grammar.specs.Machine.{Machine, atFirst, Went, on, off, over, Run, live, ended, runFrom, mayEnd, Read}
-use Rattle.grammar.specs.Machine.{endOf, readingOf, nothingRead}
+use Rattle.grammar.specs.Machine.{Machine, atFirst, Went, on, off, over, Run, live, ended, runFrom, mayEnd, Read, endOf}
+use Rattle.grammar.specs.Machine.{readingOf, nothingRead}
 use Rattle.grammar.specs.Free.{freeStep, follow, Goes, goes-first, goes-same, off-not-on, over-not-on}
 use Rattle.grammar.specs.Standing.{Before, Stands}
 use Rattle.grammar.specs.Reaches.{reaches, stands-same}

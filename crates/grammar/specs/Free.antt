@@ -1,4 +1,5 @@
--- The machine without limits: the same steps, but none says over. A run of it over some bytes, and how runs follow one another.
+-- The machine without limits: the same steps, but none says over. A run of it over some bytes, and how runs follow one
+-- another. What a text means is shown of this machine first; the limits come after, in Limited.antt.
 use mathlib.Core.Bool.{cond}
 use mathlib.Core.List.{List, [], _∷_, _++_}
 use mathlib.Core.Path.{_≡_, refl, sym, ap, subst, _∙_}
@@ -7,10 +8,9 @@ use lib.Dec.{eqb}
 use lib.ListN.{getD}
 use Rattle.rules.specs.Pgsolver.{parityWord}
 use Rattle.grammar.specs.Machine.{Class, classOf, byClass, Machine, Went, on, off, over, to, reading, headed, longer}
-use Rattle.grammar.specs.Machine.{identified, ranked, owned, aimed, closed}
-use Rattle.grammar.specs.Machine.{Phase, atStart, inWord, pastWord, inHighest, pastHighest, betweenRecords, inIdentifier}
-use Rattle.grammar.specs.Machine.{pastIdentifier, inPriority, pastPriority, inOwner, pastOwner, inTarget, pastTarget}
-use Rattle.grammar.specs.Machine.{pastComma, inName, pastName}
+use Rattle.grammar.specs.Machine.{identified, ranked, owned, aimed, closed, Phase, atStart, inWord, pastWord, inHighest}
+use Rattle.grammar.specs.Machine.{pastHighest, betweenRecords, inIdentifier, pastIdentifier, inPriority, pastPriority}
+use Rattle.grammar.specs.Machine.{inOwner, pastOwner, inTarget, pastTarget, pastComma, inName, pastName}
 
 -- a digit more, however large the number
 abbrev pub grows : Phase → Machine → ℕ → Went

@@ -1,4 +1,5 @@
--- The machine is the one without limits, stopped where its state is beyond a limit; and that is where the rules say 32.
+-- The machine is the one without limits, stopped where its state is beyond a limit; and a state is beyond a limit exactly
+-- where the rules say that the bytes so far are.
 use mathlib.Core.Bool.{Bool, true, false, true≢false, cond, _||_}
 use mathlib.Core.List.{List, [], _∷_}
 use mathlib.Core.Logic.{⊎-elim}
@@ -9,8 +10,8 @@ use borrow.Author.Tests.{ltb-true, ltb-false, lt-ltb, le-ltb, leb-true, le-leb, 
 use lib.Dec.{eqb, leb, ltb}
 use lib.ListN.{length, getD}
 use Rattle.rules.specs.Pgsolver.{isDigit, parityWord, Entry, Header, unsaid, highest}
-use Rattle.rules.specs.Reading.{Limits, highestNumber, Kind, asHighest, asIdentifier, asPriority, asOwner, asTarget}
-use Rattle.rules.specs.Reading.{TooMuch, Beyond}
+use Rattle.rules.specs.Reading.{Limits, highestNumber, Kind, asHighest, asIdentifier, asPriority, asOwner, asTarget, TooMuch}
+use Rattle.rules.specs.Reading.{Beyond}
 use Rattle.theory.specs.Basics.{or-left, or-right, or-cases, or-false-both}
 use Rattle.grammar.specs.Machine.{Class, byClass, Machine, Went, on, off, over, reading, targetsRead, stepFrom, begins, to}
 use Rattle.grammar.specs.Machine.{Phase, atStart, inWord, pastWord, inHighest, pastHighest, betweenRecords, inIdentifier}

@@ -1,10 +1,10 @@
--- A piece of the grammar that ends in separators takes one more, and a piece that ends in what a name holds takes one byte more.
+-- A piece of the grammar that ends in separators takes one more, and what a name holds takes one byte more. These are the
+-- steps in which the machine stays where it is.
 use mathlib.Core.Bool.{true}
 use mathlib.Core.List.{List, [], _∷_, _++_, append-assoc}
 use mathlib.Core.Path.{_≡_, sym, subst}
 use Prim.Native.Nat.{ℕ, _<_}
-use Rattle.rules.specs.Pgsolver.{separates, quote, Entry, Header}
-use Rattle.rules.specs.Pgsolver.{Blank, Gap, Quoted, Fields, Recorded, Opening, Records}
+use Rattle.rules.specs.Pgsolver.{separates, quote, Entry, Header, Blank, Gap, Quoted, Fields, Recorded, Opening, Records}
 use Rattle.rules.specs.Pgsolver.{withTarget, highest}
 
 pub blank-more : {s : List ℕ} (b : ℕ) → separates b ≡ true → Blank s → Blank (s ++ (b ∷ []))

@@ -1,4 +1,5 @@
--- The machine without limits goes over every piece of the grammar, to the state that stands for it.
+-- The machine without limits goes over every piece of the grammar, to the state that stands for it. So the bytes decide where
+-- it stands, and a text is read in one way.
 use mathlib.Core.Bool.{true}
 use mathlib.Core.List.{List, [], _∷_, _++_, append-assoc}
 use mathlib.Core.Path.{_≡_, refl, sym, ap, subst, _∙_}
@@ -6,20 +7,16 @@ use Prim.Native.Nat.{ℕ, zero, suc, _-_, _<_}
 use native.Mathlib.Omega.{arith}
 use lib.ListN.{take}
 use Rattle.rules.specs.Pgsolver.{separates, isDigit, quote, comma, semicolon, parityWord, Entry, withTarget, Header, unsaid}
-use Rattle.rules.specs.Pgsolver.{highest}
-use Rattle.rules.specs.Pgsolver.{Blank, Gap, Number, Quoted, Name, Fields, Recorded, Opening, Records}
+use Rattle.rules.specs.Pgsolver.{highest, Blank, Gap, Number, Quoted, Name, Fields, Recorded, Opening, Records}
 use Rattle.rules.specs.Reading.{Kind}
 use Rattle.grammar.specs.Machine.{Class, separatorByte, digitByte, commaByte, semicolonByte, quoteByte, classOf, Machine}
-use Rattle.grammar.specs.Machine.{on, atFirst, noEntryYet, to}
-use Rattle.grammar.specs.Machine.{reading, longer}
-use Rattle.grammar.specs.Machine.{Phase, inWord, pastWord, inHighest, pastHighest, betweenRecords, inIdentifier}
-use Rattle.grammar.specs.Machine.{pastIdentifier, pastPriority, inTarget, pastTarget}
-use Rattle.grammar.specs.Machine.{inName, pastName}
+use Rattle.grammar.specs.Machine.{on, atFirst, noEntryYet, to, reading, longer, Phase, inWord, pastWord, inHighest}
+use Rattle.grammar.specs.Machine.{pastHighest, betweenRecords, inIdentifier, pastIdentifier, pastPriority, inTarget}
+use Rattle.grammar.specs.Machine.{pastTarget, inName, pastName}
 use Rattle.grammar.specs.Free.{freeFrom, Steps, Goes, stays, goes-step, goes-on, goes-same}
 use Rattle.grammar.specs.Classes.{separator-class, digit-class, of-class, OfClass}
 use Rattle.grammar.specs.Standing.{fieldPhase, numbered, rankedAs, having, resting, fielding, inPhase, rest-after}
-use Rattle.grammar.specs.Standing.{field-after}
-use Rattle.grammar.specs.Standing.{Before, Aimed, Stands}
+use Rattle.grammar.specs.Standing.{field-after, Before, Aimed, Stands}
 
 -- ---- one byte
 

@@ -1,4 +1,5 @@
--- Laws of a run: over two parts one after the other, after a verdict, and by one byte.
+-- Laws of a run: over two parts one after the other, by one byte, and after a verdict. A text that comes in portions is read
+-- by the first of them.
 use mathlib.Core.Bool.{false, cond}
 use mathlib.Core.List.{List, [], _∷_, _++_}
 use mathlib.Core.Path.{_≡_, refl, ap, _∙_}
@@ -9,6 +10,7 @@ use lib.ListN.{length}
 use Rattle.rules.specs.Outcome.{Verdict, refused}
 use Rattle.rules.specs.Reading.{Limits}
 use Rattle.grammar.specs.Machine.{Machine, Went, on, off, over, stepAt, Run, live, ended, next, runFrom}
+use Rattle.grammar.specs.Machine.{atFirst, endOf, readingOf, nothingRead}
 use Rattle.grammar.specs.Free.{freeStep}
 use Rattle.grammar.specs.Classes.{of-class}
 use Rattle.grammar.specs.Limited.{far, limited, step-limited}
@@ -26,6 +28,25 @@ pub run-ended : (l : Limits) (k : ℕ) (v : Verdict) (bs : List ℕ) → runFrom
 unfolding runFrom next
 run-ended l k v [] = refl
 run-ended l k v (b ∷ bs) = run-ended l (suc k) v bs
+
+-- one byte more
+pub run-snoc :
+    (l : Limits) (k : ℕ) (r : Run) (a : List ℕ) (b : ℕ) →
+    runFrom l k r (a ++ (b ∷ [])) ≡ next l (k + length a) (runFrom l k r a) b
+unfolding runFrom
+run-snoc l k r a b = run-append l k r a (b ∷ [])
+
+-- a verdict on the first bytes of a text is the verdict on the text
+pub ended-reading :
+    (l : Limits) (a b : List ℕ) (v : Verdict) →
+    runFrom l 0 (live atFirst) a ≡ ended v →
+    readingOf l (a ++ b) ≡ nothingRead v
+unfolding endOf
+ended-reading l a b v e =
+    ap (endOf (length (a ++ b)))
+    (run-append l 0 (live atFirst) a b ∙
+    ap (λ (r : Run). runFrom l (0 + length a) r b) e ∙
+    run-ended l (0 + length a) v b)
 
 -- what a step at place k makes of a run
 abbrev pub landed : ℕ → Went → Run

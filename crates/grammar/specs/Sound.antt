@@ -1,4 +1,5 @@
--- Wherever the machine without limits comes, the bytes so far are what its state says.
+-- Wherever the machine without limits comes, the bytes so far are what its state says: one byte more, from each state and for
+-- each class.
 use mathlib.Core.Bool.{Bool, true, false, true≢false, cond}
 use mathlib.Core.Logic.{⊎-elim}
 use mathlib.Core.List.{List, [], _∷_, _++_, append-assoc, append-nil}
@@ -10,21 +11,17 @@ use lib.Dec.{eqb, lit<}
 use lib.ListN.{length, length-append, take, getD}
 use lib.Seq.{take-suc}
 use Rattle.rules.specs.Pgsolver.{separates, isDigit, quote, comma, semicolon, parityWord, Entry, withTarget, Header, unsaid}
-use Rattle.rules.specs.Pgsolver.{highest}
-use Rattle.rules.specs.Pgsolver.{Blank, Gap, Number, Quoted, Name, Fields, Recorded, Opening, Records}
+use Rattle.rules.specs.Pgsolver.{highest, Blank, Gap, Number, Quoted, Name, Fields, Recorded, Opening, Records}
 use Rattle.rules.specs.Reading.{Kind, asTarget}
-use Rattle.grammar.specs.Machine.{Class, byClass, Machine, on, off, atFirst, noEntryYet, to, isLetter}
-use Rattle.grammar.specs.Machine.{reading, longer}
-use Rattle.grammar.specs.Machine.{Phase, inWord, pastHighest, betweenRecords}
-use Rattle.grammar.specs.Machine.{pastTarget}
-use Rattle.grammar.specs.Machine.{pastComma, inName, pastName}
+use Rattle.theory.specs.Basics.{lt-or-ge}
+use Rattle.grammar.specs.Machine.{Class, byClass, Machine, on, off, atFirst, noEntryYet, to, isLetter, reading, longer}
+use Rattle.grammar.specs.Machine.{Phase, inWord, pastHighest, betweenRecords, pastTarget, pastComma, inName, pastName}
 use Rattle.grammar.specs.Free.{freeFrom, freeStep, starts, on-same, off-not-on}
 use Rattle.grammar.specs.Classes.{OfClass, of-class, by-class, separator-no-quote, digit-no-quote, comma-no-quote}
 use Rattle.grammar.specs.Classes.{semicolon-no-quote}
-use Rattle.theory.specs.Basics.{lt-or-ge}
 use Rattle.grammar.specs.Pieces.{blank-more, gap-more, gap-one, gap-blank, quoted-more, fields-more, records-more}
-use Rattle.grammar.specs.Standing.{restPhase, fieldPhase, having, resting, inPhase, rest-after, field-after}
-use Rattle.grammar.specs.Standing.{Before, Aimed, Stands}
+use Rattle.grammar.specs.Standing.{restPhase, fieldPhase, having, resting, inPhase, rest-after, field-after, Before, Aimed}
+use Rattle.grammar.specs.Standing.{Stands}
 
 highest-said : {k : ℕ} → highest k ≡ unsaid → ⊥
 highest-said e = subst Said e tt

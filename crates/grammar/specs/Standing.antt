@@ -1,15 +1,15 @@
--- Where the machine without limits stands after some bytes, in the pieces of the grammar: what each state means.
+-- Where the machine without limits stands after some bytes, in the pieces of the grammar: what each state means. A number may
+-- begin, is being read, or is read and separators follow; a name is being read, or is read.
 use mathlib.Core.List.{List, [], _∷_, _++_}
 use mathlib.Core.Path.{_≡_, refl}
 use Prim.Native.Nat.{ℕ, suc, _+_, _<_}
 use lib.ListN.{length, take}
-use Rattle.rules.specs.Pgsolver.{quote, parityWord, Entry, withTarget, Header, unsaid, highest}
-use Rattle.rules.specs.Pgsolver.{Blank, Gap, Number, Quoted, Fields, Records}
+use Rattle.rules.specs.Pgsolver.{quote, parityWord, Entry, withTarget, Header, unsaid, highest, Blank, Gap, Number, Quoted}
+use Rattle.rules.specs.Pgsolver.{Fields, Records}
 use Rattle.rules.specs.Reading.{targetsIn, Awaits, Kind, asHighest, asIdentifier, asPriority, asOwner, asTarget}
-use Rattle.grammar.specs.Machine.{Machine, atFirst, noEntryYet, to, reading}
-use Rattle.grammar.specs.Machine.{Phase, atStart, inWord, pastWord, inHighest, pastHighest, betweenRecords, inIdentifier}
-use Rattle.grammar.specs.Machine.{pastIdentifier, inPriority, pastPriority, inOwner, pastOwner, inTarget, pastTarget}
-use Rattle.grammar.specs.Machine.{pastComma, inName, pastName}
+use Rattle.grammar.specs.Machine.{Machine, atFirst, noEntryYet, to, reading, Phase, atStart, inWord, pastWord, inHighest}
+use Rattle.grammar.specs.Machine.{pastHighest, betweenRecords, inIdentifier, pastIdentifier, inPriority, pastPriority}
+use Rattle.grammar.specs.Machine.{inOwner, pastOwner, inTarget, pastTarget, pastComma, inName, pastName}
 
 -- before the next record: separators alone so far, or behind a semicolon
 abbrev pub restPhase : Header → List Entry → Phase

@@ -1,5 +1,5 @@
--- Wherever the machine without limits stands, some bytes make a text of the grammar; over bytes that can become one it goes on;
--- and it may end exactly at a text.
+-- Wherever the machine without limits stands, some bytes make a text of the grammar; over bytes that can become one it goes
+-- on; and it may end exactly at a text.
 use mathlib.Core.Bool.{Bool, true, false, true≢false}
 use mathlib.Core.List.{List, [], _∷_, _++_, append-assoc, append-nil}
 use mathlib.Core.Path.{_≡_, refl, sym, ap, subst, _∙_}
@@ -7,8 +7,8 @@ use Prim.Native.Nat.{ℕ, suc, _<_}
 use native.Mathlib.Omega.{arith}
 use borrow.Author.Tests.{ltb-true, lt-ltb}
 use lib.ListN.{length, length-append, drop, take-append-drop}
-use Rattle.rules.specs.Pgsolver.{quote, semicolon, parityWord, Entry, Header, unsaid, highest}
-use Rattle.rules.specs.Pgsolver.{Blank, Gap, Number, Name, Fields, Recorded, Opening, Records, Text, Viable}
+use Rattle.rules.specs.Pgsolver.{quote, semicolon, parityWord, Entry, Header, unsaid, highest, Blank, Gap, Number, Name, Fields}
+use Rattle.rules.specs.Pgsolver.{Recorded, Opening, Records, Text, Viable}
 use Rattle.rules.specs.Reading.{Kind, asHighest, asIdentifier, asPriority, asOwner, asTarget}
 use Rattle.grammar.specs.Machine.{Machine, atFirst, mayEnd}
 use Rattle.grammar.specs.Free.{Goes, goes-first}

@@ -1,4 +1,5 @@
--- Change A1's worked text, `parity 1; 0 2 0 1; 1 0 1 0,1;`: the machine's run on it, and that the rules read it as C7.
+-- Change A1's worked text, `parity 1; 0 2 0 1; 1 0 1 0,1;`: what the machine gives for it, by computing, and so that the rules
+-- read it, with nothing to refuse, as C7.
 use mathlib.Core.Bool.{Bool, true, _&&_}
 use mathlib.Core.List.{List, [], _∷_}
 use mathlib.Core.Path.{_≡_, refl, subst}
