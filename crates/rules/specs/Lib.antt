@@ -17,3 +17,5 @@ pub mod Checker
 pub mod Compaction
 pub mod Pgsolver
 pub mod Reading
+pub mod Decimal
+pub mod Printing
