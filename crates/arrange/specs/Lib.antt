@@ -1,0 +1,5 @@
+-- What the steps at the end of reading promise, and why.
+pub mod Once
+pub mod Said
+pub mod Cleared
+pub mod Laws
