@@ -2,9 +2,11 @@
 // table put in order by identifier; or, on a refusal, every table cleared. And, before all, whether the rooms fit.
 mod checks;
 mod clear;
+mod order;
 
 pub use checks::Fits;
 pub use checks::Identifiers;
 pub use checks::check_identifiers;
 pub use checks::check_rooms;
 pub use clear::clear_rooms;
+pub use order::arrange;
