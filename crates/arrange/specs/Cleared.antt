@@ -1,8 +1,8 @@
--- Rooms that were cleared: every entry of the tables and the used words of the work area are 0, which is what the rules let stand in
--- them after a refusal.
+-- Rooms that were cleared: every entry of the tables and the used words of the work area are 0, which is what the rules let
+-- stand in them after a refusal.
 use mathlib.Core.List.{List, [], _++_, append-nil}
-use mathlib.Core.Logic.{_⊎_, inl, inr}
-use mathlib.Core.Path.{_≡_, refl, sym, ap, _∙_}
+use mathlib.Core.Logic.{inr}
+use mathlib.Core.Path.{_≡_, sym, ap, _∙_}
 use Prim.Native.Nat.{ℕ, _+_, _-_, _≤_, _<_}
 use native.Mathlib.Decide.{decLt}
 use native.Mathlib.Nat.{sub-zero}
@@ -47,11 +47,15 @@ getD-zeros-front n xs k l =
 pub getD-zeros-behind :
     (n : ℕ) (xs : List ℕ) (k : ℕ) → getD (replicate n 0 ++ xs) (n + k) 0 ≡ getD xs k 0
 getD-zeros-behind n xs k =
-    ap (λ (p : ℕ). getD (replicate n 0 ++ xs) (p + k) 0) (sym (length-replicate {A = ℕ} n 0)) ∙ getD-append-add (replicate n 0) xs k 0
+    ap (λ (p : ℕ). getD (replicate n 0 ++ xs) (p + k) 0) (sym (length-replicate {A = ℕ} n 0)) ∙
+    getD-append-add (replicate n 0) xs k 0
 
 -- cleared words at the front, and the others as they were
 pub cleared-front :
-    (used : ℕ) (before after : List ℕ) → used ≤ length before → Cleared 0 used before after → after ≡ replicate used 0 ++ drop used before
+    (used : ℕ) (before after : List ℕ) →
+    used ≤ length before →
+    Cleared 0 used before after →
+    after ≡ replicate used 0 ++ drop used before
 cleared-front used before after fits c =
     ext-getD 0 after (replicate used 0 ++ drop used before) long (λ k l. at k (decLt k used))
   where

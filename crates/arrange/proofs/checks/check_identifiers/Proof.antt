@@ -1,8 +1,8 @@
 -- `check_identifiers` meets its contract. The loop's invariant: each identifier passed was seen once.
-use mathlib.Core.Bool.{Bool, not, true, false}
+use mathlib.Core.Bool.{Bool, not}
 use mathlib.Core.List.{List}
 use mathlib.Core.Path.{_≡_, ap}
-use Prim.Native.Nat.{ℕ, _+_, _≤_, _-_, _/_}
+use Prim.Native.Nat.{ℕ, _≤_, _-_}
 use native.Mathlib.Omega.{arith}
 use borrow.Author.Count.{below-none, below-more}
 use borrow.Author.Needs.{needs}
@@ -66,10 +66,14 @@ add-if3 : tie.Need-add-if3 Inv-loop μ-loop
 add-if3 c = search needs
 
 returns-3 : tie.Need-returns-3 Inv-loop μ-loop
-returns-3 c = simp (none-wrong (c .before .before), not-false (c .before .before .before .before .args .said) (c .before .if2 .left), ne-eqb _ _ (c .if3 .taken))
+returns-3 c =
+    let told = not-false (c .before .before .before .before .args .said) (c .before .if2 .left) in
+    simp (none-wrong (c .before .before), told, ne-eqb _ _ (c .if3 .taken))
 
 returns-4 : tie.Need-returns-4 Inv-loop μ-loop
-returns-4 c = simp (none-wrong (c .before .before), not-false (c .before .before .before .before .args .said) (c .before .if2 .left), eq-eqb _ _ (c .if3 .left))
+returns-4 c =
+    let told = not-false (c .before .before .before .before .args .said) (c .before .if2 .left) in
+    simp (none-wrong (c .before .before), told, eq-eqb _ _ (c .if3 .left))
 
 pub check-identifiers-spec : {M : Type 1} → statement M
 check-identifiers-spec =

@@ -40,7 +40,11 @@ sizes c =
 returns-4 : tie.Need-returns-4
 returns-4 c =
     let args = c .before .before .before .before .args in
-    simp (eq-eqb _ _ (c .before .before .before .if1 .left), sizes (c .before), lt-ltb (args .work) (args .owners + args .targets) (omega arith))
+    simp (
+      eq-eqb _ _ (c .before .before .before .if1 .left),
+      sizes (c .before),
+      lt-ltb (args .work) (args .owners + args .targets) (omega arith),
+    )
 
 returns-5 : tie.Need-returns-5
 returns-5 c =

@@ -12,7 +12,8 @@ use Rattle.arrange.proofs.clear.clear_numbers.Tie as tie
 
 abbrev Inv-loop : tie.InvT-loop
 Inv-loop numbers₀ i₀ i-end numbers i =
-    (i ≤ length numbers₀) × (i-end ≡ length numbers₀) × (numbers ≡ replicate i 0 ++ drop i numbers₀) × (length numbers ≡ length numbers₀)
+    (i ≤ length numbers₀) × (i-end ≡ length numbers₀) ×
+    (numbers ≡ replicate i 0 ++ drop i numbers₀) × (length numbers ≡ length numbers₀)
 
 abbrev μ-loop : tie.MeasureT-loop
 μ-loop numbers₀ i₀ i-end numbers i = length numbers₀ - i
