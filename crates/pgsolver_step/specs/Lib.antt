@@ -1,0 +1,3 @@
+-- What the code's states mean in the words of the machine, and what its steps promise.
+pub mod Shown
+pub mod Classes
