@@ -1,3 +1,5 @@
 -- What the code's states mean in the words of the machine, and what its steps promise.
 pub mod Shown
+pub mod Acts
+pub mod Moves
 pub mod Classes

@@ -1,3 +1,6 @@
-// One step of the reader of PGSolver texts, and a portion of a text. The class of a byte, then what the phase makes of that class,
+// One step of the reader of PGSolver texts, and a portion of a text: the class of a byte, then what that class does in each phase,
 // then what is written into the lent tables.
+pub mod acts;
 pub mod class;
+pub mod moves;
+pub mod state;
