@@ -3,3 +3,4 @@ pub mod Shown
 pub mod Acts
 pub mod Moves
 pub mod Classes
+pub mod Follows
