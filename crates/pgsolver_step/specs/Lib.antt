@@ -4,3 +4,5 @@ pub mod Acts
 pub mod Moves
 pub mod Classes
 pub mod Follows
+pub mod Kept
+pub mod Waited
