@@ -6,3 +6,4 @@ pub mod Classes
 pub mod Follows
 pub mod Kept
 pub mod Waited
+pub mod Steps

@@ -1,0 +1,169 @@
+-- `read_byte` meets its contract: each move by its own law.
+use mathlib.Core.Path.{sym, _∙_}
+use Rattle.pgsolver_step.specs.Steps.{steps-on, steps-off, steps-over, steps-aim, steps-close, steps-aim-close}
+use borrow.Author.Needs.{needs}
+use Rattle.pgsolver_step.proofs.step.read_byte.Statement.{statement}
+use Rattle.pgsolver_step.proofs.step.read_byte.Tie as tie
+
+advance-requires : tie.Need-advance-requires
+advance-requires c κs = search needs
+
+enum-known-next : tie.Need-enum-known-next
+enum-known-next c = search needs
+
+enum-told : tie.Need-enum-told
+enum-told c = search needs
+
+enum-told-2 : tie.Need-enum-told-2
+enum-told-2 c = search needs
+
+enum-known-next-2 : tie.Need-enum-known-next-2
+enum-known-next-2 c = search needs
+
+aim-requires : tie.Need-aim-requires
+aim-requires c κs = search needs
+
+enum-known-next-3 : tie.Need-enum-known-next-3
+enum-known-next-3 c = search needs
+
+close-requires : tie.Need-close-requires
+close-requires c κs = search needs
+
+enum-known-next-4 : tie.Need-enum-known-next-4
+enum-known-next-4 c = search needs
+
+aim-requires-2 : tie.Need-aim-requires-2
+aim-requires-2 c κs = search needs
+
+close-requires-2 : tie.Need-close-requires-2
+close-requires-2 c κs = search needs
+
+returns : tie.Need-returns
+returns c =
+    let at = c .before .before .before in
+    let args = at .before .before .before .before .before .args in
+    steps-on (args .vertices) (args .edges) (args .b) (args .s) (args .owners .now) (args .priorities .now)
+    (args .offsets .now)
+    (args .targets .now)
+    (at .before .before .before .before .before .pre)
+    (c .before .next .given .0 .0)
+    (sym (at .advance .ensures) ∙ c .before .next .given .1)
+
+returns-2 : tie.Need-returns-2
+returns-2 c =
+    let at = c .before .before in
+    let args = at .before .before .before .before .before .args in
+    steps-off (args .vertices) (args .edges) (args .b) (args .s) (args .owners .now) (args .priorities .now)
+    (args .offsets .now)
+    (args .targets .now)
+    (at .before .before .before .before .before .pre)
+    (sym (at .advance .ensures) ∙ c .enum-told .given .1)
+
+returns-3 : tie.Need-returns-3
+returns-3 c =
+    let at = c .before .before in
+    let args = at .before .before .before .before .before .args in
+    steps-over (args .vertices) (args .edges) (args .b) (args .s) (args .owners .now) (args .priorities .now)
+    (args .offsets .now)
+    (args .targets .now)
+    (at .before .before .before .before .before .pre)
+    (sym (at .advance .ensures) ∙ c .enum-told2 .given .1)
+
+same-length : tie.Need-same-length
+same-length c = search needs
+
+returns-4 : tie.Need-returns-4
+returns-4 c =
+    let at = c .before .before .before .before .before .before .before in
+    let args = at .before .before .before .before .before .args in
+    steps-aim (args .vertices) (args .edges) (args .b) (args .s) (args .owners .now) (args .priorities .now)
+    (args .offsets .now)
+    (args .targets .now)
+    (at .before .before .before .before .before .pre)
+    (c .before .before .before .before .before .next2 .given .0 .0)
+    (c .before .before .aim .last .0)
+    (sym (at .advance .ensures) ∙ c .before .before .before .before .before .next2 .given .1)
+    (c .before .before .aim .ensures)
+
+same-length-2 : tie.Need-same-length-2
+same-length-2 c = search needs
+
+same-length-3 : tie.Need-same-length-3
+same-length-3 c = search needs
+
+same-length-4 : tie.Need-same-length-4
+same-length-4 c = search needs
+
+returns-5 : tie.Need-returns-5
+returns-5 c =
+    let at = c .before .before .before .before .before .before .before .before .before .before .before .before .before in
+    let args = at .before .before .before .before .before .args in
+    steps-close (args .vertices) (args .edges) (args .b) (args .s) (args .owners .now) (args .priorities .now)
+    (args .offsets .now)
+    (args .targets .now)
+    (at .before .before .before .before .before .pre)
+    (c .before .before .before .before .before .before .before .before .before .before .before .next3 .given .0 .0)
+    (c .before .before .before .before .before .before .close .last .0)
+    (c .before .before .before .before .before .before .close .last .1 .0)
+    (c .before .before .before .before .before .before .close .last .1 .1 .0)
+    (sym (at .advance .ensures) ∙ c .before .before .before .before .before .before .before .before .before .before .before .next3 .given .1)
+    (c .before .before .before .before .before .before .close .ensures)
+
+same-length-5 : tie.Need-same-length-5
+same-length-5 c = search needs
+
+same-length-6 : tie.Need-same-length-6
+same-length-6 c = search needs
+
+same-length-7 : tie.Need-same-length-7
+same-length-7 c = search needs
+
+same-length-8 : tie.Need-same-length-8
+same-length-8 c = search needs
+
+returns-6 : tie.Need-returns-6
+returns-6 c =
+    let at = c .before .before .before .before .before .before .before .before .before .before .before .before .before .before .before .before .before in
+    let args = at .before .before .before .before .before .args in
+    steps-aim-close (args .vertices) (args .edges) (args .b) (args .s) (args .owners .now) (args .priorities .now)
+    (args .offsets .now)
+    (args .targets .now)
+    (at .before .before .before .before .before .pre)
+    (c .before .before .before .before .before .before .before .before .before .before .before .before .before .before .before .next4 .given .0 .0)
+    (c .before .before .before .before .before .before .close2 .last .0)
+    (c .before .before .before .before .before .before .close2 .last .1 .0)
+    (c .before .before .before .before .before .before .close2 .last .1 .1 .0)
+    (c .before .before .before .before .before .before .before .before .before .before .before .before .aim2 .last .0)
+    (sym (at .advance .ensures) ∙ c .before .before .before .before .before .before .before .before .before .before .before .before .before .before .before .next4 .given .1)
+    (c .before .before .before .before .before .before .before .before .before .before .before .before .aim2 .ensures)
+    (c .before .before .before .before .before .before .close2 .ensures)
+
+pub read-byte-spec : {M : Type 1} → statement M
+read-byte-spec =
+    tie.close
+    (tie.spec
+    advance-requires
+    enum-known-next
+    enum-told
+    enum-told-2
+    enum-known-next-2
+    aim-requires
+    enum-known-next-3
+    close-requires
+    enum-known-next-4
+    aim-requires-2
+    close-requires-2
+    returns
+    returns-2
+    returns-3
+    same-length
+    returns-4
+    same-length-2
+    same-length-3
+    same-length-4
+    returns-5
+    same-length-5
+    same-length-6
+    same-length-7
+    same-length-8
+    returns-6)
