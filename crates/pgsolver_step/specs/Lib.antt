@@ -7,3 +7,4 @@ pub mod Follows
 pub mod Kept
 pub mod Waited
 pub mod Steps
+pub mod Portions

@@ -3,5 +3,6 @@
 pub mod acts;
 pub mod class;
 pub mod moves;
+pub mod portion;
 pub mod state;
 pub mod step;

@@ -1,0 +1,348 @@
+-- `read_portion` meets its contract. The loop's invariant: the bytes passed are read.
+use mathlib.Core.Path.{_≡_, refl}
+use Prim.Native.Nat.{_-_, _<_}
+use native.Mathlib.Omega.{arith}
+use borrow.Author.Needs.{needs}
+use lib.ListN.{length}
+use Rattle.pgsolver_step.specs.declared.portion.Portion.the-variants.{Reading, Stuck, Beyond}
+use Rattle.pgsolver_step.specs.Portions.{Passed, portions, passed-none, passed-more, passed-off, passed-over, passed-past, passed-all}
+use Rattle.pgsolver_step.proofs.portion.read_portion.Statement.{statement}
+use Rattle.pgsolver_step.proofs.portion.read_portion.Tie as tie
+
+abbrev Inv-loop : tie.InvT-loop
+Inv-loop text place most-bytes owners₀ priorities₀ offsets₀ targets₀ vertices edges s₀ at₀ i₀ i-end owners priorities offsets targets s at i =
+    (i-end ≡ length text) ×
+    Passed most-bytes vertices edges place s₀ text owners₀ priorities₀ offsets₀ targets₀ s at i owners priorities offsets targets
+
+abbrev μ-loop : tie.MeasureT-loop
+μ-loop text place most-bytes owners₀ priorities₀ offsets₀ targets₀ vertices edges s₀ at₀ i₀ i-end owners priorities offsets targets s at i =
+    length text - i
+
+limit-requires : tie.Need-limit-requires Inv-loop μ-loop
+limit-requires c κs = search needs
+
+limit-requires-2 : tie.Need-limit-requires-2 Inv-loop μ-loop
+limit-requires-2 c κs = search needs
+
+loop-holds : tie.Need-loop-holds Inv-loop μ-loop
+loop-holds c =
+    let args = c .before .before .before .before .before .before .before .args in (
+      refl,
+      passed-none (args .most-bytes) (c .before .limit .result) (c .limit2 .result) (args .place) (args .state) (args .text .now)
+          (args .owners .now)
+          (args .priorities .now)
+          (args .offsets .now)
+          (args .targets .now)
+          (c .before .before .before .before .before .before .before .pre)
+          (c .before .limit .ensures)
+          (c .limit2 .ensures),
+    )
+
+same-length : tie.Need-same-length Inv-loop μ-loop
+same-length c = search needs
+
+same-length-2 : tie.Need-same-length-2 Inv-loop μ-loop
+same-length-2 c = search needs
+
+same-length-3 : tie.Need-same-length-3 Inv-loop μ-loop
+same-length-3 c = search needs
+
+same-length-4 : tie.Need-same-length-4 Inv-loop μ-loop
+same-length-4 c = search needs
+
+returns : tie.Need-returns Inv-loop μ-loop
+returns c =
+    let at = c .before .before in
+    let args = at .before .before .before .before .before .before .before .before .args in
+    portions (args .most-bytes) (at .before .before .limit .result) (at .before .limit2 .result) (args .place) (args .state)
+    (args .text .now)
+    (args .owners .now)
+    (args .priorities .now)
+    (args .offsets .now)
+    (args .targets .now)
+    (Beyond (at .loop .at))
+    (at .loop .owners)
+    (at .loop .priorities)
+    (at .loop .offsets)
+    (at .loop .targets)
+    (at .before .before .limit .ensures)
+    (at .before .limit2 .ensures)
+    (passed-past (args .most-bytes) (at .before .before .limit .result) (at .before .limit2 .result) (args .place) (args .state)
+    (args .text .now)
+    (args .owners .now)
+    (args .priorities .now)
+    (args .offsets .now)
+    (args .targets .now)
+    (at .loop .s)
+    (at .loop .at)
+    (at .loop .i)
+    (at .loop .owners)
+    (at .loop .priorities)
+    (at .loop .offsets)
+    (at .loop .targets)
+    (at .loop .inv .1)
+    (omega arith)
+    (c .if1 .taken))
+    (λ h. at .loop .inv .1 .capped h)
+
+shared-slice-read-read-byte : tie.Need-shared-slice-read-read-byte Inv-loop μ-loop
+shared-slice-read-read-byte c = search needs
+
+read-byte-requires : tie.Need-read-byte-requires Inv-loop μ-loop
+read-byte-requires c κs = search needs
+
+enum-known-next : tie.Need-enum-known-next Inv-loop μ-loop
+enum-known-next c = search needs
+
+enum-told : tie.Need-enum-told Inv-loop μ-loop
+enum-told c = search needs
+
+same-length-5 : tie.Need-same-length-5 Inv-loop μ-loop
+same-length-5 c = search needs
+
+same-length-6 : tie.Need-same-length-6 Inv-loop μ-loop
+same-length-6 c = search needs
+
+same-length-7 : tie.Need-same-length-7 Inv-loop μ-loop
+same-length-7 c = search needs
+
+same-length-8 : tie.Need-same-length-8 Inv-loop μ-loop
+same-length-8 c = search needs
+
+returns-2 : tie.Need-returns-2 Inv-loop μ-loop
+returns-2 c =
+    let at = c .before .before .before .before .before .before .before .before .before .before .before .before .before .before .before .before .before .before in
+    let args = at .before .before .before .before .before .before .before .before .args in
+    let early = c .before .before .before .before .before .before .before .before .before .before .before .before .before .before .before .before .if1 .left in
+    let below : at .loop .i < length (args .text .now) = omega (arith, c .before .before .before .before .before .before .before .before .before .before .before .before .before .before .before .before .before .loop-test .taken) in
+    portions (args .most-bytes) (at .before .before .limit .result) (at .before .limit2 .result) (args .place) (args .state)
+    (args .text .now)
+    (args .owners .now)
+    (args .priorities .now)
+    (args .offsets .now)
+    (args .targets .now)
+    (Stuck (at .loop .at))
+    (c .before .before .before .before .before .before .before .before .before .before .read-byte .last .1 .1 .1 .1 .0)
+    (c .before .before .before .before .before .before .before .before .before .before .read-byte .last .1 .1 .1 .1 .1 .0)
+    (c .before .before .before .before .before .before .before .before .before .before .read-byte .last .1 .1 .1 .1 .1 .1 .0)
+    (c .before .before .before .before .before .before .before .before .before .before .read-byte .last .1 .1 .1 .1 .1 .1 .1 .0)
+    (at .before .before .limit .ensures)
+    (at .before .limit2 .ensures)
+    (passed-off (args .most-bytes) (at .before .before .limit .result) (at .before .limit2 .result) (args .place) (args .state)
+    (args .text .now)
+    (args .owners .now)
+    (args .priorities .now)
+    (args .offsets .now)
+    (args .targets .now)
+    (at .loop .s)
+    (at .loop .at)
+    (at .loop .i)
+    (at .loop .owners)
+    (at .loop .priorities)
+    (at .loop .offsets)
+    (at .loop .targets)
+    (at .loop .inv .1)
+    below
+    (c .before .before .before .before .before .before .before .before .before .before .read-byte .result)
+    (c .before .before .before .before .before .before .before .before .before .before .read-byte .last .1 .1 .1 .1 .0)
+    (c .before .before .before .before .before .before .before .before .before .before .read-byte .last .1 .1 .1 .1 .1 .0)
+    (c .before .before .before .before .before .before .before .before .before .before .read-byte .last .1 .1 .1 .1 .1 .1 .0)
+    (c .before .before .before .before .before .before .before .before .before .before .read-byte .last .1 .1 .1 .1 .1 .1 .1 .0)
+    (c .enum-told .given .1)
+    early
+    (c .before .before .before .before .before .before .before .before .before .before .read-byte .ensures))
+    (λ h. early)
+
+enum-told-2 : tie.Need-enum-told-2 Inv-loop μ-loop
+enum-told-2 c = search needs
+
+same-length-9 : tie.Need-same-length-9 Inv-loop μ-loop
+same-length-9 c = search needs
+
+same-length-10 : tie.Need-same-length-10 Inv-loop μ-loop
+same-length-10 c = search needs
+
+same-length-11 : tie.Need-same-length-11 Inv-loop μ-loop
+same-length-11 c = search needs
+
+same-length-12 : tie.Need-same-length-12 Inv-loop μ-loop
+same-length-12 c = search needs
+
+returns-3 : tie.Need-returns-3 Inv-loop μ-loop
+returns-3 c =
+    let at = c .before .before .before .before .before .before .before .before .before .before .before .before .before .before .before .before .before .before in
+    let args = at .before .before .before .before .before .before .before .before .args in
+    let early = c .before .before .before .before .before .before .before .before .before .before .before .before .before .before .before .before .if1 .left in
+    let below : at .loop .i < length (args .text .now) = omega (arith, c .before .before .before .before .before .before .before .before .before .before .before .before .before .before .before .before .before .loop-test .taken) in
+    portions (args .most-bytes) (at .before .before .limit .result) (at .before .limit2 .result) (args .place) (args .state)
+    (args .text .now)
+    (args .owners .now)
+    (args .priorities .now)
+    (args .offsets .now)
+    (args .targets .now)
+    (Beyond (at .loop .at))
+    (c .before .before .before .before .before .before .before .before .before .before .read-byte .last .1 .1 .1 .1 .0)
+    (c .before .before .before .before .before .before .before .before .before .before .read-byte .last .1 .1 .1 .1 .1 .0)
+    (c .before .before .before .before .before .before .before .before .before .before .read-byte .last .1 .1 .1 .1 .1 .1 .0)
+    (c .before .before .before .before .before .before .before .before .before .before .read-byte .last .1 .1 .1 .1 .1 .1 .1 .0)
+    (at .before .before .limit .ensures)
+    (at .before .limit2 .ensures)
+    (passed-over (args .most-bytes) (at .before .before .limit .result) (at .before .limit2 .result) (args .place) (args .state)
+    (args .text .now)
+    (args .owners .now)
+    (args .priorities .now)
+    (args .offsets .now)
+    (args .targets .now)
+    (at .loop .s)
+    (at .loop .at)
+    (at .loop .i)
+    (at .loop .owners)
+    (at .loop .priorities)
+    (at .loop .offsets)
+    (at .loop .targets)
+    (at .loop .inv .1)
+    below
+    (c .before .before .before .before .before .before .before .before .before .before .read-byte .result)
+    (c .before .before .before .before .before .before .before .before .before .before .read-byte .last .1 .1 .1 .1 .0)
+    (c .before .before .before .before .before .before .before .before .before .before .read-byte .last .1 .1 .1 .1 .1 .0)
+    (c .before .before .before .before .before .before .before .before .before .before .read-byte .last .1 .1 .1 .1 .1 .1 .0)
+    (c .before .before .before .before .before .before .before .before .before .before .read-byte .last .1 .1 .1 .1 .1 .1 .1 .0)
+    (c .enum-told2 .given .1)
+    early
+    (c .before .before .before .before .before .before .before .before .before .before .read-byte .ensures))
+    (λ h. omega arith)
+
+add-at : tie.Need-add-at Inv-loop μ-loop
+add-at c = omega (arith, c .before .before .before .before .before .before .before .before .before .before .before .before .before .before .before .before .before .if1 .left, c .before .before .before .before .before .before .before .before .before .before .before .before .before .before .before .before .before .before .before .before .before .before .before .before .before .before .before .fits .most-bytes)
+
+add-i : tie.Need-add-i Inv-loop μ-loop
+add-i c =
+    let at = c .before .before .before .before .before .before .before .before .before .before .before .before .before .before .before .before .before .before .before in
+    let below : at .loop .i < length (at .before .before .before .before .before .before .before .before .args .text .now) =
+    omega (arith, c .before .before .before .before .before .before .before .before .before .before .before .before .before .before .before .before .before .before .loop-test .taken) in
+    search needs
+
+loop-less : tie.Need-loop-less Inv-loop μ-loop
+loop-less c = search needs
+
+loop-again : tie.Need-loop-again Inv-loop μ-loop
+loop-again c =
+    let at = c .before .before .before .before .before .before .before .before .before .before .before .before .before .before .before .before .before .before .before in
+    let args = at .before .before .before .before .before .before .before .before .args in
+    let below : at .loop .i < length (args .text .now) = omega (arith, c .before .before .before .before .before .before .before .before .before .before .before .before .before .before .before .before .before .before .loop-test .taken) in (
+      refl,
+      passed-more (args .most-bytes) (at .before .before .limit .result) (at .before .limit2 .result) (args .place) (args .state)
+          (args .text .now)
+          (args .owners .now)
+          (args .priorities .now)
+          (args .offsets .now)
+          (args .targets .now)
+          (at .loop .s)
+          (at .loop .at)
+          (at .loop .i)
+          (at .loop .owners)
+          (at .loop .priorities)
+          (at .loop .offsets)
+          (at .loop .targets)
+          (at .loop .inv .1)
+          below
+          (c .before .before .before .before .before .before .before .before .before .before .before .read-byte .result)
+          (c .before .next .given .0 .0)
+          (c .before .before .before .before .before .before .before .before .before .before .before .read-byte .last .1 .1 .1 .1 .0)
+          (c .before .before .before .before .before .before .before .before .before .before .before .read-byte .last .1 .1 .1 .1 .1 .0)
+          (c .before .before .before .before .before .before .before .before .before .before .before .read-byte .last .1 .1 .1 .1 .1 .1 .0)
+          (c .before .before .before .before .before .before .before .before .before .before .before .read-byte .last .1 .1 .1 .1 .1 .1 .1 .0)
+          (c .before .next .given .1)
+          (c .before .before .before .before .before .before .before .before .before .before .before .before .before .before .before .before .before .if1 .left)
+          (search needs)
+          (search needs)
+          (search needs)
+          (search needs)
+          (c .before .before .before .before .before .before .before .before .before .before .before .read-byte .ensures),
+    )
+
+same-length-13 : tie.Need-same-length-13 Inv-loop μ-loop
+same-length-13 c = search needs
+
+same-length-14 : tie.Need-same-length-14 Inv-loop μ-loop
+same-length-14 c = search needs
+
+same-length-15 : tie.Need-same-length-15 Inv-loop μ-loop
+same-length-15 c = search needs
+
+same-length-16 : tie.Need-same-length-16 Inv-loop μ-loop
+same-length-16 c = search needs
+
+returns-4 : tie.Need-returns-4 Inv-loop μ-loop
+returns-4 c =
+    let at = c .before in
+    let args = at .before .before .before .before .before .before .before .before .args in
+    let all : at .loop .i ≡ length (args .text .now) = omega (arith, at .loop .inv .1 .up-to, c .loop-test .left) in
+    portions (args .most-bytes) (at .before .before .limit .result) (at .before .limit2 .result) (args .place) (args .state)
+    (args .text .now)
+    (args .owners .now)
+    (args .priorities .now)
+    (args .offsets .now)
+    (args .targets .now)
+    (Reading (at .loop .s))
+    (at .loop .owners)
+    (at .loop .priorities)
+    (at .loop .offsets)
+    (at .loop .targets)
+    (at .before .before .limit .ensures)
+    (at .before .limit2 .ensures)
+    (passed-all (args .most-bytes) (at .before .before .limit .result) (at .before .limit2 .result) (args .place) (args .state)
+    (args .text .now)
+    (args .owners .now)
+    (args .priorities .now)
+    (args .offsets .now)
+    (args .targets .now)
+    (at .loop .s)
+    (at .loop .at)
+    (at .loop .i)
+    (at .loop .owners)
+    (at .loop .priorities)
+    (at .loop .offsets)
+    (at .loop .targets)
+    (at .loop .inv .1)
+    all)
+    (λ h. omega (arith, at .loop .inv .1 .capped h, at .loop .inv .1 .place-now))
+
+pub read-portion-spec : {M : Type 1} → statement M
+read-portion-spec =
+    tie.close
+    (tie.spec
+    Inv-loop
+    μ-loop
+    limit-requires
+    limit-requires-2
+    loop-holds
+    same-length
+    same-length-2
+    same-length-3
+    same-length-4
+    returns
+    shared-slice-read-read-byte
+    read-byte-requires
+    enum-known-next
+    enum-told
+    same-length-5
+    same-length-6
+    same-length-7
+    same-length-8
+    returns-2
+    enum-told-2
+    same-length-9
+    same-length-10
+    same-length-11
+    same-length-12
+    returns-3
+    add-at
+    add-i
+    loop-less
+    loop-again
+    same-length-13
+    same-length-14
+    same-length-15
+    same-length-16
+    returns-4)
