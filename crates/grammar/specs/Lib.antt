@@ -14,3 +14,4 @@ pub mod Correct
 pub mod OneReading
 pub mod WorkedText
 pub mod Waiting
+pub mod Decimals
