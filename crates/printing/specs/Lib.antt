@@ -2,3 +2,4 @@
 pub mod Puts
 pub mod Winners
 pub mod Digits
+pub mod Line
