@@ -3,3 +3,4 @@ pub mod Puts
 pub mod Winners
 pub mod Digits
 pub mod Line
+pub mod Asking
