@@ -22,7 +22,7 @@
  * Each function returns a number, named below, and writes a place and a count. The count of an answer is what the function
  * says below. With 13 it is the budget, with every other number 0.
  *
- * Numbers 1 to 12 write nothing but place and count. With 13 the sets and the strategy stay as they were. With 0, 13 and
+ * Numbers 1 to 12 write nothing but place and count, where a function says nothing else. With 13 the sets and the strategy stay as they were. With 0, 13 and
  * 21 to 24 the first W words of the work area are zero afterwards; words beyond W never change.
  *
  * The budget is the most calls of reckonbough_zielonka, or rounds of reckonbough_priority_promotion. Let d be the number of
@@ -47,7 +47,7 @@
 #define RECKONBOUGH_MAX_PRIORITY 255
 
 /*
- * The numbers. Of 1 to 24 it is the first that applies, else 0. The place is 0 where the line says none. Later versions may
+ * The numbers. Of those that a function gives it is the first that applies, in the order that the function names, else 0. The place is 0 where the line says none. Later versions may
  * have more numbers; none of them is an answer.
  */
 #define RECKONBOUGH_ANSWERED 0          /* an answer, the checker's yes included */
@@ -74,6 +74,11 @@
                                            vertex, ends outside the winner's set; place: lowest vertex */
 #define RECKONBOUGH_LOSING_CYCLE 24     /* checker: a cycle of those edges inside a set, whose highest priority has the
                                            other player's parity; place: lowest vertex on one */
+#define RECKONBOUGH_BAD_TEXT 30         /* reading: no text of the grammar can follow this byte, or the text ends too soon or has
+                                           no record; place: the byte, or the text's length */
+#define RECKONBOUGH_BAD_IDENTIFIER 31   /* reading: identifiers 0 to n - 1 do not each appear once, or N is not n - 1;
+                                           place: the lowest that does not, else n */
+#define RECKONBOUGH_BEYOND_LIMIT 32     /* reading: the byte goes beyond a limit; place: the byte */
 
 #ifdef __cplusplus
 extern "C" {
@@ -206,6 +211,44 @@ uint64_t reckonbough_compact(
     const uint16_t *offsets, size_t offsets_length,
     const uint16_t *targets, size_t targets_length,
     uint16_t *new_priorities, size_t new_priorities_length,
+    uint64_t *place, uint64_t *count);
+
+/*
+ * Reads a game from a text in PGSolver's form: an optional `parity N;` with N the highest identifier, then records of
+ * identifier, priority, owner, targets with commas between, an optional quoted name, and a semicolon. Space, tab, CR and LF
+ * separate. Records may stand in any order.
+ * The rooms of the tables are the limits: at most as many vertices as owners has room for, at most as many edges as targets
+ * has, never more than 4096 and 16384; at most most_bytes bytes; no number above 65535. priorities is as long as owners, offsets
+ * one longer. An owner above 255 is kept as 255. Works in work, owners' room + targets' room words or more.
+ * With 0 the tables stand at the front of their rooms, every entry behind them is zero, and *n and *m are their sizes. With 9 and
+ * 10 nothing is written but place and count. With every other number all four tables are zero, and *n and *m are 0. With every
+ * number but 9 and 10 the first owners' room + targets' room words of work are zero afterwards.
+ * Gives, in this order: 9 (rooms that do not fit each other), 10, 30 or 32 (the earlier byte, and 32 at the same byte), 31, then
+ * of 1 to 8 what can occur: 4, 5 or 7; else 0. The count is 0.
+ */
+uint64_t reckonbough_read(
+    const uint8_t *text, size_t text_length,
+    uint64_t most_bytes,
+    uint8_t *owners, size_t owners_length,
+    uint16_t *priorities, size_t priorities_length,
+    uint16_t *offsets, size_t offsets_length,
+    uint16_t *targets, size_t targets_length,
+    uint64_t *work, size_t work_length,
+    uint64_t *n, uint64_t *m,
+    uint64_t *place, uint64_t *count);
+
+/*
+ * Reads what the text says, also where it is no game: takes, writes and gives what reckonbough_read does, but none of 1 to 8.
+ */
+uint64_t reckonbough_read_tables(
+    const uint8_t *text, size_t text_length,
+    uint64_t most_bytes,
+    uint8_t *owners, size_t owners_length,
+    uint16_t *priorities, size_t priorities_length,
+    uint16_t *offsets, size_t offsets_length,
+    uint16_t *targets, size_t targets_length,
+    uint64_t *work, size_t work_length,
+    uint64_t *n, uint64_t *m,
     uint64_t *place, uint64_t *count);
 
 #ifdef __cplusplus

@@ -53,6 +53,12 @@ pub enum Refusal {
     LeavesSet(usize),
     /// 24: on a cycle that the other player wins, the lowest vertex.
     LosingCycle(usize),
+    /// 30: no text of the grammar can follow this byte, or the text ends too soon or has no record, at its length.
+    BadText(usize),
+    /// 31: the lowest identifier that is not there exactly once, or the number of records where N is wrong.
+    BadIdentifier(usize),
+    /// 32: the byte that goes beyond a limit.
+    BeyondLimit(usize),
     /// A number that this crate does not know. The library that it is made for gives none.
     Unknown {
         /// The number.
@@ -83,6 +89,9 @@ impl Refusal {
             Refusal::BadEntry(vertex) => (22, vertex),
             Refusal::LeavesSet(vertex) => (23, vertex),
             Refusal::LosingCycle(vertex) => (24, vertex),
+            Refusal::BadText(byte) => (30, byte),
+            Refusal::BadIdentifier(identifier) => (31, identifier),
+            Refusal::BeyondLimit(byte) => (32, byte),
             Refusal::Unknown { number, place } => (number, place),
         }
     }
@@ -111,6 +120,9 @@ impl Answer {
             22 => Refusal::BadEntry(place),
             23 => Refusal::LeavesSet(place),
             24 => Refusal::LosingCycle(place),
+            30 => Refusal::BadText(place),
+            31 => Refusal::BadIdentifier(place),
+            32 => Refusal::BeyondLimit(place),
             number => Refusal::Unknown { number, place },
         })
     }
@@ -137,6 +149,9 @@ impl fmt::Display for Refusal {
             Refusal::BadEntry(_) => (Some("vertex"), "the strategy's entry is not lawful"),
             Refusal::LeavesSet(_) => (Some("vertex"), "an edge leaves the winner's set"),
             Refusal::LosingCycle(_) => (Some("vertex"), "on a cycle that the other player wins"),
+            Refusal::BadText(_) => (Some("byte"), "no text of PGSolver's form goes on here"),
+            Refusal::BadIdentifier(_) => (Some("identifier"), "the identifiers are not 0 to the highest, each once"),
+            Refusal::BeyondLimit(_) => (Some("byte"), "the text goes beyond a limit"),
             Refusal::Unknown { .. } => (Some("place"), "a number that this crate does not know"),
         };
         let (number, place) = self.number_and_place();

@@ -97,6 +97,28 @@ extern "C" {
         new_priorities: *mut u16, new_priorities_length: usize,
         place: *mut u64, count: *mut u64,
     ) -> u64;
+    fn reckonbough_read(
+        text: *const u8, text_length: usize,
+        most_bytes: u64,
+        owners: *mut u8, owners_length: usize,
+        priorities: *mut u16, priorities_length: usize,
+        offsets: *mut u16, offsets_length: usize,
+        targets: *mut u16, targets_length: usize,
+        work: *mut u64, work_length: usize,
+        n: *mut u64, m: *mut u64,
+        place: *mut u64, count: *mut u64,
+    ) -> u64;
+    fn reckonbough_read_tables(
+        text: *const u8, text_length: usize,
+        most_bytes: u64,
+        owners: *mut u8, owners_length: usize,
+        priorities: *mut u16, priorities_length: usize,
+        offsets: *mut u16, offsets_length: usize,
+        targets: *mut u16, targets_length: usize,
+        work: *mut u64, work_length: usize,
+        n: *mut u64, m: *mut u64,
+        place: *mut u64, count: *mut u64,
+    ) -> u64;
 }
 
 /// Calls a C function with the tables, its own arguments, place and count.
@@ -190,4 +212,47 @@ pub fn check(tables: Tables<'_>, even: &[u64], odd: &[u64], strategy: &[u16], wo
 /// Writes the compacted priorities: 0 or 1 to 9; the count is 0.
 pub fn compact(tables: Tables<'_>, new_priorities: &mut [u16]) -> Answer {
     call!(reckonbough_compact, tables, new_priorities.as_mut_ptr(), new_priorities.len())
+}
+
+/// The tables that a text is read into: their lengths are the limits on vertices and edges. `priorities` is as long as `owners`,
+/// `offsets` one longer.
+pub struct Rooms<'a> {
+    /// Owners, a byte a vertex.
+    pub owners: &'a mut [u8],
+    /// Priorities.
+    pub priorities: &'a mut [u16],
+    /// Offsets.
+    pub offsets: &'a mut [u16],
+    /// Targets.
+    pub targets: &'a mut [u16],
+}
+
+/// Calls one of the two readers; n and m come with the answer.
+macro_rules! read {
+    ($function:ident, $text:expr, $most_bytes:expr, $rooms:expr, $work:expr) => {{
+        let (text, Rooms { owners, priorities, offsets, targets }, work) = ($text, $rooms, $work);
+        let (mut n, mut m, mut place, mut count) = (0, 0, 0, 0);
+        // SAFETY: every pointer comes with the length of the slice it was taken from. What is written to was lent by &mut,
+        // so it overlaps nothing else. The function keeps no pointer and asks nothing of what the slices hold.
+        let number = unsafe {
+            $function(
+                text.as_ptr(), text.len(), $most_bytes,
+                owners.as_mut_ptr(), owners.len(), priorities.as_mut_ptr(), priorities.len(),
+                offsets.as_mut_ptr(), offsets.len(), targets.as_mut_ptr(), targets.len(),
+                work.as_mut_ptr(), work.len(), &mut n, &mut m, &mut place, &mut count,
+            )
+        };
+        (Answer { number, place, count }, n as usize, m as usize)
+    }};
+}
+
+/// Reads a game from PGSolver text: 0, 9, 10, 30 or 32, 31, then 4, 5 or 7; with n and m. The work area is at least the room of
+/// owners and that of targets together.
+pub fn read(text: &[u8], most_bytes: u64, rooms: Rooms<'_>, work: &mut [u64]) -> (Answer, usize, usize) {
+    read!(reckonbough_read, text, most_bytes, rooms, work)
+}
+
+/// Reads what a PGSolver text says, also where it is no game: as [`read`], but none of 1 to 8.
+pub fn read_tables(text: &[u8], most_bytes: u64, rooms: Rooms<'_>, work: &mut [u64]) -> (Answer, usize, usize) {
+    read!(reckonbough_read_tables, text, most_bytes, rooms, work)
 }

@@ -119,6 +119,39 @@ impl Game {
         Ok(game)
     }
 
+    /// Reads a game from PGSolver text of up to 16 MiB, with at most 4,096 vertices and 16,384 edges.
+    ///
+    /// ```
+    /// use reckonbough::{Game, Refusal};
+    /// let game = Game::read(b"parity 1; 0 2 0 1; 1 0 1 0,1;")?;
+    /// assert_eq!((game.vertices(), game.edges()), (2, 3));
+    /// assert_eq!(Game::read(b"0 0 0;"), Err(Refusal::BadText(5)));
+    /// # Ok::<(), Refusal>(())
+    /// ```
+    pub fn read(text: &[u8]) -> Result<Game, Refusal> {
+        let (vertices, edges) = (crate::MAX_VERTICES, crate::MAX_EDGES);
+        let mut game = Game {
+            owners: vec![0; vertices],
+            priorities: vec![0; vertices],
+            offsets: vec![0; vertices + 1],
+            targets: vec![0; edges],
+        };
+        let rooms = doors::Rooms {
+            owners: &mut game.owners,
+            priorities: &mut game.priorities,
+            offsets: &mut game.offsets,
+            targets: &mut game.targets,
+        };
+        let (answer, n, m) = doors::read(text, crate::MAX_TEXT, rooms, &mut vec![0; vertices + edges]);
+        answer.result()?;
+        game.owners.truncate(n);
+        game.priorities.truncate(n);
+        game.offsets.truncate(n + 1);
+        game.targets.truncate(m);
+        Ok(game)
+    }
+
+
     /// The four tables, to be lent to [`doors`].
     pub fn tables(&self) -> Tables<'_> {
         Tables { owners: &self.owners, priorities: &self.priorities, offsets: &self.offsets, targets: &self.targets }

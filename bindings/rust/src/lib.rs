@@ -33,3 +33,5 @@ pub const MAX_VERTICES: usize = 4_096;
 pub const MAX_EDGES: usize = 16_384;
 /// The highest priority of a game.
 pub const MAX_PRIORITY: u16 = 255;
+/// The longest text that [`Game::read`] takes, in bytes.
+pub const MAX_TEXT: u64 = 1 << 24;

@@ -6,11 +6,14 @@ mod player;
 
 pub use answer::Answer;
 pub use answer::BAD_ENTRY;
+pub use answer::BAD_IDENTIFIER;
 pub use answer::BAD_OFFSET;
 pub use answer::BAD_OWNER;
 pub use answer::BAD_PRIORITY;
 pub use answer::BAD_SIZE;
 pub use answer::BAD_TARGET;
+pub use answer::BAD_TEXT;
+pub use answer::BEYOND_LIMIT;
 pub use answer::DEAD_END;
 pub use answer::LEAVES_SET;
 pub use answer::LOSING_CYCLE;

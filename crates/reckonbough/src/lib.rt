@@ -4,6 +4,7 @@ mod answer;
 mod attraction;
 mod certificate;
 mod promotion;
+mod reading;
 mod recursion;
 mod solitaire;
 mod tables;
