@@ -1,0 +1,182 @@
+// The public functions: a text read into lent tables, for every input.
+use crate::finish::Asks;
+use crate::finish::finish;
+use crate::finish::refuse;
+use crate::tell::Told;
+use crate::tell::tell;
+use arrange::Fits;
+use arrange::check_rooms;
+use arrange::clear_rooms;
+use parity_game::Answer;
+use parity_game::BAD_SIZE;
+use parity_game::SHORT_WORK;
+ghost use mathlib.Core.Path.{_≡_};
+ghost use Rattle.rules.specs.Reading as Reading;
+ghost use Rattle.rules.specs.Reading.{ReadsText};
+ghost use Rattle.parity_game.specs.Said.{said};
+ghost use Rattle.arrange.specs.Laws.{roomsOf};
+ghost use Rattle.pgsolver.specs.Finishing.{asksIn, writtenOf};
+ghost use Rattle.pgsolver.specs.Reading.{Fitted};
+
+// Where the rooms fit: what the text says, then the list.
+fn read_fitting(
+    asks: Asks,
+    text: &[u8],
+    most_bytes: u64,
+    owners: &mut [u8],
+    priorities: &mut [u16],
+    offsets: &mut [u16],
+    targets: &mut [u16],
+    work: &mut [u64],
+    n: &mut u64,
+    m: &mut u64,
+) -> Answer
+    requires { ⌜ Fitted (roomsOf (now owners) (now priorities) (now offsets) (now targets) (now work)) ⌝ }
+    ensures { λ r.
+        ⌜ Reading.Told (asksIn asks) «most_bytes» (now (text .entry))
+        (roomsOf (now (owners .entry)) (now (priorities .entry)) (now (offsets .entry)) (now (targets .entry))
+        (now (work .entry)))
+        (writtenOf (now (owners .exit)) (now (priorities .exit)) (now (offsets .exit)) (now (targets .exit))
+        (now (work .exit)) (now (n .exit)) (now (m .exit)))
+        (said r) ⌝ }
+{
+    clear_rooms(
+        owners,
+        priorities,
+        offsets,
+        targets,
+        work,
+        owners.len() + targets.len(),
+    );
+    match tell(text, most_bytes, owners, priorities, offsets, targets, work) {
+        Told::Refused(number, place) => {
+            refuse(owners, priorities, offsets, targets, work, n, m);
+            Answer::AtPlace(number, place)
+        }
+        Told::Whole(records, edges) => finish(
+            asks,
+            records,
+            edges,
+            owners,
+            priorities,
+            offsets,
+            targets,
+            work,
+            n,
+            m,
+        ),
+    }
+}
+
+// 9 and 10 first: nothing is written then.
+fn read_by(
+    asks: Asks,
+    text: &[u8],
+    most_bytes: u64,
+    owners: &mut [u8],
+    priorities: &mut [u16],
+    offsets: &mut [u16],
+    targets: &mut [u16],
+    work: &mut [u64],
+    n: &mut u64,
+    m: &mut u64,
+) -> Answer
+    ensures { λ r.
+        ⌜ ReadsText (asksIn asks) «most_bytes» (now (text .entry))
+        (writtenOf (now (owners .entry)) (now (priorities .entry)) (now (offsets .entry)) (now (targets .entry))
+        (now (work .entry)) (now (n .entry)) (now (m .entry)))
+        (writtenOf (now (owners .exit)) (now (priorities .exit)) (now (offsets .exit)) (now (targets .exit))
+        (now (work .exit)) (now (n .exit)) (now (m .exit)))
+        (said r) ⌝ }
+{
+    match check_rooms(
+        owners.len(),
+        priorities.len(),
+        offsets.len(),
+        targets.len(),
+        work.len(),
+    ) {
+        Fits::Sizes => Answer::Refused(BAD_SIZE),
+        Fits::Work => Answer::Refused(SHORT_WORK),
+        Fits::Fit => read_fitting(
+            asks,
+            text,
+            most_bytes,
+            owners,
+            priorities,
+            offsets,
+            targets,
+            work,
+            n,
+            m,
+        ),
+    }
+}
+
+// A game from a text: its tables pass document 01's list.
+pub fn read(
+    text: &[u8],
+    most_bytes: u64,
+    owners: &mut [u8],
+    priorities: &mut [u16],
+    offsets: &mut [u16],
+    targets: &mut [u16],
+    work: &mut [u64],
+    n: &mut u64,
+    m: &mut u64,
+) -> Answer
+    ensures { λ r.
+        ⌜ ReadsText Reading.game «most_bytes» (now (text .entry))
+        (writtenOf (now (owners .entry)) (now (priorities .entry)) (now (offsets .entry)) (now (targets .entry))
+        (now (work .entry)) (now (n .entry)) (now (m .entry)))
+        (writtenOf (now (owners .exit)) (now (priorities .exit)) (now (offsets .exit)) (now (targets .exit))
+        (now (work .exit)) (now (n .exit)) (now (m .exit)))
+        (said r) ⌝ }
+{
+    read_by(
+        Asks::Game,
+        text,
+        most_bytes,
+        owners,
+        priorities,
+        offsets,
+        targets,
+        work,
+        n,
+        m,
+    )
+}
+
+// What a text says, also where document 01's list would refuse it.
+pub fn read_tables(
+    text: &[u8],
+    most_bytes: u64,
+    owners: &mut [u8],
+    priorities: &mut [u16],
+    offsets: &mut [u16],
+    targets: &mut [u16],
+    work: &mut [u64],
+    n: &mut u64,
+    m: &mut u64,
+) -> Answer
+    ensures { λ r.
+        ⌜ ReadsText Reading.text «most_bytes» (now (text .entry))
+        (writtenOf (now (owners .entry)) (now (priorities .entry)) (now (offsets .entry)) (now (targets .entry))
+        (now (work .entry)) (now (n .entry)) (now (m .entry)))
+        (writtenOf (now (owners .exit)) (now (priorities .exit)) (now (offsets .exit)) (now (targets .exit))
+        (now (work .exit)) (now (n .exit)) (now (m .exit)))
+        (said r) ⌝ }
+{
+    read_by(
+        Asks::Text,
+        text,
+        most_bytes,
+        owners,
+        priorities,
+        offsets,
+        targets,
+        work,
+        n,
+        m,
+    )
+}
