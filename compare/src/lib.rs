@@ -13,5 +13,8 @@ pub mod port;
 #[cfg(feature = "port")]
 pub mod port_check;
 pub mod probe;
+pub mod reader;
 pub mod reference;
 pub mod slip;
+#[cfg(feature = "port")]
+pub mod texts;

@@ -1,4 +1,4 @@
-//! compare all [RANDOM] [LARGE] [CAPPED] | list | replay FILE | probe | slip
+//! compare all [RANDOM] [LARGE] [CAPPED] | texts [COUNT] | list | replay FILE | probe | slip
 
 use std::time::Instant;
 
@@ -22,6 +22,7 @@ fn command() -> i32 {
     let number = |at: usize, or: u64| arguments.get(at).map_or(Ok(or), |text| text.parse());
     match (arguments.first().map(String::as_str), number(1, 100_000), number(2, 16), number(3, 0)) {
         (Some("all"), Ok(random), Ok(large), Ok(capped)) => all(random, large, capped),
+        (Some("texts"), Ok(count), ..) => texts(count),
         (Some("list"), ..) => print_list(),
         (Some("replay"), ..) => replay(&arguments[1]),
         (Some("probe"), ..) => {
@@ -30,7 +31,7 @@ fn command() -> i32 {
         }
         (Some("slip"), ..) => slip::report(),
         _ => {
-            eprintln!("usage: compare all [RANDOM] [LARGE] [CAPPED] | list | replay FILE | probe | slip");
+            eprintln!("usage: compare all [RANDOM] [LARGE] [CAPPED] | texts [COUNT] | list | replay FILE | probe | slip");
             2
         }
     }
@@ -110,6 +111,28 @@ fn finish(families: &[Family], allowed: u64) -> i32 {
     };
     println!("{verdict}{}", if cfg!(feature = "port") { "" } else { ", the port not compared" });
     failed as i32
+}
+
+/// Random texts, read by the port and by the plain reader.
+#[cfg(feature = "port")]
+fn texts(count: u64) -> i32 {
+    let (start, mut tally, mut differ) = (Instant::now(), compare::texts::Tally::new(), 0);
+    for seed in 0..count {
+        if let Err(what) = compare::texts::compare(seed, &mut tally) {
+            differ += 1;
+            if differ <= SHOWN {
+                println!("DIFFERENCE {what}");
+            }
+        }
+    }
+    println!("{count} texts, {differ} differ, {:.1} s; how often each number: {tally:?}", start.elapsed().as_secs_f64());
+    (differ > 0) as i32
+}
+
+#[cfg(not(feature = "port"))]
+fn texts(_: u64) -> i32 {
+    println!("texts: NOT compared, the port's library was not there");
+    0
 }
 
 fn print_list() -> i32 {

@@ -102,3 +102,65 @@ pub fn check(game: &Game, lent: &mut Lent) -> Answer {
 pub fn compact(game: &Game, lent: &mut Lent) -> Answer {
     door!(reckonbough_compact(game, lent.strategy.as_mut_ptr() => *mut u16, lent.strategy.len() => usize))
 }
+
+/// What is lent to the reader: four tables, the work area, and the sizes.
+#[derive(Clone, Debug, PartialEq, Eq)]
+pub struct Rooms {
+    pub owners: Vec<u8>,
+    pub priorities: Vec<u16>,
+    pub offsets: Vec<u16>,
+    pub targets: Vec<u16>,
+    pub work: Vec<u64>,
+    pub n: u64,
+    pub m: u64,
+}
+
+impl Rooms {
+    /// Room for so many vertices and edges and three words more than needed, every byte the same.
+    pub fn filled(vertices: usize, edges: usize, byte: u8) -> Rooms {
+        let (short, long) = (u16::from_ne_bytes([byte; 2]), u64::from_ne_bytes([byte; 8]));
+        Rooms {
+            owners: vec![byte; vertices],
+            priorities: vec![short; vertices],
+            offsets: vec![short; vertices + 1],
+            targets: vec![short; edges],
+            work: vec![long; vertices + edges + 3],
+            n: long,
+            m: long,
+        }
+    }
+}
+
+/// Declares a door of the reader and gives the answer of calling it.
+macro_rules! reading {
+    ($name:ident($text:expr, $most_bytes:expr, $rooms:expr)) => {{
+        extern "C" {
+            fn $name(
+                text: *const u8, text_len: usize, most_bytes: u64,
+                owners: *mut u8, owners_len: usize, priorities: *mut u16, priorities_len: usize,
+                offsets: *mut u16, offsets_len: usize, targets: *mut u16, targets_len: usize,
+                work: *mut u64, work_len: usize, n: *mut u64, m: *mut u64, place: *mut u64, count: *mut u64,
+            ) -> u64;
+        }
+        let (text, rooms): (&[u8], &mut Rooms) = ($text, $rooms);
+        let (mut place, mut count) = (u64::MAX, u64::MAX);
+        // Every pointer goes with the length of the slice it was taken from.
+        let number = unsafe {
+            $name(
+                text.as_ptr(), text.len(), $most_bytes,
+                rooms.owners.as_mut_ptr(), rooms.owners.len(), rooms.priorities.as_mut_ptr(), rooms.priorities.len(),
+                rooms.offsets.as_mut_ptr(), rooms.offsets.len(), rooms.targets.as_mut_ptr(), rooms.targets.len(),
+                rooms.work.as_mut_ptr(), rooms.work.len(), &mut rooms.n, &mut rooms.m, &mut place, &mut count,
+            )
+        };
+        Answer { number, place, count }
+    }};
+}
+
+pub fn read(text: &[u8], most_bytes: u64, rooms: &mut Rooms) -> Answer {
+    reading!(reckonbough_read(text, most_bytes, rooms))
+}
+
+pub fn read_tables(text: &[u8], most_bytes: u64, rooms: &mut Rooms) -> Answer {
+    reading!(reckonbough_read_tables(text, most_bytes, rooms))
+}
