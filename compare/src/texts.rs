@@ -33,7 +33,8 @@ pub fn compare(seed: u64, tally: &mut Tally) -> Result<(), String> {
         *tally.entry(answer.number).or_default() += 1;
         if got != answer || rooms != left(game.as_ref(), vertices, edges) {
             let shown = String::from_utf8_lossy(&text);
-            return Err(format!("{name} of {shown:?} within {limits:?}: wanted {answer:?} and {game:?}, got {got:?} and {rooms:?}"));
+            let wanted = format!("wanted {answer:?} and {game:?}, got {got:?} and {rooms:?}");
+            return Err(format!("{name} of {shown:?} within {limits:?}: {wanted}"));
         }
     }
     refused_rooms(&text, vertices, edges)
@@ -58,7 +59,7 @@ fn left(game: Option<&Game>, vertices: usize, edges: usize) -> Rooms {
 fn refused_rooms(text: &[u8], vertices: usize, edges: usize) -> Result<(), String> {
     let spoil: [(u64, fn(&mut Rooms)); 4] = [
         (9, |rooms| rooms.priorities.push(7)),
-        (9, |rooms| drop(rooms.offsets.pop())),
+        (9, |rooms| rooms.offsets.truncate(rooms.owners.len())),
         (9, |rooms| rooms.owners.push(7)),
         (10, |rooms| rooms.work.truncate((rooms.owners.len() + rooms.targets.len()).saturating_sub(1))),
     ];
@@ -158,7 +159,9 @@ fn damaged(mut text: Vec<u8>, numbers: &mut Numbers) -> Vec<u8> {
         match numbers.below(5) {
             _ if text.is_empty() => text.push(byte),
             0 => text[at] = byte,
-            1 => drop(text.remove(at)),
+            1 => {
+                text.remove(at);
+            }
             2 => text.insert(at, text[at]),
             3 => text.insert(at, byte),
             _ => text.truncate(at),

@@ -12,7 +12,7 @@ use lib.Seq.{ext-getD}
 use Rattle.rules.specs.Counting.{Set, listed, everyOf}
 use Rattle.rules.specs.Decimal.{decimal}
 use Rattle.rules.specs.Game.{Player, Odd, Game}
-use Rattle.rules.specs.Outcome.{Outcome, Verdict, none, outcome, budgeted, _then_}
+use Rattle.rules.specs.Outcome.{Outcome, Verdict, none, outcome, answered, budgeted, _then_}
 use Rattle.rules.specs.Printing.{space, newline, dash, fileWord, winnerDigits, winnersWord, solvedLine}
 use Rattle.rules.specs.Promotion.{afterRounds, roundsNeeded}
 use Rattle.rules.specs.Solver.{Lent, solverChecks, Solves, Leaves, Stopped, Answered}
@@ -45,7 +45,8 @@ pub record Ready (t : Tables) (l : Lent) (out : List ℕ) : Type 0 where
 pub work-enough : (n m : ℕ) → n ≤ 128 → m ≤ 512 → workWords n m ≤ 3888
 unfolding workWords words
 work-enough n m few short =
-    let most : 8 * (n + 2) * ((n + 63) / 64) ≤ 1040 * 2 = mul-le-mul {n₂ = 1040} {m₂ = 2} (omega arith) (omega arith) in omega arith
+    let most : 8 * (n + 2) * ((n + 63) / 64) ≤ 1040 * 2 = mul-le-mul {n₂ = 1040} {m₂ = 2} (omega arith) (omega arith) in
+    omega arith
 
 pub words-few : (n : ℕ) → n ≤ 128 → words n ≤ 2
 unfolding words
@@ -87,7 +88,7 @@ counted-budgeted : (budget needed : ℕ) → countedOf (budgeted budget needed) 
 counted-budgeted budget needed = by (ltb budget needed)
   where
     by : (over : Bool) →
-        countedOf (cond over (record { number = 13; place = 0; count = budget }) (record { number = 0; place = 0; count = needed }))
+        countedOf (cond over (record { number = 13; place = 0; count = budget }) (answered needed))
         ≡ cond over Over (Needed needed)
     by true = refl
     by false = refl
@@ -141,7 +142,8 @@ line-by :
     (space ++ (cond x dash (decimal calls) ++ (space ++ (cond y dash (decimal rounds) ++ newline))))))
 line-by true true calls rounds n S zielonkas promotions first second = refl
 line-by true false calls rounds n S zielonkas promotions first second =
-    ap (λ (w : List ℕ). fileWord ++ (space ++ (w ++ (space ++ (dash ++ (space ++ (decimal rounds ++ newline))))))) (second refl refl)
+    ap (λ (w : List ℕ). fileWord ++ (space ++ (w ++ (space ++ (dash ++ (space ++ (decimal rounds ++ newline)))))))
+    (second refl refl)
 line-by false true calls rounds n S zielonkas promotions first second =
     ap (λ (w : List ℕ). fileWord ++ (space ++ (w ++ (space ++ (decimal calls ++ (space ++ (dash ++ newline))))))) (first refl)
 line-by false false calls rounds n S zielonkas promotions first second =

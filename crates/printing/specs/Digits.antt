@@ -20,7 +20,8 @@ pub digit-room : (at n : ℕ) (out : List ℕ) → n < 10 → Fits at (decimal n
 digit-room at n out low fits = omega (arith, length-small n low)
 
 -- and is the number
-pub digit-put : (at n : ℕ) (out : List ℕ) → n < 10 → Fits at (decimal n) out → Puts at (decimal n) out (set out at (48 + n)) (at + 1)
+pub digit-put :
+    (at n : ℕ) (out : List ℕ) → n < 10 → Fits at (decimal n) out → Puts at (decimal n) out (set out at (48 + n)) (at + 1)
 digit-put at n out low fits =
     subst (λ (r : ℕ). Puts at (decimal n) out (set out at (48 + n)) r) (sym (add-one at))
     (subst (λ (s : List ℕ). Puts at s out (set out at (48 + n)) (suc at)) (sym (decimal-small n low))

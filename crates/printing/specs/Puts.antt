@@ -77,7 +77,11 @@ pub record Putting (at i : ℕ) (bytes before after : List ℕ) : Type 0 where
 
 pub putting-none : (at : ℕ) (bytes out : List ℕ) → Fits at bytes out → Putting at 0 bytes out out
 putting-none at bytes out room =
-    record { room = room; some = omega arith; puts = subst (λ (k : ℕ). Puts at [] out out k) (sym (add-zero at)) (puts-none at out) }
+    record {
+      room = room;
+      some = omega arith;
+      puts = subst (λ (k : ℕ). Puts at [] out out k) (sym (add-zero at)) (puts-none at out);
+    }
 
 -- one entry more
 pub putting-more :

@@ -13,10 +13,12 @@ use Rattle.rules.specs.Outcome.{Outcome, Verdict, none, refused, given, givenAt
 use Rattle.rules.specs.Pgsolver.{Header, Entry}
 use Rattle.rules.specs.Printing.{refusedLine, solvedLine, lineOf, PrintsText}
 use Rattle.rules.specs.Reading.{Reads, beyond, stuck, whole, limitsOfA1, readChecks, game, check31, wrongHighest, tablesRead}
-use Rattle.rules.specs.Reading.{Limits, Rooms, Written, written, Told, ReadsBy, ReadsText, roomChecks, padded, entryOf, targetsUpTo}
+use Rattle.rules.specs.Reading.{Limits, Rooms, Written, written, Told, ReadsBy, ReadsText, roomChecks, padded}
+use Rattle.rules.specs.Reading.{entryOf, targetsUpTo}
 use Rattle.rules.specs.Tables.{Tables, tablesOf, vertices, edgesIn, gameOf, tableChecks, Accepted}
 use Rattle.theory.specs.Basics.{length-listed}
-use Rattle.parity_game.specs.Laws.{Numbered, numbered-then, numbered-given, numbered-givenAt, numbered-tables, zero-none, then-none}
+use Rattle.parity_game.specs.Laws.{Numbered, numbered-then, numbered-given, numbered-givenAt, numbered-tables}
+use Rattle.parity_game.specs.Laws.{zero-none, then-none}
 use Rattle.both_engines.specs.Solved.{Given}
 
 -- A1's rooms, with nothing in them
@@ -150,9 +152,9 @@ module _ (text : List ℕ) (after : Written) (o : Outcome) (read : ReadsText gam
     accepted : Accepted (tablesRead (told .entries))
     unfolding Accepted
     accepted =
-        then-none (check31 (told .header) (told .entries)) (tableChecks (tablesRead (told .entries)))
-        (then-none (told .verdict) (check31 (told .header) (told .entries) then tableChecks (tablesRead (told .entries))) passes .1)
-        .1
+        let listed = tableChecks (tablesRead (told .entries)) in
+        let numbered = check31 (told .header) (told .entries) in
+        then-none numbered listed (then-none (told .verdict) (numbered then listed) passes .1) .1
 
     -- the sizes keep the rooms
     pub few : length (after .rooms .owners) ≡ 128 → after .n ≤ 128

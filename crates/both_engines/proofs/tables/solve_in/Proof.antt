@@ -14,7 +14,8 @@ use Rattle.rules.specs.Zielonka.{zielonka}
 use Rattle.printing.specs.declared.line.Counted.{Counted}
 use Rattle.printing.specs.Line.{lineBytes}
 use Rattle.printing.specs.Puts.{Puts}
-use Rattle.both_engines.specs.Solved.{Ready, ready-passes, words-cover, solves-counted, solves-kept, countedFor, line-solved}
+use Rattle.both_engines.specs.Solved.{Ready, ready-passes, words-cover, countedFor}
+use Rattle.both_engines.specs.Solved.{solves-counted, solves-kept, line-solved}
 use Rattle.both_engines.proofs.tables.solve_in.Statement.{statement}
 use Rattle.both_engines.proofs.tables.solve_in.Tie as tie
 
@@ -80,7 +81,9 @@ again c =
       even-size = even-same c ∙ r .even-size;
       odd-size = odd-same c ∙ r .odd-size;
       strategy-size = strategy-same c ∙ r .strategy-size;
-      work-size = subst (λ (k : ℕ). workWords (vertices (tables (start c))) (edgesIn (tables (start c))) ≤ k) (sym (work-same c)) (r .work-size);
+      work-size =
+          subst (λ (k : ℕ). workWords (vertices (tables (start c))) (edgesIn (tables (start c))) ≤ k) (sym (work-same c))
+          (r .work-size);
     }
 
 solve-priority-promotion-requires : tie.Need-solve-priority-promotion-requires
@@ -140,7 +143,8 @@ returns c =
     line-solved budget t (at .args .odd .now) (between at1 .odd) (odd-after at2)
     (solves-kept (at1 .solve-priority-promotion .ensures) passes)
     (solves-kept (at2 .solve-zielonka .ensures) passes-again) in
-    subst (λ (bytes : List ℕ). Puts 0 bytes (at .args .out .now) (line .solved-line .last .1 .1 .1 .1 .0) (line .solved-line .result)) is
+    let made = line .solved-line in
+    subst (λ (bytes : List ℕ). Puts 0 bytes (at .args .out .now) (made .last .1 .1 .1 .1 .0) (made .result)) is
     (line .solved-line .ensures)
 
 pub solve-in-spec : {M : Type 1} → statement M

@@ -32,7 +32,8 @@ put-number-requires : tie.Need-put-number-requires
 put-number-requires c κs =
     let at1 = c .before .before .before in
     let at = start at1 in
-    omega (arith, at .pre, at1 .put-word .ensures .place, at1 .put-word .ensures .long, word-short (at .args .number) (at .fits .number))
+    let first = at1 .put-word .ensures in
+    omega (arith, at .pre, first .place, first .long, word-short (at .args .number) (at .fits .number))
 
 slice-aggregate-put-word-2 : tie.Need-slice-aggregate-put-word-2
 slice-aggregate-put-word-2 c = search needs

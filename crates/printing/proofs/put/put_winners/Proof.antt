@@ -63,7 +63,8 @@ digit-is c =
 
 loop-again : tie.Need-loop-again Inv-loop μ-loop
 loop-again c =
-    let at = c .before .before .before in putting-more (c .if1 .digit) (at .loop .inv) (omega (arith, long (start at))) (digit-is c)
+    let at = c .before .before .before in
+    putting-more (c .if1 .digit) (at .loop .inv) (omega (arith, long (start at))) (digit-is c)
 
 add-result : tie.Need-add-result Inv-loop μ-loop
 add-result c = search needs

@@ -33,7 +33,10 @@ loop-less : tie.Need-loop-less Inv-loop μ-loop
 loop-less c = search needs
 
 loop-again : tie.Need-loop-again Inv-loop μ-loop
-loop-again c = let at = c .before .before in (search needs, putting-more (getD (at .before .args .word .now) (at .loop .i) 0) (at .loop .inv .1) (omega arith) refl)
+loop-again c =
+    let at = c .before .before in
+    let b = getD (at .before .args .word .now) (at .loop .i) 0 in
+    (search needs, putting-more b (at .loop .inv .1) (omega arith) refl)
 
 add-result : tie.Need-add-result Inv-loop μ-loop
 add-result c = search needs
