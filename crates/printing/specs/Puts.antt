@@ -6,7 +6,7 @@ use Prim.Native.Nat.{ℕ, zero, suc, _+_, _-_, _≤_, _<_}
 use native.Mathlib.Nat.{suc-add, add-suc, add-zero, add-assoc}
 use native.Mathlib.Numerals.{add-one}
 use native.Mathlib.Omega.{arith}
-use lib.ListN.{length, take, drop, set, getD, length-append, length-set}
+use lib.ListN.{length, take, drop, set, getD, length-append, length-set, length-take}
 use lib.Seq.{take-suc-set, drop-set-lt, drop-drop, take-suc, take-all}
 
 -- there is room for the bytes
@@ -66,6 +66,11 @@ puts-both {at} {r} {s} {a} {b} {before} {between} {after} p q =
 -- a piece from the beginning on is what the array begins with
 pub puts-front : {r : ℕ} {bytes before after : List ℕ} → Puts 0 bytes before after r → take r after ≡ bytes
 puts-front p = p .front
+
+-- and is within it
+pub puts-within : {r : ℕ} {bytes before after : List ℕ} → Puts 0 bytes before after r → r ≤ length after
+puts-within {r} {bytes} {before} {after} p =
+    omega (arith, p .place, simp length-take at (ap length (p .front)))
 
 -- ---- a piece put entry by entry
 

@@ -7,7 +7,8 @@ ghost use Rattle.rules.specs.Printing.{PrintsText};
 // In rooms for A1's limits: 16,384 bytes, 128 vertices and 512 edges.
 pub fn solve_text(text: &[u8], budget: u64, out: &mut [u8]) -> usize
     requires { ⌜ 256 ≤ length (now out) ⌝ }
-    ensures { λ r. ⌜ PrintsText budget (now (text .entry)) (take r (now (out .exit))) ⌝ }
+    ensures { λ r.
+        ⌜ PrintsText budget (now (text .entry)) (take r (now (out .exit))) × (r ≤ length (now (out .exit))) ⌝ }
 {
     let mut owners = [0u8; 128];
     let mut priorities = [0u16; 128];

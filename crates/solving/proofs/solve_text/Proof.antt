@@ -9,7 +9,7 @@ use Rattle.rules.specs.Outcome.{Outcome}
 use Rattle.rules.specs.Printing.{refusedLine, PrintsText}
 use Rattle.rules.specs.Reading.{Written}
 use Rattle.parity_game.specs.Said.{said}
-use Rattle.printing.specs.Puts.{puts-front}
+use Rattle.printing.specs.Puts.{puts-front, puts-within}
 use Rattle.solving.specs.Texts.{prints-refused, few, short, game-given, prints-solved}
 use Rattle.solving.proofs.solve_text.Statement.{statement}
 use Rattle.solving.proofs.solve_text.Tie as tie
@@ -106,9 +106,12 @@ returns c =
     puts-front (line .refused-line .ensures) ∙
     ap (λ (k : ℕ). refusedLine k (at-place .place .result)) (at-number .number2 .ensures) ∙
     ap (λ (p : ℕ). refusedLine (gave at .number) p) (at-place .place .ensures) in
-    subst (λ (bytes : List ℕ). PrintsText (start at .args .budget) (text at) bytes) (sym is)
-    (prints-refused (text at) (after at) (gave at) (at .read .ensures) (start at .args .budget)
-    (λ e. test .if1 .taken (test .before .number .ensures ∙ e)))
+    (
+      subst (λ (bytes : List ℕ). PrintsText (start at .args .budget) (text at) bytes) (sym is)
+          (prints-refused (text at) (after at) (gave at) (at .read .ensures) (start at .args .budget)
+          (λ e. test .if1 .taken (test .before .number .ensures ∙ e))),
+      puts-within (line .refused-line .ensures),
+    )
 
 sub-solve-tables : tie.Need-sub-solve-tables
 sub-solve-tables c = search needs
@@ -164,9 +167,12 @@ returns-2 c =
     let solved = c .before .before in
     let test = solved .before .before .before .before .before .before .before .before .before .before in
     let at = reading (test .before) in
-    prints-solved (text at) (after at) (gave at) (at .read .ensures) (zero test) (start at .args .budget)
-    (take (solved .solve-tables .result) (solved .solve-tables .last .1 .1 .1 .1 .1 .0))
-    (puts-front (solved .solve-tables .ensures))
+    (
+      prints-solved (text at) (after at) (gave at) (at .read .ensures) (zero test) (start at .args .budget)
+          (take (solved .solve-tables .result) (solved .solve-tables .last .1 .1 .1 .1 .1 .0))
+          (puts-front (solved .solve-tables .ensures)),
+      puts-within (solved .solve-tables .ensures),
+    )
 
 pub solve-text-spec : {M : Type 1} → statement M
 solve-text-spec =
