@@ -65,7 +65,8 @@ left-refused :
 left-refused none n m r h = absurd (h refl)
 left-refused (refused k place) n m r h = refl
 
-module _ (asks : Reading.Asks) (n m : ℕ) (before : Rooms) (o : Outcome) (said : o ≡ outcome (listAsked asks (fronts n m before)) (answered 0)) where
+module _ (asks : Reading.Asks) (n m : ℕ) (before : Rooms) (o : Outcome)
+    (said : o ≡ outcome (listAsked asks (fronts n m before)) (answered 0)) where
   abbrev list : Verdict
   list = listAsked asks (fronts n m before)
 

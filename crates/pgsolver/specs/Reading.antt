@@ -8,12 +8,14 @@ use native.Mathlib.Numerals.{add-one}
 use native.Mathlib.Omega.{arith}
 use borrow.Author.Tests.{eqb-true, ltb-false, not-false}
 use lib.Dec.{eqb, ltb}
-use lib.ListN.{length, getD, take, drop, replicate, getD-replicate, length-replicate, length-append, length-drop, List·getD-eq-default}
+use lib.ListN.{length, getD, take, drop, replicate, getD-replicate, length-replicate, length-append, length-drop}
+use lib.ListN.{List·getD-eq-default}
 use lib.Seq.{take-at, drop-at}
 use Rattle.rules.specs.Outcome.{Outcome, Verdict, none, refused, given, outcome, answered, _then_}
 use Rattle.rules.specs.Pgsolver.{Entry, Header}
 use Rattle.rules.specs.Reading as Rules
-use Rattle.rules.specs.Reading.{Limits, Rooms, Written, limitsOf, readingWords, roomChecks, check31, targetsIn, tablesRead, padded, holding}
+use Rattle.rules.specs.Reading.{Limits, Rooms, Written, limitsOf, readingWords, roomChecks, check31, targetsIn, tablesRead}
+use Rattle.rules.specs.Reading.{padded, holding}
 use Rattle.rules.specs.Reading.{noTables, written, listAsked, readChecks, entryOf, targetsUpTo, ReadsBy, ReadsText}
 use Rattle.rules.specs.Tables.{Tables, tablesOf}
 use Rattle.theory.specs.Basics.{length-listed, or-false-both}

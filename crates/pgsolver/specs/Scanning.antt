@@ -12,13 +12,16 @@ use Rattle.rules.specs.Outcome.{Verdict, none, refused}
 use Rattle.rules.specs.Pgsolver.{Entry, Header}
 use Rattle.rules.specs.Reading.{Limits, targetsIn}
 use Rattle.grammar.specs.Machine as Machine
-use Rattle.grammar.specs.Machine.{Machine, Run, live, ended, runFrom, endOf, readingOf, Read, nothingRead, mayEnd, atFirst, targetsRead}
+use Rattle.grammar.specs.Machine.{Machine, Run, live, ended, runFrom, endOf, readingOf, Read, nothingRead, mayEnd, atFirst}
+use Rattle.grammar.specs.Machine.{targetsRead}
 use Rattle.grammar.specs.Waiting.{Waits, inText}
 use Rattle.theory.specs.Basics.{clash}
 use Rattle.pgsolver_step.specs.declared.state.Phase.{Phase}
-use Rattle.pgsolver_step.specs.declared.state.Phase.the-variants.{AtStart, InWord, PastWord, InHighest, PastHighest, BetweenRecords}
+use Rattle.pgsolver_step.specs.declared.state.Phase.the-variants.{AtStart, InWord, PastWord, InHighest, PastHighest}
+use Rattle.pgsolver_step.specs.declared.state.Phase.the-variants.{BetweenRecords}
 use Rattle.pgsolver_step.specs.declared.state.Phase.the-variants.{InIdentifier, PastIdentifier, InPriority, PastPriority}
-use Rattle.pgsolver_step.specs.declared.state.Phase.the-variants.{InOwner, PastOwner, InTarget, PastTarget, PastComma, InName, PastName}
+use Rattle.pgsolver_step.specs.declared.state.Phase.the-variants.{InOwner, PastOwner, InTarget, PastTarget, PastComma, InName}
+use Rattle.pgsolver_step.specs.declared.state.Phase.the-variants.{PastName}
 use Rattle.pgsolver_step.specs.declared.state.State.{State}
 use Rattle.pgsolver_step.specs.declared.portion.Portion.{Portion}
 use Rattle.pgsolver_step.specs.declared.portion.Portion.the-variants.{Reading, Stuck, Beyond}
@@ -138,7 +141,9 @@ waits-none o p f t fits zo zp zf zt =
 
 -- ---- the whole text is one portion
 
-module _ (mostBytes : ℕ) (s₀ : State) (text o p f t : List ℕ) (r : Portion) (o' p' f' t' : List ℕ) (starts : s₀ ≡ stateOf atFirst) (waits : Waits [] [] o p f t) (read : Portions mostBytes 0 s₀ text o p f t r o' p' f' t') where
+module _ (mostBytes : ℕ) (s₀ : State) (text o p f t : List ℕ) (r : Portion) (o' p' f' t' : List ℕ)
+    (starts : s₀ ≡ stateOf atFirst) (waits : Waits [] [] o p f t)
+    (read : Portions mostBytes 0 s₀ text o p f t r o' p' f' t') where
   abbrev lim : Limits
   lim = limitsIn mostBytes o t
 

@@ -3,11 +3,14 @@ use mathlib.Core.Bool.{cond}
 use lib.Dec.{eqb}
 use Rattle.grammar.specs.Machine as Machine
 use Rattle.pgsolver_step.specs.declared.state.Phase.{Phase}
-use Rattle.pgsolver_step.specs.declared.state.Phase.the-variants.{AtStart, InWord, PastWord, InHighest, PastHighest, BetweenRecords}
-use Rattle.pgsolver_step.specs.declared.state.Phase.the-variants.{InIdentifier, PastIdentifier, InPriority, PastPriority, InOwner, PastOwner}
+use Rattle.pgsolver_step.specs.declared.state.Phase.the-variants.{AtStart, InWord, PastWord, InHighest, PastHighest}
+use Rattle.pgsolver_step.specs.declared.state.Phase.the-variants.{BetweenRecords}
+use Rattle.pgsolver_step.specs.declared.state.Phase.the-variants.{InIdentifier, PastIdentifier, InPriority}
+use Rattle.pgsolver_step.specs.declared.state.Phase.the-variants.{PastPriority, InOwner, PastOwner}
 use Rattle.pgsolver_step.specs.declared.state.Phase.the-variants.{InTarget, PastTarget, PastComma, InName, PastName}
 use Rattle.pgsolver_step.specs.declared.acts.Act.{Act}
-use Rattle.pgsolver_step.specs.declared.acts.Act.the-variants.{Stay, Off, To, Spell, Begin, BeginIdentifier, BeginTarget, More}
+use Rattle.pgsolver_step.specs.declared.acts.Act.the-variants.{Stay, Off, To, Spell, Begin, BeginIdentifier}
+use Rattle.pgsolver_step.specs.declared.acts.Act.the-variants.{BeginTarget, More}
 use Rattle.pgsolver_step.specs.declared.acts.Act.the-variants.{Head, Identify, Rank, Own, Aim, AimClose, Close}
 
 -- a separator

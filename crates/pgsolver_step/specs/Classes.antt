@@ -60,4 +60,5 @@ is-letter b (inl h) = or-left (leb 65 b && leb b 90) (leb 97 b && leb b 122) (wi
 is-letter b (inr h) = or-right (leb 65 b && leb b 90) (leb 97 b && leb b 122) (within 97 122 b (h .0) (h .1))
 
 pub no-letter : (b : ℕ) → (b < 65) ⊎ (90 < b) → (b < 97) ⊎ (122 < b) → isLetter b ≡ false
-no-letter b capital small = neither (leb 65 b && leb b 90) (leb 97 b && leb b 122) (outside 65 90 b capital) (outside 97 122 b small)
+no-letter b capital small =
+    neither (leb 65 b && leb b 90) (leb 97 b && leb b 122) (outside 65 90 b capital) (outside 97 122 b small)

@@ -1,4 +1,5 @@
--- The code's moves follow the machine's steps: what holds of a machine in each phase, and that each move shows what the step gives.
+-- The code's moves follow the machine's steps: what holds of a machine in each phase, and that each move shows what the
+-- step gives.
 use mathlib.Core.Bool.{Bool, true, false, cond}
 use mathlib.Core.List.{List, [], _∷_, _++_}
 use mathlib.Core.Path.{_≡_, refl, sym, ap, subst, _∙_}
@@ -20,7 +21,8 @@ use Rattle.pgsolver_step.specs.declared.acts.Act.the-variants as Acts
 use Rattle.pgsolver_step.specs.declared.acts.Act.the-variants.{To}
 use Rattle.pgsolver_step.specs.declared.moves.Move.{Move}
 use Rattle.pgsolver_step.specs.declared.moves.Move.the-variants.{On, Off, Over, Aim, Close, AimClose}
-use Rattle.pgsolver_step.specs.Shown.{phaseOf, stateOf, counted, toPhase, readingOn, headedOn, identifiedOn, rankedOn, ownedOn}
+use Rattle.pgsolver_step.specs.Shown.{phaseOf, stateOf, counted, toPhase, readingOn, headedOn, identifiedOn, rankedOn}
+use Rattle.pgsolver_step.specs.Shown.{ownedOn}
 use Rattle.pgsolver_step.specs.Shown.{aimedOn, closedOn, isSaid, saidOf}
 use Rattle.pgsolver_step.specs.Acts.{onSeparator, onDigit, onComma, onSemicolon, onQuote, onLetter, onOther, actOn}
 use Rattle.pgsolver_step.specs.Moves.{digitOf, moreOn, moveOf}
@@ -123,7 +125,8 @@ targets-more (f ∷ es) e = omega (arith, targets-more es e)
 
 -- ---- each step is followed
 
-module _ (l : Limits) (few : l .vertices ≤ 4096) (short : l .edges ≤ 16384) (b : ℕ) (h : Header) (es : List Entry) (e : Entry) (v : ℕ) where
+module _ (l : Limits) (few : l .vertices ≤ 4096) (short : l .edges ≤ 16384) (b : ℕ) (h : Header) (es : List Entry)
+    (e : Entry) (v : ℕ) where
   abbrev at : Machine.Phase → Machine
   at p = record { phase = p; header = h; entries = es; current = e; value = v }
 
@@ -152,7 +155,11 @@ module _ (l : Limits) (few : l .vertices ≤ 4096) (short : l .edges ≤ 16384) 
   said p q st =
       record { next = headed q (at p); goes = refl; shown = refl; standing = st; entries = refl; targets = refl }
 
-  named : (p : Machine.Phase) → e .targets ≡ [] → Roomy l (at p) → Follows l (at p) (on (identified (at p))) (On (identifiedOn (stateOf (at p))))
+  named :
+      (p : Machine.Phase) →
+      e .targets ≡ [] →
+      Roomy l (at p) →
+      Follows l (at p) (on (identified (at p))) (On (identifiedOn (stateOf (at p))))
   named p none room =
       record {
         next = identified (at p);
@@ -163,7 +170,11 @@ module _ (l : Limits) (few : l .vertices ≤ 4096) (short : l .edges ≤ 16384) 
         targets = sym none;
       }
 
-  placed : (p : Machine.Phase) → e .targets ≡ [] → Roomy l (at p) → Follows l (at p) (on (ranked (at p))) (On (rankedOn (stateOf (at p))))
+  placed :
+      (p : Machine.Phase) →
+      e .targets ≡ [] →
+      Roomy l (at p) →
+      Follows l (at p) (on (ranked (at p))) (On (rankedOn (stateOf (at p))))
   placed p none room =
       record {
         next = ranked (at p);
@@ -174,7 +185,11 @@ module _ (l : Limits) (few : l .vertices ≤ 4096) (short : l .edges ≤ 16384) 
         targets = sym none;
       }
 
-  given : (p : Machine.Phase) → e .targets ≡ [] → Roomy l (at p) → Follows l (at p) (on (owned (at p))) (On (ownedOn (stateOf (at p))))
+  given :
+      (p : Machine.Phase) →
+      e .targets ≡ [] →
+      Roomy l (at p) →
+      Follows l (at p) (on (owned (at p))) (On (ownedOn (stateOf (at p))))
   given p none room =
       record {
         next = owned (at p);
@@ -255,7 +270,8 @@ module _ (l : Limits) (few : l .vertices ≤ 4096) (short : l .edges ≤ 16384) 
       let k0 : m ≡ targetsIn (es ++ (f ∷ [])) + 0 = omega arith in
       record {
         next =
-            record { phase = Machine.betweenRecords; header = h; entries = es ++ (f ∷ []); current = Machine.noEntryYet; value = 0 };
+            record
+            { phase = Machine.betweenRecords; header = h; entries = es ++ (f ∷ []); current = Machine.noEntryYet; value = 0 };
         goes = refl;
         shown =
             ap (λ (x : ℕ). between x m m) n ∙
@@ -355,7 +371,8 @@ module _ (l : Limits) (few : l .vertices ≤ 4096) (short : l .edges ≤ 16384) 
   by-separator Machine.pastPriority st = stay Machine.pastPriority st
   by-separator Machine.inOwner st = given Machine.inOwner (st .0) (st .1)
   by-separator Machine.pastOwner st = stay Machine.pastOwner st
-  by-separator Machine.inTarget st = struck Machine.inTarget Machine.pastTarget (st .1) (st .0, omega (arith, length-append (e .targets) (v ∷ [])))
+  by-separator Machine.inTarget st =
+      struck Machine.inTarget Machine.pastTarget (st .1) (st .0, omega (arith, length-append (e .targets) (v ∷ [])))
   by-separator Machine.pastTarget st = stay Machine.pastTarget st
   by-separator Machine.pastComma st = stay Machine.pastComma st
   by-separator Machine.inName st = stay Machine.inName st
@@ -368,21 +385,29 @@ module _ (l : Limits) (few : l .vertices ≤ 4096) (short : l .edges ≤ 16384) 
       Follows l (at p) (stepFrom p l (at p) b Machine.digitByte)
       (moveOf (onDigit (phaseOf p)) (stateOf (at p)) b (l .vertices) (l .edges))
   unfolding stepFrom
-  by-digit same Machine.atStart st = begun (ltb (length es) (l .vertices)) Machine.atStart Machine.inIdentifier (digitOf b) same (λ r. (st, ltb-true (length es) (l .vertices) r))
+  by-digit same Machine.atStart st =
+      begun (ltb (length es) (l .vertices)) Machine.atStart Machine.inIdentifier (digitOf b) same
+      (λ r. (st, ltb-true (length es) (l .vertices) r))
   by-digit same (Machine.inWord k) st = refl
   by-digit same Machine.pastWord st = begun true Machine.pastWord Machine.inHighest (digitOf b) same (λ r. st)
   by-digit same Machine.inHighest st = grown Machine.inHighest same st
   by-digit same Machine.pastHighest st = refl
-  by-digit same Machine.betweenRecords st = begun (ltb (length es) (l .vertices)) Machine.betweenRecords Machine.inIdentifier (digitOf b) same (λ r. (st, ltb-true (length es) (l .vertices) r))
+  by-digit same Machine.betweenRecords st =
+      begun (ltb (length es) (l .vertices)) Machine.betweenRecords Machine.inIdentifier (digitOf b) same
+      (λ r. (st, ltb-true (length es) (l .vertices) r))
   by-digit same Machine.inIdentifier st = grown Machine.inIdentifier same st
   by-digit same Machine.pastIdentifier st = begun true Machine.pastIdentifier Machine.inPriority (digitOf b) same (λ r. st)
   by-digit same Machine.inPriority st = grown Machine.inPriority same st
   by-digit same Machine.pastPriority st = begun true Machine.pastPriority Machine.inOwner (digitOf b) same (λ r. st)
   by-digit same Machine.inOwner st = grown Machine.inOwner same st
-  by-digit same Machine.pastOwner st = begun (ltb (targetsIn es + length (e .targets)) (l .edges)) Machine.pastOwner Machine.inTarget (digitOf b) same (λ r. (st, ltb-true (targetsIn es + length (e .targets)) (l .edges) r))
+  by-digit same Machine.pastOwner st =
+      begun (ltb (targetsIn es + length (e .targets)) (l .edges)) Machine.pastOwner Machine.inTarget (digitOf b) same
+      (λ r. (st, ltb-true (targetsIn es + length (e .targets)) (l .edges) r))
   by-digit same Machine.inTarget st = grown Machine.inTarget same st
   by-digit same Machine.pastTarget st = refl
-  by-digit same Machine.pastComma st = begun (ltb (targetsIn es + length (e .targets)) (l .edges)) Machine.pastComma Machine.inTarget (digitOf b) same (λ r. (st, ltb-true (targetsIn es + length (e .targets)) (l .edges) r))
+  by-digit same Machine.pastComma st =
+      begun (ltb (targetsIn es + length (e .targets)) (l .edges)) Machine.pastComma Machine.inTarget (digitOf b) same
+      (λ r. (st, ltb-true (targetsIn es + length (e .targets)) (l .edges) r))
   by-digit same Machine.inName st = stay Machine.inName st
   by-digit same Machine.pastName st = refl
 
@@ -428,7 +453,8 @@ module _ (l : Limits) (few : l .vertices ≤ 4096) (short : l .edges ≤ 16384) 
   by-semicolon Machine.pastPriority st = refl
   by-semicolon Machine.inOwner st = refl
   by-semicolon Machine.pastOwner st = refl
-  by-semicolon Machine.inTarget st = (st, ended (withTarget e v) (counted (targetsIn es + length (e .targets))) (st .0) (one-target (st .1)))
+  by-semicolon Machine.inTarget st =
+      (st, ended (withTarget e v) (counted (targetsIn es + length (e .targets))) (st .0) (one-target (st .1)))
   by-semicolon Machine.pastTarget st = (st, ended e (targetsIn es + length (e .targets)) (st .0) refl)
   by-semicolon Machine.pastComma st = refl
   by-semicolon Machine.inName st = stay Machine.inName st
@@ -452,7 +478,8 @@ module _ (l : Limits) (few : l .vertices ≤ 4096) (short : l .edges ≤ 16384) 
   by-quote Machine.pastPriority st = refl
   by-quote Machine.inOwner st = refl
   by-quote Machine.pastOwner st = refl
-  by-quote Machine.inTarget st = struck Machine.inTarget Machine.inName (st .1) (st .0, omega (arith, length-append (e .targets) (v ∷ [])))
+  by-quote Machine.inTarget st =
+      struck Machine.inTarget Machine.inName (st .1) (st .0, omega (arith, length-append (e .targets) (v ∷ [])))
   by-quote Machine.pastTarget st = moved Machine.pastTarget Machine.inName st
   by-quote Machine.pastComma st = refl
   by-quote Machine.inName st = moved Machine.inName Machine.pastName st
@@ -465,8 +492,10 @@ module _ (l : Limits) (few : l .vertices ≤ 4096) (short : l .edges ≤ 16384) 
       Follows l (at p) (stepFrom p l (at p) b Machine.letterByte)
       (moveOf (onLetter (phaseOf p)) (stateOf (at p)) b (l .vertices) (l .edges))
   unfolding stepFrom
-  by-letter letter Machine.atStart st = spelt false (eqb b (getD parityWord 0 0)) Machine.atStart 0 (λ z. absurd (clash z refl)) st
-  by-letter letter (Machine.inWord k) st = spelt (leb 6 k) (eqb b (getD parityWord k 0)) (Machine.inWord k) k (past-word k letter) st
+  by-letter letter Machine.atStart st =
+      spelt false (eqb b (getD parityWord 0 0)) Machine.atStart 0 (λ z. absurd (clash z refl)) st
+  by-letter letter (Machine.inWord k) st =
+      spelt (leb 6 k) (eqb b (getD parityWord k 0)) (Machine.inWord k) k (past-word k letter) st
   by-letter letter Machine.pastWord st = refl
   by-letter letter Machine.inHighest st = refl
   by-letter letter Machine.pastHighest st = refl

@@ -16,7 +16,8 @@ use Rattle.grammar.specs.Waiting.{identifiers, inText, beginning}
 pub text-more : (es : List Entry) (e : Entry) → inText (es ++ (e ∷ [])) ≡ inText es ++ e .targets
 unfolding inText
 text-more [] e = append-nil (e .targets)
-text-more (f ∷ es) e = ap (λ (ts : List ℕ). f .targets ++ ts) (text-more es e) ∙ sym (append-assoc (f .targets) (inText es) (e .targets))
+text-more (f ∷ es) e =
+    ap (λ (ts : List ℕ). f .targets ++ ts) (text-more es e) ∙ sym (append-assoc (f .targets) (inText es) (e .targets))
 
 times-more :
     (i : ℕ) (es : List Entry) (e : Entry) →
@@ -37,7 +38,8 @@ pub times-there :
     (i ≡ e .identifier → ⊥) →
     times i (identifiers (es ++ (e ∷ []))) ≡ times i (identifiers es)
 times-there i es e other =
-    let none : _≡_ {A = ℕ} (cond (eqb i (e .identifier)) 1 0) 0 = ap (λ (x : Bool). cond x 1 0) (ne-eqb i (e .identifier) other) in
+    let none : _≡_ {A = ℕ} (cond (eqb i (e .identifier)) 1 0) 0 = ap (λ (x : Bool). cond x 1 0)
+    (ne-eqb i (e .identifier) other) in
     omega (arith, times-more i es e)
 
 -- an identifier that does not stand in the records does not stand first
@@ -53,7 +55,8 @@ pub entry-here :
     entryOf (es ++ (e ∷ [])) i ≡ e
 unfolding times entryOf
 entry-here i [] e same none =
-    ap (λ (x : Bool). cond x e (record { identifier = i; priority = 0; owner = 0; targets = [] })) (eq-eqb (e .identifier) i (sym same))
+    ap (λ (x : Bool). cond x e (record { identifier = i; priority = 0; owner = 0; targets = [] }))
+    (eq-eqb (e .identifier) i (sym same))
 entry-here i (f ∷ es) e same none =
     ap (λ (x : Bool). cond x f (entryOf (es ++ (e ∷ [])) i))
     (ne-eqb (f .identifier) i (first-other i (f .identifier) (times i (identifiers es)) none)) ∙

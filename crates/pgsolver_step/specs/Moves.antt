@@ -6,12 +6,15 @@ use lib.ListN.{getD}
 use Rattle.rules.specs.Pgsolver.{parityWord}
 use Rattle.rules.specs.Reading.{highestNumber}
 use Rattle.pgsolver_step.specs.declared.state.Phase.{Phase}
-use Rattle.pgsolver_step.specs.declared.state.Phase.the-variants.{AtStart, InWord, PastWord, InHighest, PastHighest, BetweenRecords}
-use Rattle.pgsolver_step.specs.declared.state.Phase.the-variants.{InIdentifier, PastIdentifier, InPriority, PastPriority, InOwner, PastOwner}
+use Rattle.pgsolver_step.specs.declared.state.Phase.the-variants.{AtStart, InWord, PastWord, InHighest, PastHighest}
+use Rattle.pgsolver_step.specs.declared.state.Phase.the-variants.{BetweenRecords}
+use Rattle.pgsolver_step.specs.declared.state.Phase.the-variants.{InIdentifier, PastIdentifier, InPriority}
+use Rattle.pgsolver_step.specs.declared.state.Phase.the-variants.{PastPriority, InOwner, PastOwner}
 use Rattle.pgsolver_step.specs.declared.state.Phase.the-variants.{InTarget, PastTarget, PastComma, InName, PastName}
 use Rattle.pgsolver_step.specs.declared.state.State.{State}
 use Rattle.pgsolver_step.specs.declared.acts.Act.{Act}
-use Rattle.pgsolver_step.specs.declared.acts.Act.the-variants.{Stay, Off, To, Spell, Begin, BeginIdentifier, BeginTarget, More}
+use Rattle.pgsolver_step.specs.declared.acts.Act.the-variants.{Stay, Off, To, Spell, Begin, BeginIdentifier}
+use Rattle.pgsolver_step.specs.declared.acts.Act.the-variants.{BeginTarget, More}
 use Rattle.pgsolver_step.specs.declared.acts.Act.the-variants.{Head, Identify, Rank, Own, Aim, AimClose, Close}
 use Rattle.pgsolver_step.specs.declared.moves.Move as Move
 use Rattle.pgsolver_step.specs.declared.moves.Move.{Move}

@@ -126,7 +126,8 @@ module _ (l : Limits) (k : ℕ) (m : Machine) (b : ℕ) where
   unfolding stepAt
   step-past past = rw (le-ltb k (l .bytes) past)
 
-module _ (l : Limits) (k i : ℕ) (m q : Machine) (text : List ℕ) (below : i < length text) (so-far : runFrom l k (live m) (take i text) ≡ live q) where
+module _ (l : Limits) (k i : ℕ) (m q : Machine) (text : List ℕ) (below : i < length text)
+    (so-far : runFrom l k (live m) (take i text) ≡ live q) where
   run-at : (ys : List ℕ) → runFrom l k (live m) (take i text ++ ys) ≡ runFrom l (k + i) (live q) ys
   run-at ys =
       run-append l k (live m) (take i text) ys ∙
@@ -156,7 +157,8 @@ module _ (l : Limits) (k i : ℕ) (m q : Machine) (text : List ℕ) (below : i <
 -- ---- the loop
 
 -- the first i bytes of the text are read
-pub record Passed (mostBytes vertices edges place : ℕ) (s₀ : State) (text o₀ p₀ f₀ t₀ : List ℕ) (s : State) (at i : ℕ) (o p f t : List ℕ) : Type 0 where
+pub record Passed (mostBytes vertices edges place : ℕ) (s₀ : State) (text o₀ p₀ f₀ t₀ : List ℕ) (s : State) (at i : ℕ)
+    (o p f t : List ℕ) : Type 0 where
   pub up-to : i ≤ length text
   pub place-now : at ≡ place + i
   pub capped : place ≤ mostBytes → at ≤ mostBytes
@@ -192,7 +194,9 @@ passed-none mostBytes vertices edges place s text o p f t fitting few short =
       agrees = λ m h. record { machine = m; runs = refl; holds = h };
     }
 
-module _ (mostBytes vertices edges place : ℕ) (s₀ : State) (text o₀ p₀ f₀ t₀ : List ℕ) (s : State) (at i : ℕ) (o p f t : List ℕ) (passed : Passed mostBytes vertices edges place s₀ text o₀ p₀ f₀ t₀ s at i o p f t) (below : i < length text) where
+module _ (mostBytes vertices edges place : ℕ) (s₀ : State) (text o₀ p₀ f₀ t₀ : List ℕ) (s : State) (at i : ℕ)
+    (o p f t : List ℕ) (passed : Passed mostBytes vertices edges place s₀ text o₀ p₀ f₀ t₀ s at i o p f t)
+    (below : i < length text) where
   abbrev lim : Limits
   lim = limits mostBytes vertices edges
 
@@ -200,11 +204,19 @@ module _ (mostBytes vertices edges place : ℕ) (s₀ : State) (text o₀ p₀ f
   byte = getD text i 0
 
   -- what the step at the place gives, told of the place as the machine counts it
-  on-at : (q n : Machine) → at < mostBytes → stepFrom (q .phase) lim q byte (classOf byte) ≡ on n → next lim (place + i) (live q) byte ≡ live n
+  on-at :
+      (q n : Machine) →
+      at < mostBytes →
+      stepFrom (q .phase) lim q byte (classOf byte) ≡ on n →
+      next lim (place + i) (live q) byte ≡ live n
   on-at q n early goes =
       next-on lim (place + i) q byte n (step-within lim (place + i) q byte (on n) (omega (arith, passed .place-now)) goes)
 
-  told : (r x : Step) (o' p' f' t' : List ℕ) → r ≡ x → Steps vertices edges s byte o p f t r o' p' f' t' → Steps vertices edges s byte o p f t x o' p' f' t'
+  told :
+      (r x : Step) (o' p' f' t' : List ℕ) →
+      r ≡ x →
+      Steps vertices edges s byte o p f t r o' p' f' t' →
+      Steps vertices edges s byte o p f t x o' p' f' t'
   told r x o' p' f' t' is said = subst (λ (y : Step). Steps vertices edges s byte o p f t y o' p' f' t') is said
 
   -- one byte more, at which the step goes on

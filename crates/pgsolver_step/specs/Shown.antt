@@ -10,8 +10,10 @@ use Rattle.grammar.specs.Machine.{targetsRead}
 use Rattle.pgsolver_step.specs.declared.class.Class.{Class}
 use Rattle.pgsolver_step.specs.declared.class.Class.the-variants.{Separator, Digit, Comma, Semicolon, Quote, Letter, Other}
 use Rattle.pgsolver_step.specs.declared.state.Phase.{Phase}
-use Rattle.pgsolver_step.specs.declared.state.Phase.the-variants.{AtStart, InWord, PastWord, InHighest, PastHighest, BetweenRecords}
-use Rattle.pgsolver_step.specs.declared.state.Phase.the-variants.{InIdentifier, PastIdentifier, InPriority, PastPriority, InOwner, PastOwner}
+use Rattle.pgsolver_step.specs.declared.state.Phase.the-variants.{AtStart, InWord, PastWord, InHighest, PastHighest}
+use Rattle.pgsolver_step.specs.declared.state.Phase.the-variants.{BetweenRecords}
+use Rattle.pgsolver_step.specs.declared.state.Phase.the-variants.{InIdentifier, PastIdentifier, InPriority}
+use Rattle.pgsolver_step.specs.declared.state.Phase.the-variants.{PastPriority, InOwner, PastOwner}
 use Rattle.pgsolver_step.specs.declared.state.Phase.the-variants.{InTarget, PastTarget, PastComma, InName, PastName}
 use Rattle.pgsolver_step.specs.declared.state.State.{State}
 

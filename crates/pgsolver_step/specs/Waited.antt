@@ -16,7 +16,8 @@ use Rattle.grammar.specs.Machine.{noEntryYet}
 use Rattle.grammar.specs.Waiting.{identifiers, inText, beginning, seen, begin, KeptAt, FreshAt, Waits}
 use Rattle.theory.specs.Basics.{below-suc, bool-cases}
 use Rattle.pgsolver_step.specs.Follows.{targets-more}
-use Rattle.pgsolver_step.specs.Kept.{text-more, times-here, times-there, entry-here, entry-there, beginning-here, beginning-there}
+use Rattle.pgsolver_step.specs.Kept.{text-more, times-here, times-there, entry-here, entry-there, beginning-here}
+use Rattle.pgsolver_step.specs.Kept.{beginning-there}
 
 -- ---- one target more
 
@@ -80,7 +81,8 @@ each-more es e each some k below =
     subst (λ (g : Entry). 0 < length (g .targets)) (sym (List·getD-append es (e ∷ []) noEntryYet k less)) (each k less))
     (below-suc (omega (arith, length-append es (e ∷ []))))
 
-module _ (es : List Entry) (e : Entry) (o p f t : List ℕ) (w : Waits es (e .targets) o p f t) (some : 0 < length (e .targets)) (few : length es < length o) where
+module _ (es : List Entry) (e : Entry) (o p f t : List ℕ) (w : Waits es (e .targets) o p f t)
+    (some : 0 < length (e .targets)) (few : length es < length o) where
   -- tables of the same lengths that hold what one record more asks for
   waits-closed :
       (o' p' f' : List ℕ) →
@@ -157,7 +159,8 @@ seen-next old begins n low so-far =
     omega arith))
     (bool-cases (ltb old 16384))
 
-module _ (es : List Entry) (e : Entry) (o p f t : List ℕ) (w : Waits es (e .targets) o p f t) (some : 0 < length (e .targets)) (few : length es < length o) (inside : e .identifier < length o) where
+module _ (es : List Entry) (e : Entry) (o p f t : List ℕ) (w : Waits es (e .targets) o p f t)
+    (some : 0 < length (e .targets)) (few : length es < length o) (inside : e .identifier < length o) where
   abbrev owners' : List ℕ
   owners' = set o (e .identifier) (min 255 (e .owner))
 
@@ -181,7 +184,9 @@ module _ (es : List Entry) (e : Entry) (o p f t : List ℕ) (w : Waits es (e .ta
       (w .often (e .identifier) inside) ∙
       ap (λ (n : ℕ). min 2 n) (sym (times-here (e .identifier) es e refl))
 
-  kept-here : times (e .identifier) (identifiers (es ++ (e ∷ []))) ≡ 1 → KeptAt (es ++ (e ∷ [])) owners' priorities' offsets' (e .identifier)
+  kept-here :
+      times (e .identifier) (identifiers (es ++ (e ∷ []))) ≡ 1 →
+      KeptAt (es ++ (e ∷ [])) owners' priorities' offsets' (e .identifier)
   kept-here once =
       let none : times (e .identifier) (identifiers es) ≡ 0 = omega (arith, times-here (e .identifier) es e refl) in
       let old : getD f (e .identifier) 0 ≡ 0 = w .fresh (e .identifier) inside none .offset in

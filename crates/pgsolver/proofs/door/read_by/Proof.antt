@@ -16,7 +16,8 @@ start c = c .before .before .before .before .before .before .before
 
 abbrev entry : tie.Start → Written
 entry c =
-    writtenOf (c .args .owners .now) (c .args .priorities .now) (c .args .offsets .now) (c .args .targets .now) (c .args .work .now)
+    writtenOf (c .args .owners .now) (c .args .priorities .now) (c .args .offsets .now) (c .args .targets .now)
+    (c .args .work .now)
     (c .args .n .now)
     (c .args .m .now)
 
@@ -38,7 +39,9 @@ enum-told-3 c = search needs
 
 read-fitting-requires : tie.Need-read-fitting-requires
 read-fitting-requires c κs =
-    let at = c .before .before .before .before .before .before .before .before .before in fitted (entry (start at) .rooms) (checked at Fit (c .before .before .before .before .before .before .before .enum-told3 .given .1))
+    let at = c .before .before .before .before .before .before .before .before
+    .before in fitted (entry (start at) .rooms) (checked at Fit (c .before .before .before .before .before
+    .before .before .enum-told3 .given .1))
 
 returns : tie.Need-returns
 returns c =
@@ -69,14 +72,18 @@ same-length-5 c = search needs
 
 returns-3 : tie.Need-returns-3
 returns-3 c =
-    let at = c .before .before .before .before .before .before .before .before .before .before .before .before .before .before .before .before .before .before .before .before in
+    let at = c .before .before .before .before .before .before .before .before .before .before .before .before
+    .before .before .before .before .before .before .before .before in
     let end = c .before .before .before .before .before .before .before .before .before .before in
     reads-fit (asksIn (start at .args .asks)) (start at .args .most-bytes) (start at .args .text .now) (entry (start at))
-    (writtenOf (end .read-fitting .last .1 .1 .1 .0) (end .read-fitting .last .1 .1 .1 .1 .0) (end .read-fitting .last .1 .1 .1 .1 .1 .0)
-    (end .read-fitting .last .1 .1 .1 .1 .1 .1 .0) (end .read-fitting .last .1 .1 .1 .1 .1 .1 .1 .0) (end .read-fitting .last .1 .1 .1 .1 .1 .1 .1 .1 .0)
+    (writtenOf (end .read-fitting .last .1 .1 .1 .0) (end .read-fitting .last .1 .1 .1 .1 .0)
+    (end .read-fitting .last .1 .1 .1 .1 .1 .0)
+    (end .read-fitting .last .1 .1 .1 .1 .1 .1 .0) (end .read-fitting .last .1 .1 .1 .1 .1 .1 .1 .0) (end .read-fitting
+    .last .1 .1 .1 .1 .1 .1 .1 .1 .0)
     (end .read-fitting .last .1 .1 .1 .1 .1 .1 .1 .1 .1 .0))
     (said (end .read-fitting .result))
-    (checked at Fit (c .before .before .before .before .before .before .before .before .before .before .before .before .before .before .before .before .before .before .enum-told3 .given .1))
+    (checked at Fit (c .before .before .before .before .before .before .before .before .before .before .before
+    .before .before .before .before .before .before .before .enum-told3 .given .1))
     (end .read-fitting .ensures)
 
 pub read-by-spec : {M : Type 1} → statement M

@@ -4,13 +4,11 @@ use Prim.Native.Nat.{ℕ, _<_}
 use native.Mathlib.Omega.{arith}
 use borrow.Author.Needs.{needs}
 use lib.ListN.{length, getD}
-use Rattle.rules.specs.Reading.{Rooms, readingWords, limitsOf}
-use Rattle.grammar.specs.Machine.{readingOf}
-use Rattle.arrange.specs.Cleared.{AllZero}
+use Rattle.rules.specs.Reading.{Rooms}
 use Rattle.arrange.specs.Laws.{roomsOf}
 use Rattle.parity_game.specs.Said as Said
 use Rattle.pgsolver.specs.declared.tell.Told.{Told}
-use Rattle.pgsolver.specs.Telling.{TellsAs}
+use Rattle.pgsolver.specs.Telling.{Tells}
 use Rattle.pgsolver.specs.Finishing.{asksIn, writtenOf}
 use Rattle.pgsolver.specs.Reading.{Lengths, cleared-tellable, told-area, told-refused, told-finishable, told-finished}
 use Rattle.pgsolver.proofs.door.read_fitting.Statement.{statement}
@@ -20,20 +18,28 @@ abbrev start : tie.After-clear-rooms → tie.Start
 start c = c .before .before .before .before .before .before .before .before .before .before .before .before
 
 abbrev rooms : tie.Start → Rooms
-rooms c = roomsOf (c .args .owners .now) (c .args .priorities .now) (c .args .offsets .now) (c .args .targets .now) (c .args .work .now)
+rooms c =
+    roomsOf (c .args .owners .now) (c .args .priorities .now) (c .args .offsets .now) (c .args .targets .now)
+    (c .args .work .now)
 
 abbrev clear : tie.After-clear-rooms → Rooms
 clear c =
-    roomsOf (c .clear-rooms .last .0) (c .clear-rooms .last .1 .0) (c .clear-rooms .last .1 .1 .0) (c .clear-rooms .last .1 .1 .1 .0) (c .clear-rooms .last .1 .1 .1 .1 .0)
+    roomsOf (c .clear-rooms .last .0) (c .clear-rooms .last .1 .0) (c .clear-rooms .last .1 .1 .0)
+    (c .clear-rooms .last .1 .1 .1 .0) (c .clear-rooms .last .1 .1 .1 .1 .0)
 
 abbrev cleared : tie.After-tell → tie.After-clear-rooms
-cleared c = c .before .before .before .before .before .before .before .before .before .before .before .before .before .before .before .before
+cleared c = c .before .before .before .before .before .before .before .before .before .before .before .before
+    .before .before .before .before
 
 abbrev told : tie.After-tell → Rooms
-told c = roomsOf (c .tell .last .1 .1 .0) (c .tell .last .1 .1 .1 .0) (c .tell .last .1 .1 .1 .1 .0) (c .tell .last .1 .1 .1 .1 .1 .0) (c .tell .last .1 .1 .1 .1 .1 .1 .0)
+told c =
+    roomsOf (c .tell .last .1 .1 .0) (c .tell .last .1 .1 .1 .0) (c .tell .last .1 .1 .1 .1 .0)
+    (c .tell .last .1 .1 .1 .1 .1 .0) (c .tell .last .1 .1 .1 .1 .1 .1 .0)
 
 -- the rooms keep their lengths
-clear-lengths : (c : tie.After-slice-known10) → Lengths (rooms (start (c .before .before .before .before .before .before .before .before .before .before))) (clear (c .before .before .before .before .before .before .before .before .before .before))
+clear-lengths : (c : tie.After-slice-known10) → Lengths (rooms (start (c .before .before .before .before .before
+    .before .before .before .before .before))) (clear (c .before .before .before .before .before .before .before
+    .before .before .before))
 clear-lengths c =
     record {
       owners = search needs;
@@ -43,7 +49,9 @@ clear-lengths c =
       work = search needs;
     }
 
-told-lengths : (c : tie.After-slice-known15) → Lengths (clear (cleared (c .before .before .before .before .before .before .before .before .before .before))) (told (c .before .before .before .before .before .before .before .before .before .before))
+told-lengths : (c : tie.After-slice-known15) → Lengths (clear (cleared (c .before .before .before .before
+    .before .before .before .before .before .before))) (told (c .before .before .before .before .before .before
+    .before .before .before .before))
 told-lengths c =
     record {
       owners = search needs;
@@ -54,9 +62,14 @@ told-lengths c =
     }
 
 abbrev refused : tie.After-refuse → Rooms
-refused c = roomsOf (c .refuse .last .0) (c .refuse .last .1 .0) (c .refuse .last .1 .1 .0) (c .refuse .last .1 .1 .1 .0) (c .refuse .last .1 .1 .1 .1 .0)
+refused c =
+    roomsOf (c .refuse .last .0) (c .refuse .last .1 .0) (c .refuse .last .1 .1 .0) (c .refuse .last .1 .1 .1 .0)
+    (c .refuse .last .1 .1 .1 .1 .0)
 
-refused-lengths : (c : tie.After-slice-known20) → Lengths (told (c .before .before .before .before .before .before .before .before .before .before .before .before .before .before .before .before .before .before .before .before .before .before .before .before .before .before .before .before .before .before .before)) (refused (c .before .before .before .before .before .before .before .before .before .before))
+refused-lengths : (c : tie.After-slice-known20) → Lengths (told (c .before .before .before .before .before
+    .before .before .before .before .before .before .before .before .before .before .before .before .before
+    .before .before .before .before .before .before .before .before .before .before .before .before
+    .before)) (refused (c .before .before .before .before .before .before .before .before .before .before))
 refused-lengths c =
     record {
       owners = search needs;
@@ -67,9 +80,14 @@ refused-lengths c =
     }
 
 abbrev finished : tie.After-finish → Rooms
-finished c = roomsOf (c .finish .last .1 .1 .1 .0) (c .finish .last .1 .1 .1 .1 .0) (c .finish .last .1 .1 .1 .1 .1 .0) (c .finish .last .1 .1 .1 .1 .1 .1 .0) (c .finish .last .1 .1 .1 .1 .1 .1 .1 .0)
+finished c =
+    roomsOf (c .finish .last .1 .1 .1 .0) (c .finish .last .1 .1 .1 .1 .0) (c .finish .last .1 .1 .1 .1 .1 .0)
+    (c .finish .last .1 .1 .1 .1 .1 .1 .0) (c .finish .last .1 .1 .1 .1 .1 .1 .1 .0)
 
-finished-lengths : (c : tie.After-slice-known25) → Lengths (told (c .before .before .before .before .before .before .before .before .before .before .before .before .before .before .before .before .before .before .before .before .before .before .before .before .before .before .before .before .before .before .before)) (finished (c .before .before .before .before .before .before .before .before .before .before))
+finished-lengths : (c : tie.After-slice-known25) → Lengths (told (c .before .before .before .before .before
+    .before .before .before .before .before .before .before .before .before .before .before .before .before
+    .before .before .before .before .before .before .before .before .before .before .before .before
+    .before)) (finished (c .before .before .before .before .before .before .before .before .before .before))
 finished-lengths c =
     record {
       owners = search needs;
@@ -79,9 +97,25 @@ finished-lengths c =
       work = search needs;
     }
 
+-- what the text was told to be
+as-told :
+    (c : tie.After-tell) {x : Told} →
+    c .tell .result ≡ x →
+    Tells (start (cleared c) .args .most-bytes) (start (cleared c) .args .text .now) (clear (cleared c)) (told c) x
+as-told c is =
+    subst
+    (λ (r : Told).
+    Tells (start (cleared c) .args .most-bytes) (start (cleared c) .args .text .now) (clear (cleared c)) (told c) r)
+    is
+    (c .tell .ensures)
+
 -- each byte is below 256
 small : (c : tie.After-clear-rooms) (k : ℕ) → getD (start c .args .text .now) k 0 < 256
-small c k = omega (arith, c .before .before .before .before .before .before .before .before .before .before .before .shared-slice-known .given k)
+small c k = omega (
+  arith,
+  c .before .before .before .before .before .before .before .before .before .before
+      .before .shared-slice-known .given k,
+)
 
 add-clear-rooms : tie.Need-add-clear-rooms
 add-clear-rooms c = search needs
@@ -91,7 +125,8 @@ clear-rooms-requires c κs = search needs
 
 tell-requires : tie.Need-tell-requires
 tell-requires c κs =
-    let at = c .before .before .before .before .before .before .before .before .before .before .before .before .before .before .before in
+    let at = c .before .before .before .before .before .before .before .before .before .before .before .before
+    .before .before .before in
     cleared-tellable (rooms (start at)) (clear at) (start at .pre) (at .clear-rooms .ensures)
 
 enum-known-number : tie.Need-enum-known-number
@@ -116,72 +151,127 @@ finish-requires c κs =
     (start at .args .most-bytes) (start at .args .text .now) (small at) (asksIn (start at .args .asks)) (told here)
     (c .before .before .before .before .before .before .before .before .records .given .0 .0)
     (c .before .before .before .before .before .before .before .before .records .given .0 .1 .0)
-    (subst (λ (r : Told). TellsAs (readingOf (limitsOf (start at .args .most-bytes) (clear at)) (start at .args .text .now)) (clear at) (told here) r)
-    (c .before .before .before .before .before .before .before .before .records .given .1)
-    (here .tell .ensures))
+    (as-told here (c .before .before .before .before .before .before .before .before .records .given .1))
     (told-lengths said)
 
 same-length : tie.Need-same-length
-same-length c = refused-lengths c .owners ∙ told-lengths (c .before .before .before .before .before .before .before .before .before .before .before .before .before .before .before .before .before .before .before .before .before) .owners ∙ clear-lengths (c .before .before .before .before .before .before .before .before .before .before .before .before .before .before .before .before .before .before .before .before .before .before .before .before .before .before .before .before .before .before .before .before .before .before .before .before .before) .owners
+same-length c = refused-lengths c .owners ∙ told-lengths (c .before .before .before .before .before .before
+    .before .before .before .before .before .before .before .before .before .before .before .before .before
+    .before .before) .owners ∙ clear-lengths (c .before .before .before .before .before .before .before
+    .before .before .before .before .before .before .before .before .before .before .before .before
+    .before .before .before .before .before .before .before .before .before .before .before .before
+    .before .before .before .before .before .before) .owners
 
 same-length-2 : tie.Need-same-length-2
-same-length-2 c = refused-lengths c .priorities ∙ told-lengths (c .before .before .before .before .before .before .before .before .before .before .before .before .before .before .before .before .before .before .before .before .before) .priorities ∙ clear-lengths (c .before .before .before .before .before .before .before .before .before .before .before .before .before .before .before .before .before .before .before .before .before .before .before .before .before .before .before .before .before .before .before .before .before .before .before .before .before) .priorities
+same-length-2 c = refused-lengths c .priorities ∙ told-lengths (c .before .before .before .before .before
+    .before .before .before .before .before .before .before .before .before .before .before .before .before
+    .before .before .before) .priorities ∙ clear-lengths (c .before .before .before .before .before .before
+    .before .before .before .before .before .before .before .before .before .before .before .before
+    .before .before .before .before .before .before .before .before .before .before .before .before
+    .before .before .before .before .before .before .before) .priorities
 
 same-length-3 : tie.Need-same-length-3
-same-length-3 c = refused-lengths c .offsets ∙ told-lengths (c .before .before .before .before .before .before .before .before .before .before .before .before .before .before .before .before .before .before .before .before .before) .offsets ∙ clear-lengths (c .before .before .before .before .before .before .before .before .before .before .before .before .before .before .before .before .before .before .before .before .before .before .before .before .before .before .before .before .before .before .before .before .before .before .before .before .before) .offsets
+same-length-3 c = refused-lengths c .offsets ∙ told-lengths (c .before .before .before .before .before .before
+    .before .before .before .before .before .before .before .before .before .before .before .before .before
+    .before .before) .offsets ∙ clear-lengths (c .before .before .before .before .before .before .before
+    .before .before .before .before .before .before .before .before .before .before .before .before
+    .before .before .before .before .before .before .before .before .before .before .before .before
+    .before .before .before .before .before .before) .offsets
 
 same-length-4 : tie.Need-same-length-4
-same-length-4 c = refused-lengths c .targets ∙ told-lengths (c .before .before .before .before .before .before .before .before .before .before .before .before .before .before .before .before .before .before .before .before .before) .targets ∙ clear-lengths (c .before .before .before .before .before .before .before .before .before .before .before .before .before .before .before .before .before .before .before .before .before .before .before .before .before .before .before .before .before .before .before .before .before .before .before .before .before) .targets
+same-length-4 c = refused-lengths c .targets ∙ told-lengths (c .before .before .before .before .before .before
+    .before .before .before .before .before .before .before .before .before .before .before .before .before
+    .before .before) .targets ∙ clear-lengths (c .before .before .before .before .before .before .before
+    .before .before .before .before .before .before .before .before .before .before .before .before
+    .before .before .before .before .before .before .before .before .before .before .before .before
+    .before .before .before .before .before .before) .targets
 
 same-length-5 : tie.Need-same-length-5
-same-length-5 c = refused-lengths c .work ∙ told-lengths (c .before .before .before .before .before .before .before .before .before .before .before .before .before .before .before .before .before .before .before .before .before) .work ∙ clear-lengths (c .before .before .before .before .before .before .before .before .before .before .before .before .before .before .before .before .before .before .before .before .before .before .before .before .before .before .before .before .before .before .before .before .before .before .before .before .before) .work
+same-length-5 c = refused-lengths c .work ∙ told-lengths (c .before .before .before .before .before .before
+    .before .before .before .before .before .before .before .before .before .before .before .before .before
+    .before .before) .work ∙ clear-lengths (c .before .before .before .before .before .before .before
+    .before .before .before .before .before .before .before .before .before .before .before .before
+    .before .before .before .before .before .before .before .before .before .before .before .before
+    .before .before .before .before .before .before) .work
 
 returns : tie.Need-returns
 returns c =
-    let said = c .before .before .before .before .before .before .before .before .before .before .before .before .before .before .before .before .before .before .before .before .before in
+    let said = c .before .before .before .before .before .before .before .before .before .before .before .before
+    .before .before .before .before .before .before .before .before .before in
     let here = said .before .before .before .before .before .before .before .before .before .before in
     let at = cleared here in
     let end = c .before .before .before .before .before .before .before .before .before .before in
     told-refused (rooms (start at)) (clear at) (start at .pre) (at .clear-rooms .ensures)
     (start at .args .most-bytes) (start at .args .text .now) (small at) (asksIn (start at .args .asks)) (told here)
-    (writtenOf (end .refuse .last .0) (end .refuse .last .1 .0) (end .refuse .last .1 .1 .0) (end .refuse .last .1 .1 .1 .0) (end .refuse .last .1 .1 .1 .1 .0) (end .refuse .last .1 .1 .1 .1 .1 .0) (end .refuse .last .1 .1 .1 .1 .1 .1 .0))
-    (c .before .before .before .before .before .before .before .before .before .before .before .before .before .before .before .before .before .before .before .number .given .0 .0)
-    (c .before .before .before .before .before .before .before .before .before .before .before .before .before .before .before .before .before .before .before .number .given .0 .1 .0)
-    (subst (λ (r : Told). TellsAs (readingOf (limitsOf (start at .args .most-bytes) (clear at)) (start at .args .text .now)) (clear at) (told here) r)
-    (c .before .before .before .before .before .before .before .before .before .before .before .before .before .before .before .before .before .before .before .number .given .1)
-    (here .tell .ensures))
+    (writtenOf (end .refuse .last .0) (end .refuse .last .1 .0) (end .refuse .last .1 .1 .0) (end .refuse .last .1 .1 .1 .0)
+    (end .refuse .last .1 .1 .1 .1 .0) (end .refuse .last .1 .1 .1 .1 .1 .0) (end .refuse .last .1 .1 .1 .1 .1 .1 .0))
+    (c .before .before .before .before .before .before .before .before .before .before .before .before .before
+    .before .before .before .before .before .before .number .given .0 .0)
+    (c .before .before .before .before .before .before .before .before .before .before .before .before .before
+    .before .before .before .before .before .before .number .given .0 .1 .0)
+    (as-told here (c .before .before .before .before .before .before .before .before .before .before .before
+    .before .before .before .before .before .before .before .before .number .given .1))
     (end .refuse .ensures)
 
 same-length-6 : tie.Need-same-length-6
-same-length-6 c = finished-lengths c .owners ∙ told-lengths (c .before .before .before .before .before .before .before .before .before .before .before .before .before .before .before .before .before .before .before .before .before) .owners ∙ clear-lengths (c .before .before .before .before .before .before .before .before .before .before .before .before .before .before .before .before .before .before .before .before .before .before .before .before .before .before .before .before .before .before .before .before .before .before .before .before .before) .owners
+same-length-6 c = finished-lengths c .owners ∙ told-lengths (c .before .before .before .before .before .before
+    .before .before .before .before .before .before .before .before .before .before .before .before .before
+    .before .before) .owners ∙ clear-lengths (c .before .before .before .before .before .before .before
+    .before .before .before .before .before .before .before .before .before .before .before .before
+    .before .before .before .before .before .before .before .before .before .before .before .before
+    .before .before .before .before .before .before) .owners
 
 same-length-7 : tie.Need-same-length-7
-same-length-7 c = finished-lengths c .priorities ∙ told-lengths (c .before .before .before .before .before .before .before .before .before .before .before .before .before .before .before .before .before .before .before .before .before) .priorities ∙ clear-lengths (c .before .before .before .before .before .before .before .before .before .before .before .before .before .before .before .before .before .before .before .before .before .before .before .before .before .before .before .before .before .before .before .before .before .before .before .before .before) .priorities
+same-length-7 c = finished-lengths c .priorities ∙ told-lengths (c .before .before .before .before .before
+    .before .before .before .before .before .before .before .before .before .before .before .before .before
+    .before .before .before) .priorities ∙ clear-lengths (c .before .before .before .before .before .before
+    .before .before .before .before .before .before .before .before .before .before .before .before
+    .before .before .before .before .before .before .before .before .before .before .before .before
+    .before .before .before .before .before .before .before) .priorities
 
 same-length-8 : tie.Need-same-length-8
-same-length-8 c = finished-lengths c .offsets ∙ told-lengths (c .before .before .before .before .before .before .before .before .before .before .before .before .before .before .before .before .before .before .before .before .before) .offsets ∙ clear-lengths (c .before .before .before .before .before .before .before .before .before .before .before .before .before .before .before .before .before .before .before .before .before .before .before .before .before .before .before .before .before .before .before .before .before .before .before .before .before) .offsets
+same-length-8 c = finished-lengths c .offsets ∙ told-lengths (c .before .before .before .before .before .before
+    .before .before .before .before .before .before .before .before .before .before .before .before .before
+    .before .before) .offsets ∙ clear-lengths (c .before .before .before .before .before .before .before
+    .before .before .before .before .before .before .before .before .before .before .before .before
+    .before .before .before .before .before .before .before .before .before .before .before .before
+    .before .before .before .before .before .before) .offsets
 
 same-length-9 : tie.Need-same-length-9
-same-length-9 c = finished-lengths c .targets ∙ told-lengths (c .before .before .before .before .before .before .before .before .before .before .before .before .before .before .before .before .before .before .before .before .before) .targets ∙ clear-lengths (c .before .before .before .before .before .before .before .before .before .before .before .before .before .before .before .before .before .before .before .before .before .before .before .before .before .before .before .before .before .before .before .before .before .before .before .before .before) .targets
+same-length-9 c = finished-lengths c .targets ∙ told-lengths (c .before .before .before .before .before .before
+    .before .before .before .before .before .before .before .before .before .before .before .before .before
+    .before .before) .targets ∙ clear-lengths (c .before .before .before .before .before .before .before
+    .before .before .before .before .before .before .before .before .before .before .before .before
+    .before .before .before .before .before .before .before .before .before .before .before .before
+    .before .before .before .before .before .before) .targets
 
 same-length-10 : tie.Need-same-length-10
-same-length-10 c = finished-lengths c .work ∙ told-lengths (c .before .before .before .before .before .before .before .before .before .before .before .before .before .before .before .before .before .before .before .before .before) .work ∙ clear-lengths (c .before .before .before .before .before .before .before .before .before .before .before .before .before .before .before .before .before .before .before .before .before .before .before .before .before .before .before .before .before .before .before .before .before .before .before .before .before) .work
+same-length-10 c = finished-lengths c .work ∙ told-lengths (c .before .before .before .before .before .before
+    .before .before .before .before .before .before .before .before .before .before .before .before .before
+    .before .before) .work ∙ clear-lengths (c .before .before .before .before .before .before .before
+    .before .before .before .before .before .before .before .before .before .before .before .before
+    .before .before .before .before .before .before .before .before .before .before .before .before
+    .before .before .before .before .before .before) .work
 
 returns-2 : tie.Need-returns-2
 returns-2 c =
-    let said = c .before .before .before .before .before .before .before .before .before .before .before .before .before .before .before .before .before .before .before .before .before in
+    let said = c .before .before .before .before .before .before .before .before .before .before .before .before
+    .before .before .before .before .before .before .before .before .before in
     let here = said .before .before .before .before .before .before .before .before .before .before in
     let at = cleared here in
     let end = c .before .before .before .before .before .before .before .before .before .before in
     told-finished (rooms (start at)) (clear at) (start at .pre) (at .clear-rooms .ensures)
     (start at .args .most-bytes) (start at .args .text .now) (small at) (asksIn (start at .args .asks)) (told here)
-    (c .before .before .before .before .before .before .before .before .before .before .before .before .before .before .before .before .before .before .before .records .given .0 .0)
-    (c .before .before .before .before .before .before .before .before .before .before .before .before .before .before .before .before .before .before .before .records .given .0 .1 .0)
-    (subst (λ (r : Told). TellsAs (readingOf (limitsOf (start at .args .most-bytes) (clear at)) (start at .args .text .now)) (clear at) (told here) r)
-    (c .before .before .before .before .before .before .before .before .before .before .before .before .before .before .before .before .before .before .before .records .given .1)
-    (here .tell .ensures))
+    (c .before .before .before .before .before .before .before .before .before .before .before .before .before
+    .before .before .before .before .before .before .records .given .0 .0)
+    (c .before .before .before .before .before .before .before .before .before .before .before .before .before
+    .before .before .before .before .before .before .records .given .0 .1 .0)
+    (as-told here (c .before .before .before .before .before .before .before .before .before .before .before
+    .before .before .before .before .before .before .before .before .records .given .1))
     (told-lengths said)
-    (writtenOf (end .finish .last .1 .1 .1 .0) (end .finish .last .1 .1 .1 .1 .0) (end .finish .last .1 .1 .1 .1 .1 .0) (end .finish .last .1 .1 .1 .1 .1 .1 .0) (end .finish .last .1 .1 .1 .1 .1 .1 .1 .0) (end .finish .last .1 .1 .1 .1 .1 .1 .1 .1 .0) (end .finish .last .1 .1 .1 .1 .1 .1 .1 .1 .1 .0))
+    (writtenOf (end .finish .last .1 .1 .1 .0) (end .finish .last .1 .1 .1 .1 .0) (end .finish .last .1 .1 .1 .1 .1 .0)
+    (end .finish .last .1 .1 .1 .1 .1 .1 .0) (end .finish .last .1 .1 .1 .1 .1 .1 .1 .0)
+    (end .finish .last .1 .1 .1 .1 .1 .1 .1 .1 .0) (end .finish .last .1 .1 .1 .1 .1 .1 .1 .1 .1 .0))
     (Said.said (end .finish .result))
     (end .finish .ensures)
 

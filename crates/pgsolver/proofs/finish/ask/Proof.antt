@@ -72,7 +72,8 @@ returns-2 c =
     c .check-tables .ensures ∙
     ap (λ (x : Tables). outcome (tableChecks x) (answered 0))
     (part-fronts (args .n) (args .m) (args .owners .now) (args .priorities .now) (args .offsets .now) (args .targets .now)) ∙
-    sym (ap (λ (a : Asks). outcome (listAsked (asksIn a) tables) (answered 0)) (c .before .before .before .before .before .enum-told2 .given .1))
+    sym (ap (λ (a : Asks). outcome (listAsked (asksIn a) tables) (answered 0)) (c .before .before .before
+    .before .before .enum-told2 .given .1))
 
 pub ask-spec : {M : Type 1} → statement M
 ask-spec =

@@ -34,14 +34,19 @@ same-length-5 c = search needs
 returns : tie.Need-returns
 returns c =
     let at = c .before .before .before .before .before .before .before .before .before .before in
-    let asked = c .before .before .before .before .before .before .before .before .before .before .before .before .before .before .before .before .before .before .before .before in
+    let asked = c .before .before .before .before .before .before .before .before .before .before .before
+    .before .before .before .before .before .before .before .before .before in
     let args = asked .before .before .before .before .before .before .before .before .before .before .args in
     finish-refused (asksIn (args .asks)) (args .records) (args .edges)
     (roomsOf (args .owners .now) (args .priorities .now) (args .offsets .now) (args .targets .now) (args .work .now))
     (said (asked .ask .result))
     (asked .ask .ensures)
-    (writtenOf (at .refuse .last .0) (at .refuse .last .1 .0) (at .refuse .last .1 .1 .0) (at .refuse .last .1 .1 .1 .0) (at .refuse .last .1 .1 .1 .1 .0) (at .refuse .last .1 .1 .1 .1 .1 .0) (at .refuse .last .1 .1 .1 .1 .1 .1 .0))
-    (λ zero. c .before .before .before .before .before .before .before .before .before .before .before .before .before .before .before .before .before .before .if1 .taken (c .before .before .before .before .before .before .before .before .before .before .before .before .before .before .before .before .before .before .before .number .ensures ∙ zero))
+    (writtenOf (at .refuse .last .0) (at .refuse .last .1 .0) (at .refuse .last .1 .1 .0) (at .refuse .last .1 .1 .1 .0)
+    (at .refuse .last .1 .1 .1 .1 .0) (at .refuse .last .1 .1 .1 .1 .1 .0) (at .refuse .last .1 .1 .1 .1 .1 .1 .0))
+    (λ zero. c .before .before .before .before .before .before .before .before .before .before .before .before
+    .before .before .before .before .before .before .if1 .taken (c .before .before .before .before .before
+    .before .before .before .before .before .before .before .before .before .before .before .before
+    .before .before .number .ensures ∙ zero))
     (at .refuse .ensures)
 
 same-length-6 : tie.Need-same-length-6

@@ -32,7 +32,8 @@ returns c =
     let args = at .before .before .before .before .before .before .before .before .before .before .before .args in
     wiped
     (roomsOf (args .owners .now) (args .priorities .now) (args .offsets .now) (args .targets .now) (args .work .now))
-    (roomsOf (at .clear-rooms .last .0) (at .clear-rooms .last .1 .0) (at .clear-rooms .last .1 .1 .0) (at .clear-rooms .last .1 .1 .1 .0) (at .clear-rooms .last .1 .1 .1 .1 .0))
+    (roomsOf (at .clear-rooms .last .0) (at .clear-rooms .last .1 .0) (at .clear-rooms .last .1 .1 .0)
+    (at .clear-rooms .last .1 .1 .1 .0) (at .clear-rooms .last .1 .1 .1 .1 .0))
     (at .clear-rooms .ensures)
 
 pub refuse-spec : {M : Type 1} → statement M

@@ -6,9 +6,11 @@ use Prim.Native.Nat.{ℕ}
 use denote.Enum.Declared.{tagOf}
 use types.Run.{OneOf, miss}
 use Rattle.pgsolver_step.specs.declared.state.Phase.{Phase}
-use Rattle.pgsolver_step.specs.declared.state.Phase.the-variants.{AtStart, InWord, PastWord, InHighest, PastHighest, BetweenRecords}
+use Rattle.pgsolver_step.specs.declared.state.Phase.the-variants.{AtStart, InWord, PastWord, InHighest, PastHighest}
+use Rattle.pgsolver_step.specs.declared.state.Phase.the-variants.{BetweenRecords}
 use Rattle.pgsolver_step.specs.declared.state.Phase.the-variants.{InIdentifier, PastIdentifier, InPriority, PastPriority}
-use Rattle.pgsolver_step.specs.declared.state.Phase.the-variants.{InOwner, PastOwner, InTarget, PastTarget, PastComma, InName, PastName}
+use Rattle.pgsolver_step.specs.declared.state.Phase.the-variants.{InOwner, PastOwner, InTarget, PastTarget, PastComma, InName}
+use Rattle.pgsolver_step.specs.declared.state.Phase.the-variants.{PastName}
 use Rattle.pgsolver_step.proofs.state.Phase.{the-type}
 use Rattle.pgsolver.specs.Scanning.{mayEndOn}
 use borrow.Author.Needs.{needs}

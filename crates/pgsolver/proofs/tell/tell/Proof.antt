@@ -22,10 +22,18 @@ start c = c .before .before .before .before .before .before .before .before .bef
 
 -- the tables as the scan left them have the lengths that they had
 pub record SameLengths (c : tie.After-slice-known9) : Type 0 where
-  pub owners : length (c .before .before .before .before .before .before .before .before .scan-text .last .1 .1 .0) ≡ length (start (c .before .before .before .before .before .before .before .before) .args .owners .now)
-  pub priorities : length (c .before .before .before .before .before .before .before .before .scan-text .last .1 .1 .1 .0) ≡ length (start (c .before .before .before .before .before .before .before .before) .args .priorities .now)
-  pub offsets : length (c .before .before .before .before .before .before .before .before .scan-text .last .1 .1 .1 .1 .0) ≡ length (start (c .before .before .before .before .before .before .before .before) .args .offsets .now)
-  pub targets : length (c .before .before .before .before .before .before .before .before .scan-text .last .1 .1 .1 .1 .1 .0) ≡ length (start (c .before .before .before .before .before .before .before .before) .args .targets .now)
+  pub owners : length (c .before .before .before .before .before .before .before
+      .before .scan-text .last .1 .1 .0) ≡ length (start (c .before .before .before .before .before .before
+      .before .before) .args .owners .now)
+  pub priorities : length (c .before .before .before .before .before .before .before
+      .before .scan-text .last .1 .1 .1 .0) ≡ length (start (c .before .before .before .before .before .before
+      .before .before) .args .priorities .now)
+  pub offsets : length (c .before .before .before .before .before .before .before
+      .before .scan-text .last .1 .1 .1 .1 .0) ≡ length (start (c .before .before .before .before .before
+      .before .before .before) .args .offsets .now)
+  pub targets : length (c .before .before .before .before .before .before .before
+      .before .scan-text .last .1 .1 .1 .1 .1 .0) ≡ length (start (c .before .before .before .before .before
+      .before .before .before) .args .targets .now)
 
 same-lengths : (c : tie.After-slice-known9) → SameLengths c
 same-lengths c =
@@ -35,7 +43,10 @@ same-lengths c =
 found :
     (c : tie.After-s) →
     Found
-    (limitsIn (start (c .before .before .before .before .before .before .before .before .before .before) .args .most-bytes) (start (c .before .before .before .before .before .before .before .before .before .before) .args .owners .now) (start (c .before .before .before .before .before .before .before .before .before .before) .args .targets .now))
+    (limitsIn (start (c .before .before .before .before .before .before .before .before .before
+    .before) .args .most-bytes) (start (c .before .before .before .before .before .before .before .before
+    .before .before) .args .owners .now) (start (c .before .before .before .before .before .before
+    .before .before .before .before) .args .targets .now))
     (start (c .before .before .before .before .before .before .before .before .before .before) .args .text .now)
     (c .s .given .0 .0)
     (c .before .before .before .before .before .before .before .before .before .before .scan-text .last .1 .1 .0)
@@ -95,14 +106,16 @@ arrange-requires c κs =
     let same = same-lengths (here .before .before) in
     let area : length (at .scan-text .last .1 .1 .0) + length (at .scan-text .last .1 .1 .1 .1 .1 .0) ≤ length (args .work .now) =
     omega (arith, start at .pre .area, same .owners, same .targets) in
-    found-can-order (limitsIn (args .most-bytes) (args .owners .now) (args .targets .now)) (args .text .now) (here .s .given .0 .0)
+    found-can-order (limitsIn (args .most-bytes) (args .owners .now) (args .targets .now)) (args .text .now)
+    (here .s .given .0 .0)
     (at .scan-text .last .1 .1 .0)
     (at .scan-text .last .1 .1 .1 .0)
     (at .scan-text .last .1 .1 .1 .1 .0)
     (at .scan-text .last .1 .1 .1 .1 .1 .0)
     (found here)
     (args .work .now)
-    (sym (c .before .before .before .before .before .check-identifiers .ensures) ∙ ap identifiersSaid (c .before .before .before .enum-told .given .1))
+    (sym (c .before .before .before .before .before .check-identifiers .ensures) ∙ ap identifiersSaid (c .before
+    .before .before .enum-told .given .1))
     area
 
 same-length : tie.Need-same-length
@@ -164,7 +177,8 @@ returns-2 c =
     let same = same-lengths (here .before .before) in
     record {
       refuses =
-          found-checks (limitsIn (args .most-bytes) (args .owners .now) (args .targets .now)) (args .text .now) (here .s .given .0 .0)
+          found-checks (limitsIn (args .most-bytes) (args .owners .now) (args .targets .now)) (args .text .now)
+          (here .s .given .0 .0)
           (at .scan-text .last .1 .1 .0)
           (at .scan-text .last .1 .1 .1 .0)
           (at .scan-text .last .1 .1 .1 .1 .0)
@@ -183,7 +197,8 @@ returns-2 c =
     }
 
 same-length-9 : tie.Need-same-length-9
-same-length-9 c = same-lengths (c .before .before .before .before .before .before .before .before .before .before .before .before .before .before .before .before .before .before .before) .owners
+same-length-9 c = same-lengths (c .before .before .before .before .before .before .before .before .before
+    .before .before .before .before .before .before .before .before .before .before) .owners
 
 same-length-10 : tie.Need-same-length-10
 same-length-10 c = search needs
@@ -199,7 +214,8 @@ same-length-13 c = search needs
 
 returns-3 : tie.Need-returns-3
 returns-3 c =
-    let here = c .before .before .before .before .before .before .before .before .before .before .before .before .before .before .before .before .before in
+    let here = c .before .before .before .before .before .before .before .before .before .before .before .before
+    .before .before .before .before .before in
     let at = here .before .before .before .before .before .before .before .before .before .before in
     let args = start at .args in
     let same = same-lengths (here .before .before) in
@@ -212,7 +228,9 @@ returns-3 c =
     (at .scan-text .last .1 .1 .1 .1 .1 .0)
     (found here)
     (args .work .now)
-    (sym (c .before .before .before .before .before .before .before .before .before .before .before .before .check-identifiers .ensures) ∙ ap identifiersSaid (c .before .before .before .before .before .before .before .before .before .before .enum-told .given .1))
+    (sym (c .before .before .before .before .before .before .before .before .before .before .before
+    .before .check-identifiers .ensures) ∙ ap identifiersSaid (c .before .before .before .before .before
+    .before .before .before .before .before .enum-told .given .1))
     area
     (roomsOf (args .owners .now) (args .priorities .now) (args .offsets .now) (args .targets .now) (args .work .now))
     (c .before .before .before .before .before .before .arrange .last .1 .1 .1 .0)

@@ -43,7 +43,9 @@ letter :
     ((65 ≤ c .before .args .b) × (c .before .args .b ≤ 90)) ⊎ ((97 ≤ c .before .args .b) × (c .before .args .b ≤ 122)) →
     letterByte ≡ classOf (c .before .args .b)
 letter c high lies =
-    sym (rest c (λ e. omega arith) (λ e. omega arith) (inr high) ∙ ap (λ (x : Bool). cond x letterByte otherByte) (is-letter (c .before .args .b) lies))
+    sym
+    (rest c (λ e. omega arith) (λ e. omega arith) (inr high) ∙
+    ap (λ (x : Bool). cond x letterByte otherByte) (is-letter (c .before .args .b) lies))
 
 two-bytes : (b : ℕ) → 9 ≤ b → b < 11 → (b ≡ 9) ⊎ (b ≡ 10)
 two-bytes b low high = ⊎-elim (λ (e : b ≡ 10). inr e) (λ (l : b < 10). inl (omega arith)) (below-suc high)
@@ -67,7 +69,8 @@ returns-5 : tie.Need-returns-5
 returns-5 c = letter (c .before .before .before .before .before .before) (omega arith) (inl (omega arith, omega arith))
 
 returns-6 : tie.Need-returns-6
-returns-6 c = letter (c .before .before .before .before .before .before .before .before) (omega arith) (inr (omega arith, omega arith))
+returns-6 c = letter (c .before .before .before .before .before .before .before
+    .before) (omega arith) (inr (omega arith, omega arith))
 
 returns-7 : tie.Need-returns-7
 returns-7 c = other (c .before) (λ e. omega arith) (λ e. omega arith) (inl (omega arith)) (inl (omega arith)) (inl (omega arith))
@@ -79,17 +82,20 @@ returns-8 c =
 
 returns-9 : tie.Need-returns-9
 returns-9 c =
-    other (c .before .before .before .before .before) (λ e. omega arith) (λ e. omega arith) (inr (omega arith)) (inl (omega arith))
+    other (c .before .before .before .before
+    .before) (λ e. omega arith) (λ e. omega arith) (inr (omega arith)) (inl (omega arith))
     (inl (omega arith))
 
 returns-10 : tie.Need-returns-10
 returns-10 c =
-    other (c .before .before .before .before .before .before .before) (λ e. omega arith) (λ e. omega arith) (inr (omega arith)) (inr (omega arith))
+    other (c .before .before .before .before .before .before
+    .before) (λ e. omega arith) (λ e. omega arith) (inr (omega arith)) (inr (omega arith))
     (inl (omega arith))
 
 returns-11 : tie.Need-returns-11
 returns-11 c =
-    other (c .before .before .before .before .before .before .before .before) (λ e. omega arith) (λ e. omega arith) (inr (omega arith)) (inr (omega arith))
+    other (c .before .before .before .before .before .before .before
+    .before) (λ e. omega arith) (λ e. omega arith) (inr (omega arith)) (inr (omega arith))
     (inr (omega arith))
 
 returns-12 : tie.Need-returns-12

@@ -52,5 +52,6 @@ done-spec =
     (λ c. rw (c .before .enum-told7 .given .1) (ap On (c .ranked .ensures)))
     (λ c. rw (c .before .enum-told8 .given .1) (ap On (c .owned .ensures)))
     (λ c. rw (c .before .before .act5 .given .1) (ap Aim (c .aimed .ensures)))
-    (λ c. rw (c .before .before .enum-told9 .given .1) (ap AimClose (c .closed .ensures ∙ ap closedOn (c .before .aimed2 .ensures))))
+    (λ c. rw (c .before .before .enum-told9 .given .1)
+    (ap AimClose (c .closed .ensures ∙ ap closedOn (c .before .aimed2 .ensures))))
     (λ c. rw (c .before .enum-told10 .given .1) (ap Close (c .closed2 .ensures))))

@@ -5,17 +5,17 @@ use native.Mathlib.Omega.{arith}
 use borrow.Author.Needs.{needs}
 use lib.ListN.{length}
 use Rattle.pgsolver_step.specs.declared.portion.Portion.the-variants.{Reading, Stuck, Beyond}
-use Rattle.pgsolver_step.specs.Portions.{Passed, portions, passed-none, passed-more, passed-off, passed-over, passed-past, passed-all}
+use Rattle.pgsolver_step.specs.Portions.{Passed, portions, passed-none, passed-more, passed-off, passed-over}
+use Rattle.pgsolver_step.specs.Portions.{passed-past, passed-all}
 use Rattle.pgsolver_step.proofs.portion.read_portion.Statement.{statement}
 use Rattle.pgsolver_step.proofs.portion.read_portion.Tie as tie
 
 abbrev Inv-loop : tie.InvT-loop
-Inv-loop text place most-bytes owners₀ priorities₀ offsets₀ targets₀ vertices edges s₀ at₀ i₀ i-end owners priorities offsets targets s at i =
-    (i-end ≡ length text) ×
-    Passed most-bytes vertices edges place s₀ text owners₀ priorities₀ offsets₀ targets₀ s at i owners priorities offsets targets
+Inv-loop text place most o₀ p₀ f₀ t₀ vertices edges s₀ at₀ i₀ end o p f t s at i =
+    (end ≡ length text) × Passed most vertices edges place s₀ text o₀ p₀ f₀ t₀ s at i o p f t
 
 abbrev μ-loop : tie.MeasureT-loop
-μ-loop text place most-bytes owners₀ priorities₀ offsets₀ targets₀ vertices edges s₀ at₀ i₀ i-end owners priorities offsets targets s at i =
+μ-loop text place most o₀ p₀ f₀ t₀ vertices edges s₀ at₀ i₀ end o p f t s at i =
     length text - i
 
 limit-requires : tie.Need-limit-requires Inv-loop μ-loop
@@ -111,10 +111,17 @@ same-length-8 c = search needs
 
 returns-2 : tie.Need-returns-2 Inv-loop μ-loop
 returns-2 c =
-    let at = c .before .before .before .before .before .before .before .before .before .before .before .before .before .before .before .before .before .before in
+    let done = c .before .before .before .before .before .before .before .before .before .before in
+    let at = c .before .before .before .before .before .before .before .before .before .before .before .before
+    .before .before .before .before .before .before in
     let args = at .before .before .before .before .before .before .before .before .args in
-    let early = c .before .before .before .before .before .before .before .before .before .before .before .before .before .before .before .before .if1 .left in
-    let below : at .loop .i < length (args .text .now) = omega (arith, c .before .before .before .before .before .before .before .before .before .before .before .before .before .before .before .before .before .loop-test .taken) in
+    let early = c .before .before .before .before .before .before .before .before .before .before .before
+    .before .before .before .before .before .if1 .left in
+    let below : at .loop .i < length (args .text .now) = omega (
+      arith,
+      c .before .before .before .before .before
+          .before .before .before .before .before .before .before .before .before .before .before .before .loop-test .taken,
+    ) in
     portions (args .most-bytes) (at .before .before .limit .result) (at .before .limit2 .result) (args .place) (args .state)
     (args .text .now)
     (args .owners .now)
@@ -122,10 +129,10 @@ returns-2 c =
     (args .offsets .now)
     (args .targets .now)
     (Stuck (at .loop .at))
-    (c .before .before .before .before .before .before .before .before .before .before .read-byte .last .1 .1 .1 .1 .0)
-    (c .before .before .before .before .before .before .before .before .before .before .read-byte .last .1 .1 .1 .1 .1 .0)
-    (c .before .before .before .before .before .before .before .before .before .before .read-byte .last .1 .1 .1 .1 .1 .1 .0)
-    (c .before .before .before .before .before .before .before .before .before .before .read-byte .last .1 .1 .1 .1 .1 .1 .1 .0)
+    (done .read-byte .last .1 .1 .1 .1 .0)
+    (done .read-byte .last .1 .1 .1 .1 .1 .0)
+    (done .read-byte .last .1 .1 .1 .1 .1 .1 .0)
+    (done .read-byte .last .1 .1 .1 .1 .1 .1 .1 .0)
     (at .before .before .limit .ensures)
     (at .before .limit2 .ensures)
     (passed-off (args .most-bytes) (at .before .before .limit .result) (at .before .limit2 .result) (args .place) (args .state)
@@ -143,14 +150,14 @@ returns-2 c =
     (at .loop .targets)
     (at .loop .inv .1)
     below
-    (c .before .before .before .before .before .before .before .before .before .before .read-byte .result)
-    (c .before .before .before .before .before .before .before .before .before .before .read-byte .last .1 .1 .1 .1 .0)
-    (c .before .before .before .before .before .before .before .before .before .before .read-byte .last .1 .1 .1 .1 .1 .0)
-    (c .before .before .before .before .before .before .before .before .before .before .read-byte .last .1 .1 .1 .1 .1 .1 .0)
-    (c .before .before .before .before .before .before .before .before .before .before .read-byte .last .1 .1 .1 .1 .1 .1 .1 .0)
+    (done .read-byte .result)
+    (done .read-byte .last .1 .1 .1 .1 .0)
+    (done .read-byte .last .1 .1 .1 .1 .1 .0)
+    (done .read-byte .last .1 .1 .1 .1 .1 .1 .0)
+    (done .read-byte .last .1 .1 .1 .1 .1 .1 .1 .0)
     (c .enum-told .given .1)
     early
-    (c .before .before .before .before .before .before .before .before .before .before .read-byte .ensures))
+    (done .read-byte .ensures))
     (λ h. early)
 
 enum-told-2 : tie.Need-enum-told-2 Inv-loop μ-loop
@@ -170,10 +177,17 @@ same-length-12 c = search needs
 
 returns-3 : tie.Need-returns-3 Inv-loop μ-loop
 returns-3 c =
-    let at = c .before .before .before .before .before .before .before .before .before .before .before .before .before .before .before .before .before .before in
+    let done = c .before .before .before .before .before .before .before .before .before .before in
+    let at = c .before .before .before .before .before .before .before .before .before .before .before .before
+    .before .before .before .before .before .before in
     let args = at .before .before .before .before .before .before .before .before .args in
-    let early = c .before .before .before .before .before .before .before .before .before .before .before .before .before .before .before .before .if1 .left in
-    let below : at .loop .i < length (args .text .now) = omega (arith, c .before .before .before .before .before .before .before .before .before .before .before .before .before .before .before .before .before .loop-test .taken) in
+    let early = c .before .before .before .before .before .before .before .before .before .before .before
+    .before .before .before .before .before .if1 .left in
+    let below : at .loop .i < length (args .text .now) = omega (
+      arith,
+      c .before .before .before .before .before
+          .before .before .before .before .before .before .before .before .before .before .before .before .loop-test .taken,
+    ) in
     portions (args .most-bytes) (at .before .before .limit .result) (at .before .limit2 .result) (args .place) (args .state)
     (args .text .now)
     (args .owners .now)
@@ -181,10 +195,10 @@ returns-3 c =
     (args .offsets .now)
     (args .targets .now)
     (Beyond (at .loop .at))
-    (c .before .before .before .before .before .before .before .before .before .before .read-byte .last .1 .1 .1 .1 .0)
-    (c .before .before .before .before .before .before .before .before .before .before .read-byte .last .1 .1 .1 .1 .1 .0)
-    (c .before .before .before .before .before .before .before .before .before .before .read-byte .last .1 .1 .1 .1 .1 .1 .0)
-    (c .before .before .before .before .before .before .before .before .before .before .read-byte .last .1 .1 .1 .1 .1 .1 .1 .0)
+    (done .read-byte .last .1 .1 .1 .1 .0)
+    (done .read-byte .last .1 .1 .1 .1 .1 .0)
+    (done .read-byte .last .1 .1 .1 .1 .1 .1 .0)
+    (done .read-byte .last .1 .1 .1 .1 .1 .1 .1 .0)
     (at .before .before .limit .ensures)
     (at .before .limit2 .ensures)
     (passed-over (args .most-bytes) (at .before .before .limit .result) (at .before .limit2 .result) (args .place) (args .state)
@@ -202,24 +216,36 @@ returns-3 c =
     (at .loop .targets)
     (at .loop .inv .1)
     below
-    (c .before .before .before .before .before .before .before .before .before .before .read-byte .result)
-    (c .before .before .before .before .before .before .before .before .before .before .read-byte .last .1 .1 .1 .1 .0)
-    (c .before .before .before .before .before .before .before .before .before .before .read-byte .last .1 .1 .1 .1 .1 .0)
-    (c .before .before .before .before .before .before .before .before .before .before .read-byte .last .1 .1 .1 .1 .1 .1 .0)
-    (c .before .before .before .before .before .before .before .before .before .before .read-byte .last .1 .1 .1 .1 .1 .1 .1 .0)
+    (done .read-byte .result)
+    (done .read-byte .last .1 .1 .1 .1 .0)
+    (done .read-byte .last .1 .1 .1 .1 .1 .0)
+    (done .read-byte .last .1 .1 .1 .1 .1 .1 .0)
+    (done .read-byte .last .1 .1 .1 .1 .1 .1 .1 .0)
     (c .enum-told2 .given .1)
     early
-    (c .before .before .before .before .before .before .before .before .before .before .read-byte .ensures))
+    (done .read-byte .ensures))
     (λ h. omega arith)
 
 add-at : tie.Need-add-at Inv-loop μ-loop
-add-at c = omega (arith, c .before .before .before .before .before .before .before .before .before .before .before .before .before .before .before .before .before .if1 .left, c .before .before .before .before .before .before .before .before .before .before .before .before .before .before .before .before .before .before .before .before .before .before .before .before .before .before .before .fits .most-bytes)
+add-at c = omega (
+  arith,
+  c .before .before .before .before .before .before .before .before .before .before
+      .before .before .before .before .before .before .before .if1 .left,
+  c .before .before .before .before
+      .before .before .before .before .before .before .before .before .before .before .before .before .before
+      .before .before .before .before .before .before .before .before .before .before .fits .most-bytes,
+)
 
 add-i : tie.Need-add-i Inv-loop μ-loop
 add-i c =
-    let at = c .before .before .before .before .before .before .before .before .before .before .before .before .before .before .before .before .before .before .before in
+    let at = c .before .before .before .before .before .before .before .before .before .before .before .before
+    .before .before .before .before .before .before .before in
     let below : at .loop .i < length (at .before .before .before .before .before .before .before .before .args .text .now) =
-    omega (arith, c .before .before .before .before .before .before .before .before .before .before .before .before .before .before .before .before .before .before .loop-test .taken) in
+    omega (
+      arith,
+      c .before .before .before .before .before .before .before .before .before .before .before
+          .before .before .before .before .before .before .before .loop-test .taken,
+    ) in
     search needs
 
 loop-less : tie.Need-loop-less Inv-loop μ-loop
@@ -227,9 +253,16 @@ loop-less c = search needs
 
 loop-again : tie.Need-loop-again Inv-loop μ-loop
 loop-again c =
-    let at = c .before .before .before .before .before .before .before .before .before .before .before .before .before .before .before .before .before .before .before in
+    let done = c .before .before .before .before .before .before .before .before .before .before .before in
+    let at = c .before .before .before .before .before .before .before .before .before .before .before .before
+    .before .before .before .before .before .before .before in
     let args = at .before .before .before .before .before .before .before .before .args in
-    let below : at .loop .i < length (args .text .now) = omega (arith, c .before .before .before .before .before .before .before .before .before .before .before .before .before .before .before .before .before .before .loop-test .taken) in (
+    let below : at .loop .i < length (args .text .now) = omega (
+      arith,
+      c .before .before .before .before .before
+          .before .before .before .before .before .before .before .before .before .before .before .before
+          .before .loop-test .taken,
+    ) in (
       refl,
       passed-more (args .most-bytes) (at .before .before .limit .result) (at .before .limit2 .result) (args .place) (args .state)
           (args .text .now)
@@ -246,19 +279,20 @@ loop-again c =
           (at .loop .targets)
           (at .loop .inv .1)
           below
-          (c .before .before .before .before .before .before .before .before .before .before .before .read-byte .result)
+          (done .read-byte .result)
           (c .before .next .given .0 .0)
-          (c .before .before .before .before .before .before .before .before .before .before .before .read-byte .last .1 .1 .1 .1 .0)
-          (c .before .before .before .before .before .before .before .before .before .before .before .read-byte .last .1 .1 .1 .1 .1 .0)
-          (c .before .before .before .before .before .before .before .before .before .before .before .read-byte .last .1 .1 .1 .1 .1 .1 .0)
-          (c .before .before .before .before .before .before .before .before .before .before .before .read-byte .last .1 .1 .1 .1 .1 .1 .1 .0)
+          (done .read-byte .last .1 .1 .1 .1 .0)
+          (done .read-byte .last .1 .1 .1 .1 .1 .0)
+          (done .read-byte .last .1 .1 .1 .1 .1 .1 .0)
+          (done .read-byte .last .1 .1 .1 .1 .1 .1 .1 .0)
           (c .before .next .given .1)
-          (c .before .before .before .before .before .before .before .before .before .before .before .before .before .before .before .before .before .if1 .left)
+          (c .before .before .before .before .before .before .before .before .before .before .before .before
+          .before .before .before .before .before .if1 .left)
           (search needs)
           (search needs)
           (search needs)
           (search needs)
-          (c .before .before .before .before .before .before .before .before .before .before .before .read-byte .ensures),
+          (done .read-byte .ensures),
     )
 
 same-length-13 : tie.Need-same-length-13 Inv-loop μ-loop

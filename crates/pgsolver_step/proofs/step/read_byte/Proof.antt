@@ -96,18 +96,20 @@ same-length-4 c = search needs
 
 returns-5 : tie.Need-returns-5
 returns-5 c =
+    let known = c .before .before .before .before .before .before .before .before .before .before .before in
+    let done = c .before .before .before .before .before .before in
     let at = c .before .before .before .before .before .before .before .before .before .before .before .before .before in
     let args = at .before .before .before .before .before .args in
     steps-close (args .vertices) (args .edges) (args .b) (args .s) (args .owners .now) (args .priorities .now)
     (args .offsets .now)
     (args .targets .now)
     (at .before .before .before .before .before .pre)
-    (c .before .before .before .before .before .before .before .before .before .before .before .next3 .given .0 .0)
-    (c .before .before .before .before .before .before .close .last .0)
-    (c .before .before .before .before .before .before .close .last .1 .0)
-    (c .before .before .before .before .before .before .close .last .1 .1 .0)
-    (sym (at .advance .ensures) ∙ c .before .before .before .before .before .before .before .before .before .before .before .next3 .given .1)
-    (c .before .before .before .before .before .before .close .ensures)
+    (known .next3 .given .0 .0)
+    (done .close .last .0)
+    (done .close .last .1 .0)
+    (done .close .last .1 .1 .0)
+    (sym (at .advance .ensures) ∙ known .next3 .given .1)
+    (done .close .ensures)
 
 same-length-5 : tie.Need-same-length-5
 same-length-5 c = search needs
@@ -123,20 +125,25 @@ same-length-8 c = search needs
 
 returns-6 : tie.Need-returns-6
 returns-6 c =
-    let at = c .before .before .before .before .before .before .before .before .before .before .before .before .before .before .before .before .before in
+    let known = c .before .before .before .before .before .before .before .before .before .before .before
+    .before .before .before .before in
+    let aimed = c .before .before .before .before .before .before .before .before .before .before .before .before in
+    let done = c .before .before .before .before .before .before in
+    let at = c .before .before .before .before .before .before .before .before .before .before .before .before
+    .before .before .before .before .before in
     let args = at .before .before .before .before .before .args in
     steps-aim-close (args .vertices) (args .edges) (args .b) (args .s) (args .owners .now) (args .priorities .now)
     (args .offsets .now)
     (args .targets .now)
     (at .before .before .before .before .before .pre)
-    (c .before .before .before .before .before .before .before .before .before .before .before .before .before .before .before .next4 .given .0 .0)
-    (c .before .before .before .before .before .before .close2 .last .0)
-    (c .before .before .before .before .before .before .close2 .last .1 .0)
-    (c .before .before .before .before .before .before .close2 .last .1 .1 .0)
-    (c .before .before .before .before .before .before .before .before .before .before .before .before .aim2 .last .0)
-    (sym (at .advance .ensures) ∙ c .before .before .before .before .before .before .before .before .before .before .before .before .before .before .before .next4 .given .1)
-    (c .before .before .before .before .before .before .before .before .before .before .before .before .aim2 .ensures)
-    (c .before .before .before .before .before .before .close2 .ensures)
+    (known .next4 .given .0 .0)
+    (done .close2 .last .0)
+    (done .close2 .last .1 .0)
+    (done .close2 .last .1 .1 .0)
+    (aimed .aim2 .last .0)
+    (sym (at .advance .ensures) ∙ known .next4 .given .1)
+    (aimed .aim2 .ensures)
+    (done .close2 .ensures)
 
 pub read-byte-spec : {M : Type 1} → statement M
 read-byte-spec =
