@@ -3,7 +3,8 @@
 use libc::STDOUT_FILENO;
 use printing::Asked;
 
-// One byte more than the limit: a longer text is refused at byte 16,384 or before, and no later byte changes that.
+// One byte more than the limit is enough: the line for so many bytes is the line for the whole input
+// (`front-prints` of solving/specs/Front.antt).
 fn print_text(budget: u64) {
     let mut text = [0u8; 16385];
     let mut line = [0u8; 256];

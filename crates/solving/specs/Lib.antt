@@ -1,2 +1,3 @@
--- What a reading in A1's rooms says of the line.
+-- What a reading in A1's rooms says of the line, and that the first bytes of a long input say it all.
 pub mod Texts
+pub mod Front
