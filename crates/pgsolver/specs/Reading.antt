@@ -115,6 +115,16 @@ pub record Lengths (r r' : Rooms) : Type 0 where
   pub targets : length (r' .targets) ≡ length (r .targets)
   pub work : length (r' .work) ≡ length (r .work)
 
+pub lengths-on : {a b c : Rooms} → Lengths a b → Lengths b c → Lengths a c
+lengths-on first more =
+    record {
+      owners = more .owners ∙ first .owners;
+      priorities = more .priorities ∙ first .priorities;
+      offsets = more .offsets ∙ first .offsets;
+      targets = more .targets ∙ first .targets;
+      work = more .work ∙ first .work;
+    }
+
 module _ (r₀ r₁ : Rooms) (fits : Fitted r₀) (z : AllZero (readingWords r₀) r₀ r₁) where
   used-same : readingWords r₁ ≡ readingWords r₀
   used-same =

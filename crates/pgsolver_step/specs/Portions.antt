@@ -154,6 +154,15 @@ module _ (l : Limits) (k i : ℕ) (m q : Machine) (text : List ℕ) (below : i <
       run-at (getD text i 0 ∷ []) ∙
       goes
 
+-- a step at which a portion ends, with its place
+pub data Stops : Step → ℕ → Portion → Type 0 where
+  stuck : {k : ℕ} → Stops Off k (Stuck k)
+  beyond : {k : ℕ} → Stops Over k (Beyond k)
+
+pub stops-within : (mostBytes after : ℕ) (x : Step) (k : ℕ) (e : Portion) → Stops x k e → k < mostBytes → Within mostBytes after e
+stops-within mostBytes after _ k _ stuck early = early
+stops-within mostBytes after _ k _ beyond early = omega arith
+
 -- ---- the loop
 
 -- the first i bytes of the text are read
@@ -263,16 +272,17 @@ module _ (mostBytes vertices edges place : ℕ) (s₀ : State) (text o₀ p₀ f
             };
       }
 
-  -- the step leaves the grammar
-  pub passed-off :
-      (r : Step) (o' p' f' t' : List ℕ) →
-      r ≡ Off →
+  -- the step leaves the grammar or passes a limit
+  pub passed-stops :
+      (r x : Step) (e : Portion) (o' p' f' t' : List ℕ) →
+      Stops x at e →
+      r ≡ x →
       at < mostBytes →
       Steps vertices edges s byte o p f t r o' p' f' t' →
       (m : Machine) →
       Holds lim m s₀ o₀ p₀ f₀ t₀ →
-      runFrom lim place (live m) text ≡ ended (refused 30 at)
-  passed-off r o' p' f' t' is early said m h =
+      Ends lim (runFrom lim place (live m) text) e o' p' f' t'
+  passed-stops r _ _ o' p' f' t' stuck is early said m h =
       let steps = told r Off o' p' f' t' is said in
       let now = passed .agrees m h in
       let q = now .machine in
@@ -280,17 +290,7 @@ module _ (mostBytes vertices edges place : ℕ) (s₀ : State) (text o₀ p₀ f
       (next-off lim (place + i) q byte
       (step-within lim (place + i) q byte off (omega (arith, passed .place-now)) (steps mostBytes q (now .holds))) ∙
       ap (λ (x : ℕ). ended (refused 30 x)) (sym (passed .place-now)))
-
-  -- the step passes a limit
-  pub passed-over :
-      (r : Step) (o' p' f' t' : List ℕ) →
-      r ≡ Over →
-      at < mostBytes →
-      Steps vertices edges s byte o p f t r o' p' f' t' →
-      (m : Machine) →
-      Holds lim m s₀ o₀ p₀ f₀ t₀ →
-      runFrom lim place (live m) text ≡ ended (refused 32 at)
-  passed-over r o' p' f' t' is early said m h =
+  passed-stops r _ _ o' p' f' t' beyond is early said m h =
       let steps = told r Over o' p' f' t' is said in
       let now = passed .agrees m h in
       let q = now .machine in

@@ -25,7 +25,8 @@ pub enum Move {
     AimClose(State),
 }
 
-// The number at hand with one digit more, unless that takes it above 65,535. A digit's value is the lower half of its byte.
+// The number at hand with one digit more, unless that takes it above 65,535. A digit's value is the lower half of its
+// byte.
 fn more(mut s: State, b: u8) -> Move
     ensures { λ r. ⌜ r ≡ moreOn s b ⌝ }
 {

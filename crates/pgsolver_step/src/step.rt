@@ -1,4 +1,5 @@
-// One byte, with what it makes whole written into the tables: a target at its place in the text, a record at its identifier.
+// One byte, with what it makes whole written into the tables: a target at its place in the text, a record at its
+// identifier.
 use crate::moves::Move;
 use crate::moves::advance;
 use crate::state::State;

@@ -1,5 +1,5 @@
 -- `read_fitting` meets its contract: cleared rooms, what the text says, and then a refusal or the list.
-use mathlib.Core.Path.{_≡_, _∙_, subst}
+use mathlib.Core.Path.{_≡_, subst}
 use Prim.Native.Nat.{ℕ, _<_}
 use native.Mathlib.Omega.{arith}
 use borrow.Author.Needs.{needs}
@@ -10,7 +10,8 @@ use Rattle.parity_game.specs.Said as Said
 use Rattle.pgsolver.specs.declared.tell.Told.{Told}
 use Rattle.pgsolver.specs.Telling.{Tells}
 use Rattle.pgsolver.specs.Finishing.{asksIn, writtenOf}
-use Rattle.pgsolver.specs.Reading.{Lengths, cleared-tellable, told-area, told-refused, told-finishable, told-finished}
+use Rattle.pgsolver.specs.Reading.{Lengths, lengths-on, cleared-tellable, told-area, told-refused, told-finishable}
+use Rattle.pgsolver.specs.Reading.{told-finished}
 use Rattle.pgsolver.proofs.door.read_fitting.Statement.{statement}
 use Rattle.pgsolver.proofs.door.read_fitting.Tie as tie
 
@@ -97,6 +98,34 @@ finished-lengths c =
       work = search needs;
     }
 
+-- from the entry on
+entry-lengths : (c : tie.After-slice-known15) → Lengths (rooms (start (cleared (c .before .before .before
+    .before .before .before .before .before .before .before)))) (told (c .before .before .before .before .before
+    .before .before .before .before .before))
+entry-lengths c =
+    lengths-on (clear-lengths (c .before .before .before .before .before .before .before .before .before .before
+    .before .before .before .before .before .before)) (told-lengths c)
+
+abbrev told-at20 : tie.After-slice-known20 → tie.After-slice-known15
+told-at20 c =
+    c .before .before .before .before .before .before .before .before .before .before .before
+    .before .before .before .before .before .before .before .before .before .before
+
+abbrev told-at25 : tie.After-slice-known25 → tie.After-slice-known15
+told-at25 c =
+    c .before .before .before .before .before .before .before .before .before .before .before
+    .before .before .before .before .before .before .before .before .before .before
+
+refused-all : (c : tie.After-slice-known20) → Lengths (rooms (start (cleared (told-at20 c .before .before
+    .before .before .before .before .before .before .before .before)))) (refused (c .before .before .before
+    .before .before .before .before .before .before .before))
+refused-all c = lengths-on (entry-lengths (told-at20 c)) (refused-lengths c)
+
+finished-all : (c : tie.After-slice-known25) → Lengths (rooms (start (cleared (told-at25 c .before .before
+    .before .before .before .before .before .before .before .before)))) (finished (c .before .before .before
+    .before .before .before .before .before .before .before))
+finished-all c = lengths-on (entry-lengths (told-at25 c)) (finished-lengths c)
+
 -- what the text was told to be
 as-told :
     (c : tie.After-tell) {x : Told} →
@@ -155,44 +184,19 @@ finish-requires c κs =
     (told-lengths said)
 
 same-length : tie.Need-same-length
-same-length c = refused-lengths c .owners ∙ told-lengths (c .before .before .before .before .before .before
-    .before .before .before .before .before .before .before .before .before .before .before .before .before
-    .before .before) .owners ∙ clear-lengths (c .before .before .before .before .before .before .before
-    .before .before .before .before .before .before .before .before .before .before .before .before
-    .before .before .before .before .before .before .before .before .before .before .before .before
-    .before .before .before .before .before .before) .owners
+same-length c = refused-all c .owners
 
 same-length-2 : tie.Need-same-length-2
-same-length-2 c = refused-lengths c .priorities ∙ told-lengths (c .before .before .before .before .before
-    .before .before .before .before .before .before .before .before .before .before .before .before .before
-    .before .before .before) .priorities ∙ clear-lengths (c .before .before .before .before .before .before
-    .before .before .before .before .before .before .before .before .before .before .before .before
-    .before .before .before .before .before .before .before .before .before .before .before .before
-    .before .before .before .before .before .before .before) .priorities
+same-length-2 c = refused-all c .priorities
 
 same-length-3 : tie.Need-same-length-3
-same-length-3 c = refused-lengths c .offsets ∙ told-lengths (c .before .before .before .before .before .before
-    .before .before .before .before .before .before .before .before .before .before .before .before .before
-    .before .before) .offsets ∙ clear-lengths (c .before .before .before .before .before .before .before
-    .before .before .before .before .before .before .before .before .before .before .before .before
-    .before .before .before .before .before .before .before .before .before .before .before .before
-    .before .before .before .before .before .before) .offsets
+same-length-3 c = refused-all c .offsets
 
 same-length-4 : tie.Need-same-length-4
-same-length-4 c = refused-lengths c .targets ∙ told-lengths (c .before .before .before .before .before .before
-    .before .before .before .before .before .before .before .before .before .before .before .before .before
-    .before .before) .targets ∙ clear-lengths (c .before .before .before .before .before .before .before
-    .before .before .before .before .before .before .before .before .before .before .before .before
-    .before .before .before .before .before .before .before .before .before .before .before .before
-    .before .before .before .before .before .before) .targets
+same-length-4 c = refused-all c .targets
 
 same-length-5 : tie.Need-same-length-5
-same-length-5 c = refused-lengths c .work ∙ told-lengths (c .before .before .before .before .before .before
-    .before .before .before .before .before .before .before .before .before .before .before .before .before
-    .before .before) .work ∙ clear-lengths (c .before .before .before .before .before .before .before
-    .before .before .before .before .before .before .before .before .before .before .before .before
-    .before .before .before .before .before .before .before .before .before .before .before .before
-    .before .before .before .before .before .before) .work
+same-length-5 c = refused-all c .work
 
 returns : tie.Need-returns
 returns c =
@@ -214,44 +218,19 @@ returns c =
     (end .refuse .ensures)
 
 same-length-6 : tie.Need-same-length-6
-same-length-6 c = finished-lengths c .owners ∙ told-lengths (c .before .before .before .before .before .before
-    .before .before .before .before .before .before .before .before .before .before .before .before .before
-    .before .before) .owners ∙ clear-lengths (c .before .before .before .before .before .before .before
-    .before .before .before .before .before .before .before .before .before .before .before .before
-    .before .before .before .before .before .before .before .before .before .before .before .before
-    .before .before .before .before .before .before) .owners
+same-length-6 c = finished-all c .owners
 
 same-length-7 : tie.Need-same-length-7
-same-length-7 c = finished-lengths c .priorities ∙ told-lengths (c .before .before .before .before .before
-    .before .before .before .before .before .before .before .before .before .before .before .before .before
-    .before .before .before) .priorities ∙ clear-lengths (c .before .before .before .before .before .before
-    .before .before .before .before .before .before .before .before .before .before .before .before
-    .before .before .before .before .before .before .before .before .before .before .before .before
-    .before .before .before .before .before .before .before) .priorities
+same-length-7 c = finished-all c .priorities
 
 same-length-8 : tie.Need-same-length-8
-same-length-8 c = finished-lengths c .offsets ∙ told-lengths (c .before .before .before .before .before .before
-    .before .before .before .before .before .before .before .before .before .before .before .before .before
-    .before .before) .offsets ∙ clear-lengths (c .before .before .before .before .before .before .before
-    .before .before .before .before .before .before .before .before .before .before .before .before
-    .before .before .before .before .before .before .before .before .before .before .before .before
-    .before .before .before .before .before .before) .offsets
+same-length-8 c = finished-all c .offsets
 
 same-length-9 : tie.Need-same-length-9
-same-length-9 c = finished-lengths c .targets ∙ told-lengths (c .before .before .before .before .before .before
-    .before .before .before .before .before .before .before .before .before .before .before .before .before
-    .before .before) .targets ∙ clear-lengths (c .before .before .before .before .before .before .before
-    .before .before .before .before .before .before .before .before .before .before .before .before
-    .before .before .before .before .before .before .before .before .before .before .before .before
-    .before .before .before .before .before .before) .targets
+same-length-9 c = finished-all c .targets
 
 same-length-10 : tie.Need-same-length-10
-same-length-10 c = finished-lengths c .work ∙ told-lengths (c .before .before .before .before .before .before
-    .before .before .before .before .before .before .before .before .before .before .before .before .before
-    .before .before) .work ∙ clear-lengths (c .before .before .before .before .before .before .before
-    .before .before .before .before .before .before .before .before .before .before .before .before
-    .before .before .before .before .before .before .before .before .before .before .before .before
-    .before .before .before .before .before .before) .work
+same-length-10 c = finished-all c .work
 
 returns-2 : tie.Need-returns-2
 returns-2 c =

@@ -4,9 +4,12 @@ use Prim.Native.Nat.{_-_, _<_}
 use native.Mathlib.Omega.{arith}
 use borrow.Author.Needs.{needs}
 use lib.ListN.{length}
+use Rattle.pgsolver_step.specs.declared.step.Step.{Step}
+use Rattle.pgsolver_step.specs.declared.step.Step.the-variants.{Off, Over}
+use Rattle.pgsolver_step.specs.declared.portion.Portion.{Portion}
 use Rattle.pgsolver_step.specs.declared.portion.Portion.the-variants.{Reading, Stuck, Beyond}
-use Rattle.pgsolver_step.specs.Portions.{Passed, portions, passed-none, passed-more, passed-off, passed-over}
-use Rattle.pgsolver_step.specs.Portions.{passed-past, passed-all}
+use Rattle.pgsolver_step.specs.Portions.{Portions, portions, Passed, passed-none, passed-more, passed-past, passed-all}
+use Rattle.pgsolver_step.specs.Portions.{Stops, stuck, beyond, stops-within, passed-stops}
 use Rattle.pgsolver_step.proofs.portion.read_portion.Statement.{statement}
 use Rattle.pgsolver_step.proofs.portion.read_portion.Tie as tie
 
@@ -17,6 +20,82 @@ Inv-loop text place most o₀ p₀ f₀ t₀ vertices edges s₀ at₀ i₀ end 
 abbrev μ-loop : tie.MeasureT-loop
 μ-loop text place most o₀ p₀ f₀ t₀ vertices edges s₀ at₀ i₀ end o p f t s at i =
     length text - i
+
+abbrev done-at : tie.After-slice-known8 Inv-loop μ-loop → tie.After-read-byte Inv-loop μ-loop
+done-at c = c .before .before .before .before .before .before .before .before
+
+abbrev loop-at : tie.After-slice-known8 Inv-loop μ-loop → tie.At-loop Inv-loop μ-loop
+loop-at c = done-at c .before .before .before .before .before .before .before .before
+
+abbrev start : tie.At-loop Inv-loop μ-loop → tie.Start Inv-loop μ-loop
+start c = c .before .before .before .before .before .before .before .before
+
+below : (c : tie.After-slice-known8 Inv-loop μ-loop) → loop-at c .loop .i < length (start (loop-at c) .args .text .now)
+below c = omega (arith, done-at c .before .before .before .before .before .before .before .loop-test .taken)
+
+early : (c : tie.After-slice-known8 Inv-loop μ-loop) → loop-at c .loop .at < start (loop-at c) .args .most-bytes
+early c = done-at c .before .before .before .before .before .before .if1 .left
+
+-- a step that ends the portion
+stops :
+    (c : tie.After-slice-known8 Inv-loop μ-loop) (x : Step) (e : Portion) →
+    Stops x (loop-at c .loop .at) e →
+    done-at c .read-byte .result ≡ x →
+    Portions (start (loop-at c) .args .most-bytes) (start (loop-at c) .args .place) (start (loop-at c) .args .state)
+    (start (loop-at c) .args .text .now)
+    (start (loop-at c) .args .owners .now)
+    (start (loop-at c) .args .priorities .now)
+    (start (loop-at c) .args .offsets .now)
+    (start (loop-at c) .args .targets .now)
+    e
+    (done-at c .read-byte .last .1 .1 .1 .1 .0)
+    (done-at c .read-byte .last .1 .1 .1 .1 .1 .0)
+    (done-at c .read-byte .last .1 .1 .1 .1 .1 .1 .0)
+    (done-at c .read-byte .last .1 .1 .1 .1 .1 .1 .1 .0)
+stops c x e ends is =
+    let done = done-at c in
+    let at = loop-at c in
+    let args = start at .args in
+    portions (args .most-bytes) (at .before .before .limit .result) (at .before .limit2 .result) (args .place) (args .state)
+    (args .text .now)
+    (args .owners .now)
+    (args .priorities .now)
+    (args .offsets .now)
+    (args .targets .now)
+    e
+    (done .read-byte .last .1 .1 .1 .1 .0)
+    (done .read-byte .last .1 .1 .1 .1 .1 .0)
+    (done .read-byte .last .1 .1 .1 .1 .1 .1 .0)
+    (done .read-byte .last .1 .1 .1 .1 .1 .1 .1 .0)
+    (at .before .before .limit .ensures)
+    (at .before .limit2 .ensures)
+    (passed-stops (args .most-bytes) (at .before .before .limit .result) (at .before .limit2 .result) (args .place) (args .state)
+    (args .text .now)
+    (args .owners .now)
+    (args .priorities .now)
+    (args .offsets .now)
+    (args .targets .now)
+    (at .loop .s)
+    (at .loop .at)
+    (at .loop .i)
+    (at .loop .owners)
+    (at .loop .priorities)
+    (at .loop .offsets)
+    (at .loop .targets)
+    (at .loop .inv .1)
+    (below c)
+    (done .read-byte .result)
+    x
+    e
+    (done .read-byte .last .1 .1 .1 .1 .0)
+    (done .read-byte .last .1 .1 .1 .1 .1 .0)
+    (done .read-byte .last .1 .1 .1 .1 .1 .1 .0)
+    (done .read-byte .last .1 .1 .1 .1 .1 .1 .1 .0)
+    ends
+    is
+    (early c)
+    (done .read-byte .ensures))
+    (λ h. stops-within (args .most-bytes) _ x (at .loop .at) e ends (early c))
 
 limit-requires : tie.Need-limit-requires Inv-loop μ-loop
 limit-requires c κs = search needs
@@ -110,55 +189,7 @@ same-length-8 : tie.Need-same-length-8 Inv-loop μ-loop
 same-length-8 c = search needs
 
 returns-2 : tie.Need-returns-2 Inv-loop μ-loop
-returns-2 c =
-    let done = c .before .before .before .before .before .before .before .before .before .before in
-    let at = c .before .before .before .before .before .before .before .before .before .before .before .before
-    .before .before .before .before .before .before in
-    let args = at .before .before .before .before .before .before .before .before .args in
-    let early = c .before .before .before .before .before .before .before .before .before .before .before
-    .before .before .before .before .before .if1 .left in
-    let below : at .loop .i < length (args .text .now) = omega (
-      arith,
-      c .before .before .before .before .before
-          .before .before .before .before .before .before .before .before .before .before .before .before .loop-test .taken,
-    ) in
-    portions (args .most-bytes) (at .before .before .limit .result) (at .before .limit2 .result) (args .place) (args .state)
-    (args .text .now)
-    (args .owners .now)
-    (args .priorities .now)
-    (args .offsets .now)
-    (args .targets .now)
-    (Stuck (at .loop .at))
-    (done .read-byte .last .1 .1 .1 .1 .0)
-    (done .read-byte .last .1 .1 .1 .1 .1 .0)
-    (done .read-byte .last .1 .1 .1 .1 .1 .1 .0)
-    (done .read-byte .last .1 .1 .1 .1 .1 .1 .1 .0)
-    (at .before .before .limit .ensures)
-    (at .before .limit2 .ensures)
-    (passed-off (args .most-bytes) (at .before .before .limit .result) (at .before .limit2 .result) (args .place) (args .state)
-    (args .text .now)
-    (args .owners .now)
-    (args .priorities .now)
-    (args .offsets .now)
-    (args .targets .now)
-    (at .loop .s)
-    (at .loop .at)
-    (at .loop .i)
-    (at .loop .owners)
-    (at .loop .priorities)
-    (at .loop .offsets)
-    (at .loop .targets)
-    (at .loop .inv .1)
-    below
-    (done .read-byte .result)
-    (done .read-byte .last .1 .1 .1 .1 .0)
-    (done .read-byte .last .1 .1 .1 .1 .1 .0)
-    (done .read-byte .last .1 .1 .1 .1 .1 .1 .0)
-    (done .read-byte .last .1 .1 .1 .1 .1 .1 .1 .0)
-    (c .enum-told .given .1)
-    early
-    (done .read-byte .ensures))
-    (λ h. early)
+returns-2 c = stops (c .before .before) Off (Stuck (loop-at (c .before .before) .loop .at)) stuck (c .enum-told .given .1)
 
 enum-told-2 : tie.Need-enum-told-2 Inv-loop μ-loop
 enum-told-2 c = search needs
@@ -176,76 +207,18 @@ same-length-12 : tie.Need-same-length-12 Inv-loop μ-loop
 same-length-12 c = search needs
 
 returns-3 : tie.Need-returns-3 Inv-loop μ-loop
-returns-3 c =
-    let done = c .before .before .before .before .before .before .before .before .before .before in
-    let at = c .before .before .before .before .before .before .before .before .before .before .before .before
-    .before .before .before .before .before .before in
-    let args = at .before .before .before .before .before .before .before .before .args in
-    let early = c .before .before .before .before .before .before .before .before .before .before .before
-    .before .before .before .before .before .if1 .left in
-    let below : at .loop .i < length (args .text .now) = omega (
-      arith,
-      c .before .before .before .before .before
-          .before .before .before .before .before .before .before .before .before .before .before .before .loop-test .taken,
-    ) in
-    portions (args .most-bytes) (at .before .before .limit .result) (at .before .limit2 .result) (args .place) (args .state)
-    (args .text .now)
-    (args .owners .now)
-    (args .priorities .now)
-    (args .offsets .now)
-    (args .targets .now)
-    (Beyond (at .loop .at))
-    (done .read-byte .last .1 .1 .1 .1 .0)
-    (done .read-byte .last .1 .1 .1 .1 .1 .0)
-    (done .read-byte .last .1 .1 .1 .1 .1 .1 .0)
-    (done .read-byte .last .1 .1 .1 .1 .1 .1 .1 .0)
-    (at .before .before .limit .ensures)
-    (at .before .limit2 .ensures)
-    (passed-over (args .most-bytes) (at .before .before .limit .result) (at .before .limit2 .result) (args .place) (args .state)
-    (args .text .now)
-    (args .owners .now)
-    (args .priorities .now)
-    (args .offsets .now)
-    (args .targets .now)
-    (at .loop .s)
-    (at .loop .at)
-    (at .loop .i)
-    (at .loop .owners)
-    (at .loop .priorities)
-    (at .loop .offsets)
-    (at .loop .targets)
-    (at .loop .inv .1)
-    below
-    (done .read-byte .result)
-    (done .read-byte .last .1 .1 .1 .1 .0)
-    (done .read-byte .last .1 .1 .1 .1 .1 .0)
-    (done .read-byte .last .1 .1 .1 .1 .1 .1 .0)
-    (done .read-byte .last .1 .1 .1 .1 .1 .1 .1 .0)
-    (c .enum-told2 .given .1)
-    early
-    (done .read-byte .ensures))
-    (λ h. omega arith)
+returns-3 c = stops (c .before .before) Over (Beyond (loop-at (c .before .before) .loop .at)) beyond (c .enum-told2 .given .1)
 
 add-at : tie.Need-add-at Inv-loop μ-loop
-add-at c = omega (
-  arith,
-  c .before .before .before .before .before .before .before .before .before .before
-      .before .before .before .before .before .before .before .if1 .left,
-  c .before .before .before .before
-      .before .before .before .before .before .before .before .before .before .before .before .before .before
-      .before .before .before .before .before .before .before .before .before .before .fits .most-bytes,
-)
+add-at c = omega (arith, early (c .before .before .before), start (loop-at (c .before .before .before)) .fits .most-bytes)
 
 add-i : tie.Need-add-i Inv-loop μ-loop
 add-i c =
-    let at = c .before .before .before .before .before .before .before .before .before .before .before .before
-    .before .before .before .before .before .before .before in
-    let below : at .loop .i < length (at .before .before .before .before .before .before .before .before .args .text .now) =
-    omega (
-      arith,
-      c .before .before .before .before .before .before .before .before .before .before .before
-          .before .before .before .before .before .before .before .loop-test .taken,
-    ) in
+    let at =
+    c .before .before .before .before .before .before .before .before .before .before .before
+    .before .before .before .before .before .before .before .before in
+    let more : at .loop .i < length (at .before .before .before .before .before .before .before
+    .before .args .text .now) = below (c .before .before .before) in
     search needs
 
 loop-less : tie.Need-loop-less Inv-loop μ-loop
@@ -253,16 +226,10 @@ loop-less c = search needs
 
 loop-again : tie.Need-loop-again Inv-loop μ-loop
 loop-again c =
-    let done = c .before .before .before .before .before .before .before .before .before .before .before in
-    let at = c .before .before .before .before .before .before .before .before .before .before .before .before
-    .before .before .before .before .before .before .before in
-    let args = at .before .before .before .before .before .before .before .before .args in
-    let below : at .loop .i < length (args .text .now) = omega (
-      arith,
-      c .before .before .before .before .before
-          .before .before .before .before .before .before .before .before .before .before .before .before
-          .before .loop-test .taken,
-    ) in (
+    let here = c .before .before .before in
+    let done = done-at here in
+    let at = loop-at here in
+    let args = start at .args in (
       refl,
       passed-more (args .most-bytes) (at .before .before .limit .result) (at .before .limit2 .result) (args .place) (args .state)
           (args .text .now)
@@ -278,7 +245,7 @@ loop-again c =
           (at .loop .offsets)
           (at .loop .targets)
           (at .loop .inv .1)
-          below
+          (below here)
           (done .read-byte .result)
           (c .before .next .given .0 .0)
           (done .read-byte .last .1 .1 .1 .1 .0)
@@ -286,8 +253,7 @@ loop-again c =
           (done .read-byte .last .1 .1 .1 .1 .1 .1 .0)
           (done .read-byte .last .1 .1 .1 .1 .1 .1 .1 .0)
           (c .before .next .given .1)
-          (c .before .before .before .before .before .before .before .before .before .before .before .before
-          .before .before .before .before .before .if1 .left)
+          (early here)
           (search needs)
           (search needs)
           (search needs)
