@@ -22,8 +22,9 @@
  * Each function returns a number, named below, and writes a place and a count. The count of an answer is what the function
  * says below. With 13 it is the budget, with every other number 0.
  *
- * Numbers 1 to 12 write nothing but place and count, where a function says nothing else. With 13 the sets and the strategy stay as they were. With 0, 13 and
- * 21 to 24 the first W words of the work area are zero afterwards; words beyond W never change.
+ * Numbers 1 to 12 write nothing but place and count, where a function says nothing else. With 13 the sets and the strategy
+ * stay as they were. With 0, 13 and 21 to 24 the first W words of the work area are zero afterwards; words beyond W never
+ * change.
  *
  * The budget is the most calls of reckonbough_zielonka, or rounds of reckonbough_priority_promotion. Let d be the number of
  * different priorities. 2 * (C(n,0) + C(n,1) + ... + C(n,d)) - 1 calls and n * (n + 2)^d rounds are always enough; both are
@@ -47,8 +48,8 @@
 #define RECKONBOUGH_MAX_PRIORITY 255
 
 /*
- * The numbers. Of those that a function gives it is the first that applies, in the order that the function names, else 0. The place is 0 where the line says none. Later versions may
- * have more numbers; none of them is an answer.
+ * The numbers. Of those that a function gives it is the first that applies, in the order that the function names, else 0.
+ * The place is 0 where the line says none. Later versions may have more numbers; none of them is an answer.
  */
 #define RECKONBOUGH_ANSWERED 0          /* an answer, the checker's yes included */
 #define RECKONBOUGH_TOO_MANY_VERTICES 1 /* n above 4096 */
