@@ -42,13 +42,16 @@ fn solve_in(
         (now (out .exit))
         r ⌝ }
 {
+    // The same budget for each engine.
+    let rounds = budget;
+    let calls = budget;
     let promotion = priority_promotion::solve_priority_promotion(
         owners,
         priorities,
         offsets,
         targets,
         true,
-        budget,
+        rounds,
         even,
         odd,
         strategy,
@@ -60,7 +63,7 @@ fn solve_in(
         offsets,
         targets,
         true,
-        budget,
+        calls,
         even,
         odd,
         strategy,

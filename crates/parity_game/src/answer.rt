@@ -37,8 +37,11 @@ pub const BAD_ENTRY: u64 = 22;
 pub const LEAVES_SET: u64 = 23;
 
 pub const LOSING_CYCLE: u64 = 24;
+
 pub const BAD_TEXT: u64 = 30;
+
 pub const BAD_IDENTIFIER: u64 = 31;
+
 pub const BEYOND_LIMIT: u64 = 32;
 
 pub enum Answer {

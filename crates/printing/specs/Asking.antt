@@ -13,7 +13,7 @@ use lib.Seq.{drop-cons}
 use Rattle.rules.specs.Counting.{everyOf}
 use Rattle.rules.specs.Pgsolver.{isDigit}
 use Rattle.rules.specs.Printing as Printing
-use Rattle.rules.specs.Printing.{argumentsAsk, valueAfter, defaultBudget}
+use Rattle.rules.specs.Printing.{argumentsAskBy, argumentsAsk, valueAfter, defaultBudget}
 use Rattle.theory.specs.Basics.{and-left, and-right, and-intro}
 use Rattle.printing.specs.declared.arguments.Asked.{Asked}
 use Rattle.printing.specs.declared.arguments.Asked.the-variants.{Budget, Wrong}
@@ -35,12 +35,12 @@ Asks given first r =
 -- ---- by cases on how many there are
 
 pub asks-none : (given : ℕ) (first : List ℕ) → given ≤ 1 → Asks given first (Budget defaultBudget)
-unfolding argumentsAsk
+unfolding argumentsAskBy
 asks-none given first few [] long is = refl
 asks-none given first few (a ∷ more) long is = absurd (omega arith)
 
 pub asks-many : (given : ℕ) (first : List ℕ) → 2 < given → Asks given first Wrong
-unfolding argumentsAsk
+unfolding argumentsAskBy
 asks-many given first many [] long is = absurd (omega arith)
 asks-many given first many (a ∷ []) long is = absurd (omega arith)
 asks-many given first many (a ∷ (b ∷ more)) long is = refl
@@ -50,7 +50,7 @@ abbrev pub fine : List ℕ → Bool
 fine a = ltb 0 (length a) && leb (length a) 9 && everyOf a isDigit
 
 pub asks-wrong : (given : ℕ) (first : List ℕ) → 1 < given → fine first ≡ false → Asks given first Wrong
-unfolding argumentsAsk
+unfolding argumentsAskBy
 asks-wrong given first some bad [] long is = absurd (omega arith)
 asks-wrong given first some bad (a ∷ []) long is =
     sym (ap (λ (t : Bool). cond t (Printing.Asked.within (valueAfter 0 a)) Printing.Asked.wrong) (ap fine is ∙ bad))
@@ -63,7 +63,7 @@ pub asks-one :
     fine first ≡ true →
     v ≡ valueAfter 0 first →
     Asks given first (Budget v)
-unfolding argumentsAsk
+unfolding argumentsAskBy
 asks-one given first v some one good e [] long is = absurd (omega arith)
 asks-one given first v some one good e (a ∷ []) long is =
     ap Printing.Asked.within (e ∙ ap (λ (s : List ℕ). valueAfter 0 s) (sym is)) ∙

@@ -4,3 +4,4 @@ pub mod Winners
 pub mod Digits
 pub mod Line
 pub mod Asking
+pub mod SmallerBudget

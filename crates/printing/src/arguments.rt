@@ -8,6 +8,9 @@ ghost use Rattle.rules.specs.Pgsolver.{isDigit};
 ghost use Rattle.rules.specs.Printing.{valueAfter};
 ghost use Rattle.printing.specs.Asking.{Asks};
 
+// The budget of each engine unless an argument gives another.
+const DEFAULT_BUDGET: u64 = 65536;
+
 pub enum Asked {
     Budget(u64),
     // 36.
@@ -41,7 +44,7 @@ pub fn ask(given: usize, first: &[u8]) -> Asked
     ensures { λ r. ⌜ Asks given (now (first .entry)) r ⌝ }
 {
     if given <= 1 {
-        return Asked::Budget(1000000);
+        return Asked::Budget(DEFAULT_BUDGET);
     }
     if given > 2 || first.len() == 0 || first.len() > 9 {
         return Asked::Wrong;

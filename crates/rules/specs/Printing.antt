@@ -18,7 +18,7 @@ use Rattle.rules.specs.Zielonka.{zielonka}
 
 -- the budget of each engine unless an argument gives another
 abbrev pub defaultBudget : ℕ
-defaultBudget = 1000000
+defaultBudget = 65536
 
 -- ---- arguments
 
@@ -32,11 +32,15 @@ unfoldable pub valueAfter : ℕ → List ℕ → ℕ
 valueAfter v [] = v
 valueAfter v (b ∷ bs) = valueAfter (10 * v + (b - 48)) bs
 
-unfoldable pub argumentsAsk : List (List ℕ) → Asked
-argumentsAsk [] = within defaultBudget
-argumentsAsk (a ∷ []) =
+-- what arguments ask for, by the budget that stands where there is none
+unfoldable pub argumentsAskBy : ℕ → List (List ℕ) → Asked
+argumentsAskBy without [] = within without
+argumentsAskBy without (a ∷ []) =
     cond (ltb 0 (length a) && leb (length a) 9 && everyOf a isDigit) (within (valueAfter 0 a)) wrong
-argumentsAsk (a ∷ (b ∷ more)) = wrong
+argumentsAskBy without (a ∷ (b ∷ more)) = wrong
+
+abbrev pub argumentsAsk : List (List ℕ) → Asked
+argumentsAsk arguments = argumentsAskBy defaultBudget arguments
 
 -- ---- the line
 
@@ -103,6 +107,9 @@ abbrev pub PrintsBy : Asked → List ℕ → List ℕ → Type 0
 PrintsBy wrong text line = line ≡ refusedLine 36 0
 PrintsBy (within b) text line = PrintsText b text line
 
--- what the program prints for its arguments and its input
+-- what the program prints for its arguments and its input, by the budget that stands where there is none
+abbrev pub PrintsWithout : ℕ → List (List ℕ) → List ℕ → List ℕ → Type 0
+PrintsWithout without arguments text line = PrintsBy (argumentsAskBy without arguments) text line
+
 abbrev pub Prints : List (List ℕ) → List ℕ → List ℕ → Type 0
-Prints arguments text line = PrintsBy (argumentsAsk arguments) text line
+Prints arguments text line = PrintsWithout defaultBudget arguments text line

@@ -43,13 +43,12 @@ front-ended text longer =
     let r = runFrom limitsOfA1 0 (live atFirst) (take 16384 text) in
     let b = getD text 16384 0 in
     let place : 0 + length (take 16384 text) ≡ 16384 = omega (arith, length-take 16384 text) in
-    let there = ended-there r b in
-    (
+    let there = ended-there r b in (
       there .0,
       ap (runFrom limitsOfA1 0 (live atFirst)) (take-suc text 16384 0 longer) ∙
-      run-snoc limitsOfA1 0 (live atFirst) (take 16384 text) b ∙
-      ap (λ (k : ℕ). next limitsOfA1 k r b) place ∙
-      there .1,
+          run-snoc limitsOfA1 0 (live atFirst) (take 16384 text) b ∙
+          ap (λ (k : ℕ). next limitsOfA1 k r b) place ∙
+          there .1,
     )
 
 -- so what is read of the front is what is read of the text

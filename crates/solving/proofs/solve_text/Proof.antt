@@ -105,8 +105,7 @@ returns c =
     let is =
     puts-front (line .refused-line .ensures) ∙
     ap (λ (k : ℕ). refusedLine k (at-place .place .result)) (at-number .number2 .ensures) ∙
-    ap (λ (p : ℕ). refusedLine (gave at .number) p) (at-place .place .ensures) in
-    (
+    ap (λ (p : ℕ). refusedLine (gave at .number) p) (at-place .place .ensures) in (
       subst (λ (bytes : List ℕ). PrintsText (start at .args .budget) (text at) bytes) (sym is)
           (prints-refused (text at) (after at) (gave at) (at .read .ensures) (start at .args .budget)
           (λ e. test .if1 .taken (test .before .number .ensures ∙ e))),
@@ -166,8 +165,7 @@ returns-2 : tie.Need-returns-2
 returns-2 c =
     let solved = c .before .before in
     let test = solved .before .before .before .before .before .before .before .before .before .before in
-    let at = reading (test .before) in
-    (
+    let at = reading (test .before) in (
       prints-solved (text at) (after at) (gave at) (at .read .ensures) (zero test) (start at .args .budget)
           (take (solved .solve-tables .result) (solved .solve-tables .last .1 .1 .1 .1 .1 .0))
           (puts-front (solved .solve-tables .ensures)),

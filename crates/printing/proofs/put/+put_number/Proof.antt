@@ -59,8 +59,7 @@ module _ (t : ℕ) where
 
   put-number-requires : At lts.Need-put-number-requires
   put-number-requires c κs =
-      let at = c .before .before .before in
-      (
+      let at = c .before .before .before in (
         omega (arith, at .pre .0),
         tenth-fits (at .args .at) (at .args .value) (at .args .out .now) (c .before .if1 .left) (at .pre .1),
       )
