@@ -23,7 +23,7 @@
  * says below. With 13 it is the budget, with every other number 0.
  *
  * Numbers 1 to 12 write nothing but place and count, where a function says nothing else. With 13 the sets and the strategy
- * stay as they were. With 0, 13 and 21 to 24 the first W words of the work area are zero afterwards; words beyond W never
+ * stay as they were. With 0, 13 and 21 to 25 the first W words of the work area are zero afterwards; words beyond W never
  * change.
  *
  * The budget is the most calls of reckonbough_zielonka, or rounds of reckonbough_priority_promotion. Let d be the number of
@@ -48,8 +48,9 @@
 #define RECKONBOUGH_MAX_PRIORITY 255
 
 /*
- * The numbers. Of those that a function gives it is the first that applies, in the order that the function names, else 0.
- * The place is 0 where the line says none. Later versions may have more numbers; none of them is an answer.
+ * The numbers. Of those that a function gives it is the first that applies, in the order that the function names, else 0;
+ * 25 stands in the place of 22. The place is 0 where the line says none. Later versions may have more numbers; none of them is
+ * an answer.
  */
 #define RECKONBOUGH_ANSWERED 0          /* an answer, the checker's yes included */
 #define RECKONBOUGH_TOO_MANY_VERTICES 1 /* n above 4096 */
@@ -75,6 +76,7 @@
                                            vertex, ends outside the winner's set; place: lowest vertex */
 #define RECKONBOUGH_LOSING_CYCLE 24     /* checker: a cycle of those edges inside a set, whose highest priority has the
                                            other player's parity; place: lowest vertex on one */
+#define RECKONBOUGH_NO_STRATEGY 25      /* checker: 22 would be given, and every entry is none; place: that of 22 */
 #define RECKONBOUGH_BAD_TEXT 30         /* reading: no text of the grammar can follow this byte, or the text ends too soon or has
                                            no record; place: the byte, or the text's length */
 #define RECKONBOUGH_BAD_IDENTIFIER 31   /* reading: identifiers 0 to n - 1 do not each appear once, or N is not n - 1;
@@ -132,9 +134,8 @@ uint64_t reckonbough_attractor(
 
 /*
  * Solves the game by Zielonka's recursion, in at most budget calls.
- * Writes even and odd, s words each: who wins where; and strategy, n entries: where compute_strategy is not 0, the chosen
- * target for each vertex whose owner wins it and none elsewhere; where it is 0, none everywhere. Works in work, W words or
- * more.
+ * Writes even and odd, s words each: who wins where; and strategy, n entries: the chosen target for each vertex whose owner
+ * wins it and none elsewhere. Works in work, W words or more.
  * Gives 0, 1 to 10 or 13. The count is the calls, those on empty sets included.
  */
 uint64_t reckonbough_zielonka(
@@ -142,7 +143,6 @@ uint64_t reckonbough_zielonka(
     const uint16_t *priorities, size_t priorities_length,
     const uint16_t *offsets, size_t offsets_length,
     const uint16_t *targets, size_t targets_length,
-    uint8_t compute_strategy,
     uint64_t budget,
     uint64_t *even, size_t even_length,
     uint64_t *odd, size_t odd_length,
@@ -159,7 +159,6 @@ uint64_t reckonbough_priority_promotion(
     const uint16_t *priorities, size_t priorities_length,
     const uint16_t *offsets, size_t offsets_length,
     const uint16_t *targets, size_t targets_length,
-    uint8_t compute_strategy,
     uint64_t budget,
     uint64_t *even, size_t even_length,
     uint64_t *odd, size_t odd_length,
@@ -186,7 +185,8 @@ uint64_t reckonbough_solitaire(
  * Checks a claim: that Even wins from even and Odd from odd, each by the entries of strategy.
  * Reads even and odd, s words each, and strategy, n entries: a target of the vertex's edges where the vertex's owner wins
  * it, none elsewhere. Works in work, W words or more.
- * Gives 0 for yes, 1 to 10, or 21 to 24 for the first thing that is wrong. The count is 0.
+ * Gives 0 for yes, 1 to 10, or 21 to 24 for the first thing that is wrong, with 25 in the place of 22 where every entry is
+ * none: a result that was kept without its strategy. The count is 0.
  */
 uint64_t reckonbough_check(
     const uint8_t *owners, size_t owners_length,

@@ -1,6 +1,6 @@
 /*
- * The names of the numbers; what only C can pass: null pointers for empty slices, and players and flags other than 0 and 1;
- * and the largest game. Every function is called.
+ * The names of the numbers; what only C can pass: null pointers for empty slices, and players other than 0 and 1; results
+ * without a strategy; and the largest game. Every function is called.
  * Each line is what was asked and the number, the place and the count given; tests/doors compares them.
  */
 #include <inttypes.h>
@@ -39,6 +39,7 @@ static void names(void)
         RECKONBOUGH_BAD_ENTRY,
         RECKONBOUGH_LEAVES_SET,
         RECKONBOUGH_LOSING_CYCLE,
+        RECKONBOUGH_NO_STRATEGY,
     };
     printf("numbers:");
     for (size_t i = 0; i < sizeof numbers / sizeof *numbers; i++)
@@ -56,38 +57,53 @@ static void no_vertices(void)
     print("check_tables of C1", reckonbough_check_tables(C1, &place, &count));
     print("attractor in C1",
           reckonbough_attractor(C1, 0, NULL, 0, NULL, 0, NULL, 0, NULL, 0, work, w, &place, &count));
-    print("zielonka of C1", reckonbough_zielonka(C1, 1, 1, NULL, 0, NULL, 0, NULL, 0, work, w, &place, &count));
+    print("zielonka of C1", reckonbough_zielonka(C1, 1, NULL, 0, NULL, 0, NULL, 0, work, w, &place, &count));
     print("zielonka of C1, budget 0",
-          reckonbough_zielonka(C1, 1, 0, NULL, 0, NULL, 0, NULL, 0, work, w, &place, &count));
+          reckonbough_zielonka(C1, 0, NULL, 0, NULL, 0, NULL, 0, work, w, &place, &count));
     print("zielonka of C1, no work area",
-          reckonbough_zielonka(C1, 1, 1, NULL, 0, NULL, 0, NULL, 0, NULL, 0, &place, &count));
+          reckonbough_zielonka(C1, 1, NULL, 0, NULL, 0, NULL, 0, NULL, 0, &place, &count));
     print("priority_promotion of C1, budget 0",
-          reckonbough_priority_promotion(C1, 1, 0, NULL, 0, NULL, 0, NULL, 0, work, w, &place, &count));
+          reckonbough_priority_promotion(C1, 0, NULL, 0, NULL, 0, NULL, 0, work, w, &place, &count));
     print("solitaire of C1", reckonbough_solitaire(C1, NULL, 0, work, w, &place, &count));
     print("check of C1", reckonbough_check(C1, NULL, 0, NULL, 0, NULL, 0, work, w, &place, &count));
     print("compact of C1", reckonbough_compact(C1, NULL, 0, &place, &count));
 }
 
-/* Players and flags other than 0 and 1. In C7 Odd's attractor of vertex 0 has vertex 1 in it, Even's has not. */
-static void players_and_flags(void)
+static const uint8_t c7_owners[] = {0, 1};
+static const uint16_t c7_priorities[] = {2, 0}, c7_offsets[] = {0, 1, 3}, c7_targets[] = {1, 0, 1};
+#define C7 c7_owners, 2, c7_priorities, 2, c7_offsets, 3, c7_targets, 3
+
+/* Players other than 0 and 1. In C7 Odd's attractor of vertex 0 has vertex 1 in it, Even's has not. */
+static void players(void)
 {
-    static const uint8_t owners[] = {0, 1};
-    static const uint16_t priorities[] = {2, 0}, offsets[] = {0, 1, 3}, targets[] = {1, 0, 1};
     static const uint8_t numbers[] = {0, 1, 2, 255};
     const uint64_t all = 3, first = 1;
-    uint64_t even, odd;
+    uint64_t set;
     uint16_t strategy[2];
     const size_t w = reckonbough_work_words(2, 3);
-#define C7 owners, 2, priorities, 2, offsets, 3, targets, 3
     for (size_t i = 0; i < sizeof numbers; i++) {
         printf("with %u\n", (unsigned)numbers[i]);
         print("attractor of 0 in C7",
-              reckonbough_attractor(C7, numbers[i], &all, 1, &first, 1, &even, 1, strategy, 2, work, w, &place, &count));
-        printf("  set %" PRIu64 ", entries %u %u\n", even, (unsigned)strategy[0], (unsigned)strategy[1]);
-        print("zielonka of C7",
-              reckonbough_zielonka(C7, numbers[i], 3, &even, 1, &odd, 1, strategy, 2, work, w, &place, &count));
-        printf("  sets %" PRIu64 " %" PRIu64 ", entries %u %u\n", even, odd, (unsigned)strategy[0], (unsigned)strategy[1]);
+              reckonbough_attractor(C7, numbers[i], &all, 1, &first, 1, &set, 1, strategy, 2, work, w, &place, &count));
+        printf("  set %" PRIu64 ", entries %u %u\n", set, (unsigned)strategy[0], (unsigned)strategy[1]);
     }
+}
+
+/* C7 is Even's. Without its strategy the result gets 25; with another wrong one 22; and 21 comes first. */
+static void without_strategy(void)
+{
+    static const uint16_t nothing[] = {RECKONBOUGH_NONE, RECKONBOUGH_NONE}, other[] = {RECKONBOUGH_NONE, 0};
+    const uint64_t none = 0, first = 1;
+    uint64_t even, odd;
+    uint16_t strategy[2];
+    const size_t w = reckonbough_work_words(2, 3);
+    print("zielonka of C7", reckonbough_zielonka(C7, 3, &even, 1, &odd, 1, strategy, 2, work, w, &place, &count));
+    printf("  sets %" PRIu64 " %" PRIu64 ", entries %u %u\n", even, odd, (unsigned)strategy[0], (unsigned)strategy[1]);
+    print("check of it", reckonbough_check(C7, &even, 1, &odd, 1, strategy, 2, work, w, &place, &count));
+    print("without entries", reckonbough_check(C7, &even, 1, &odd, 1, nothing, 2, work, w, &place, &count));
+    print("with Odd's entry alone", reckonbough_check(C7, &even, 1, &odd, 1, other, 2, work, w, &place, &count));
+    print("without entries, vertex 1 in no set",
+          reckonbough_check(C7, &first, 1, &none, 1, nothing, 2, work, w, &place, &count));
 }
 
 /*
@@ -110,14 +126,14 @@ static void most_vertices(void)
     }
 #define CHAIN owners, N, priorities, N, offsets, N + 1, targets, M
     print("zielonka of 4,096 vertices",
-          reckonbough_zielonka(CHAIN, 1, UINT64_MAX, even, S, odd, S, strategy, N, area, w, &place, &count));
+          reckonbough_zielonka(CHAIN, UINT64_MAX, even, S, odd, S, strategy, N, area, w, &place, &count));
     print("check of it", reckonbough_check(CHAIN, even, S, odd, S, strategy, N, area, w, &place, &count));
     print("priority_promotion of 4,096 vertices",
-          reckonbough_priority_promotion(CHAIN, 1, UINT64_MAX, even, S, odd, S, strategy, N, area, w, &place, &count));
+          reckonbough_priority_promotion(CHAIN, UINT64_MAX, even, S, odd, S, strategy, N, area, w, &place, &count));
     print("check of it", reckonbough_check(CHAIN, even, S, odd, S, strategy, N, area, w, &place, &count));
     print("solitaire of 4,096 vertices", reckonbough_solitaire(CHAIN, even, S, area, w, &place, &count));
     print("zielonka of 4,097 vertices",
-          reckonbough_zielonka(owners, N + 1, priorities, N + 1, offsets, N + 2, targets, M, 1, UINT64_MAX, even, S, odd, S,
+          reckonbough_zielonka(owners, N + 1, priorities, N + 1, offsets, N + 2, targets, M, UINT64_MAX, even, S, odd, S,
                                strategy, N, area, w, &place, &count));
 }
 
@@ -125,7 +141,8 @@ int main(void)
 {
     names();
     no_vertices();
-    players_and_flags();
+    players();
+    without_strategy();
     most_vertices();
     return 0;
 }

@@ -75,8 +75,8 @@ impl<'a> PortTimes<'a> {
         let (game, lent, solver) = (self.game, &mut self.lent, self.solver);
         self.whole.time(|| {
             let answer = match solver {
-                Solver::Zielonka => port::zielonka(game, false, u64::MAX, lent),
-                Solver::Promotion => port::priority_promotion(game, false, u64::MAX, lent),
+                Solver::Zielonka => port::zielonka(game, u64::MAX, lent),
+                Solver::Promotion => port::priority_promotion(game, u64::MAX, lent),
             };
             assert_eq!(answer.number, 0, "the port refuses a game of the benchmark");
         });

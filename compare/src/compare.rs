@@ -75,9 +75,8 @@ struct Given {
 impl Given {
     fn of(game: &Game, cap: Cap, tally: &mut Tally) -> Result<Given, String> {
         let mut stopped = false;
-        let zielonka = both_runs("Zielonka", game, tally, &mut stopped, |strategy| oracle::zielonka(game, strategy, cap))?;
-        let run = |strategy| oracle::priority_promotion(game, strategy, cap);
-        let promotion = both_runs("promotion", game, tally, &mut stopped, run)?;
+        let zielonka = certified("Zielonka", game, tally, &mut stopped, oracle::zielonka(game, cap))?;
+        let promotion = certified("promotion", game, tally, &mut stopped, oracle::priority_promotion(game, cap))?;
         let solitaire = match game.is_solitaire() {
             true => answered("solitaire", oracle::solitaire(game, cap), &mut stopped)?,
             false => None,
@@ -138,22 +137,18 @@ fn wanted(given: &Given, rules: &Rules, defined: Option<&Vec<u8>>) -> Result<Wan
     })
 }
 
-/// The oracle with and without strategy: the same answer, and a strategy that the checker of the rules accepts.
-fn both_runs(
+/// The oracle's answer, with a strategy that the checker of the rules accepts.
+fn certified(
     name: &str,
     game: &Game,
     tally: &mut Tally,
     stopped: &mut bool,
-    run: impl Fn(bool) -> Outcome<oracle::Solved>,
+    run: Outcome<oracle::Solved>,
 ) -> Result<Option<oracle::Solved>, String> {
-    let Some(plain) = answered(name, run(false), stopped)? else { return Ok(None) };
-    if let Some(with) = answered(name, run(true), stopped)? {
-        same(&format!("winners of the oracle's {name} with a strategy"), &plain.winners, &with.winners)?;
-        same(&format!("count of the oracle's {name} with a strategy"), &plain.count, &with.count)?;
-        check_strategy(name, game, &with)?;
-        tally.strategies += 1;
-    }
-    Ok(Some(plain))
+    let Some(solved) = answered(name, run, stopped)? else { return Ok(None) };
+    check_strategy(name, game, &solved)?;
+    tally.strategies += 1;
+    Ok(Some(solved))
 }
 
 /// The rules' counts and the bounds against the oracle's counts.

@@ -23,8 +23,8 @@ impl Solver {
     /// The oracle's answer, with its count.
     pub fn oracle(self, game: &Game, cap: Cap) -> Outcome<oracle::Solved> {
         match self {
-            Solver::Zielonka => oracle::zielonka(game, false, cap),
-            Solver::Promotion => oracle::priority_promotion(game, false, cap),
+            Solver::Zielonka => oracle::zielonka(game, cap),
+            Solver::Promotion => oracle::priority_promotion(game, cap),
         }
     }
 }

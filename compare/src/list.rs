@@ -38,8 +38,8 @@ pub fn games() -> Vec<Game> {
 pub fn line(game: &Game) -> Result<String, String> {
     let cap = Cap::default();
     compare(game, cap, &mut Tally::default())?;
-    let zielonka = answer(oracle::zielonka(game, false, cap))?;
-    let promotion = answer(oracle::priority_promotion(game, false, cap))?;
+    let zielonka = answer(oracle::zielonka(game, cap))?;
+    let promotion = answer(oracle::priority_promotion(game, cap))?;
     let mut fields = vec![game.n().to_string(), game.m().to_string()];
     fields.extend(game.owners.iter().map(u8::to_string));
     for table in [&game.priorities, &game.offsets, &game.targets] {

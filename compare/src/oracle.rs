@@ -58,16 +58,16 @@ pub fn parity_game(game: &Game) -> ParityGame {
     })
 }
 
-pub fn zielonka(game: &Game, strategy: bool, cap: Cap) -> Outcome<Solved> {
+pub fn zielonka(game: &Game, cap: Cap) -> Outcome<Solved> {
     capped(cap, || {
-        let (sets, chosen) = merc_vpg::solve_zielonka(&parity_game(game), strategy);
+        let (sets, chosen) = merc_vpg::solve_zielonka(&parity_game(game), true);
         solved(game, &sets, &chosen, COUNTS.get().calls)
     })
 }
 
-pub fn priority_promotion(game: &Game, strategy: bool, cap: Cap) -> Outcome<Solved> {
+pub fn priority_promotion(game: &Game, cap: Cap) -> Outcome<Solved> {
     capped(cap, || {
-        let (sets, chosen) = merc_vpg::solve_priority_promotion(&parity_game(game), strategy);
+        let (sets, chosen) = merc_vpg::solve_priority_promotion(&parity_game(game), true);
         solved(game, &sets, &chosen, COUNTS.get().rounds)
     })
 }
@@ -82,11 +82,14 @@ pub fn solitaire(game: &Game, cap: Cap) -> Outcome<Vec<bool>> {
 
 /// The raw words of Zielonka's two sets, bits at n and above included; these bits rest on the stand-in for bitvec.
 pub fn raw_words(game: &Game) -> [Vec<usize>; 2] {
-    let (sets, _) = merc_vpg::solve_zielonka(&parity_game(game), false);
+    let (sets, _) = merc_vpg::solve_zielonka(&parity_game(game), true);
     sets.map(|set| set.as_raw_slice().to_vec())
 }
 
-/// A game that is built already, for timing: solved without messages, counts or caps.
+/// The sets, and the strategies in them.
+pub type Won = ([Set; 2], Option<[Strategy; 2]>);
+
+/// A game that is built already, for timing: solved with a strategy, without messages, counts or caps.
 pub struct Prepared(ParityGame);
 
 impl Prepared {
@@ -94,12 +97,12 @@ impl Prepared {
         Prepared(parity_game(game))
     }
 
-    pub fn zielonka(&self) -> [Set; 2] {
-        quietly(|| merc_vpg::solve_zielonka(&self.0, false).0)
+    pub fn zielonka(&self) -> Won {
+        quietly(|| merc_vpg::solve_zielonka(&self.0, true))
     }
 
-    pub fn priority_promotion(&self) -> [Set; 2] {
-        quietly(|| merc_vpg::solve_priority_promotion(&self.0, false).0)
+    pub fn priority_promotion(&self) -> Won {
+        quietly(|| merc_vpg::solve_priority_promotion(&self.0, true))
     }
 }
 

@@ -56,16 +56,16 @@ pub fn check_tables(game: &Game) -> Answer {
     door!(reckonbough_check_tables(game))
 }
 
-pub fn zielonka(game: &Game, strategy: bool, budget: u64, lent: &mut Lent) -> Answer {
-    door!(reckonbough_zielonka(game, strategy as u8 => u8, budget => u64,
+pub fn zielonka(game: &Game, budget: u64, lent: &mut Lent) -> Answer {
+    door!(reckonbough_zielonka(game, budget => u64,
         lent.even.as_mut_ptr() => *mut u64, lent.even.len() => usize,
         lent.odd.as_mut_ptr() => *mut u64, lent.odd.len() => usize,
         lent.strategy.as_mut_ptr() => *mut u16, lent.strategy.len() => usize,
         lent.work.as_mut_ptr() => *mut u64, lent.work.len() => usize))
 }
 
-pub fn priority_promotion(game: &Game, strategy: bool, budget: u64, lent: &mut Lent) -> Answer {
-    door!(reckonbough_priority_promotion(game, strategy as u8 => u8, budget => u64,
+pub fn priority_promotion(game: &Game, budget: u64, lent: &mut Lent) -> Answer {
+    door!(reckonbough_priority_promotion(game, budget => u64,
         lent.even.as_mut_ptr() => *mut u64, lent.even.len() => usize,
         lent.odd.as_mut_ptr() => *mut u64, lent.odd.len() => usize,
         lent.strategy.as_mut_ptr() => *mut u16, lent.strategy.len() => usize,

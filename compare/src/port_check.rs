@@ -4,7 +4,7 @@ mod claims;
 mod refusals;
 
 use crate::compare::{same, Want};
-use crate::game::{won_by, words_of, Game, NONE};
+use crate::game::{won_by, words_of, Game};
 use crate::generate::Numbers;
 use crate::port::{self, Lent};
 use crate::reference::attractor::{attractor, entries_hold, looks};
@@ -35,7 +35,7 @@ pub fn compare(game: &Game, want: &Want) -> Result<u64, String> {
     Ok(claims.len() as u64)
 }
 
-type Door = fn(&Game, bool, u64, &mut Lent) -> Answer;
+type Door = fn(&Game, u64, &mut Lent) -> Answer;
 
 /// A solver with the budget it needs, with the largest one, and with one too little; the claim it makes. Where nobody counted
 /// what it needs it first gets what it can use up in good time; if that is too little there is no claim.
@@ -43,13 +43,13 @@ fn solver(name: &str, door: Door, game: &Game, winners: Option<&[u8]>, counted: 
     let mut claim = Lent::junk(game);
     let Some(needed) = counted else {
         let budget = 2_000_000_000 / (1 + game.n() + game.m()) as u64;
-        let got = door(game, true, budget, &mut claim);
+        let got = door(game, budget, &mut claim);
         return match got.number {
             13 => too_little(name, game, budget, got, &claim).map(|()| None),
             _ => solver(name, door, game, winners, Some(got.count)),
         };
     };
-    same(name, &Answer::yes(needed), &door(game, true, needed, &mut claim))?;
+    same(name, &Answer::yes(needed), &door(game, needed, &mut claim))?;
     if let Some(winners) = winners {
         same(&format!("{name}, Even's set"), &won_by(winners, 0), &claim.even)?;
         same(&format!("{name}, Odd's set"), &won_by(winners, 1), &claim.odd)?;
@@ -57,13 +57,12 @@ fn solver(name: &str, door: Door, game: &Game, winners: Option<&[u8]>, counted: 
     zeroed(name, game, &claim)?;
 
     let mut lent = Lent::junk(game);
-    same(name, &Answer::yes(needed), &door(game, false, u64::MAX, &mut lent))?;
-    let want = Lent { strategy: vec![NONE; game.n()], ..claim.clone() };
-    same(&format!("{name}, without a strategy"), &outputs(&want), &outputs(&lent))?;
+    same(name, &Answer::yes(needed), &door(game, u64::MAX, &mut lent))?;
+    same(&format!("{name}, the largest budget"), &outputs(&claim), &outputs(&lent))?;
     zeroed(name, game, &lent)?;
     if needed > 0 {
         let mut lent = Lent::junk(game);
-        let got = door(game, true, needed - 1, &mut lent);
+        let got = door(game, needed - 1, &mut lent);
         too_little(name, game, needed - 1, got, &lent)?;
     }
     Ok(Some(claim))

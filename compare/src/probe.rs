@@ -10,8 +10,8 @@ use crate::oracle::{self, Cap, Outcome};
 pub fn report() -> Vec<String> {
     let mut lines = vec![format!("debug assertions: {}", if cfg!(debug_assertions) { "on" } else { "off" })];
     for (name, game) in inputs() {
-        lines.push(format!("{name}: Zielonka {}", told(oracle::zielonka(&game, false, SHORT))));
-        lines.push(format!("{name}: promotion {}", told(oracle::priority_promotion(&game, false, SHORT))));
+        lines.push(format!("{name}: Zielonka {}", told(oracle::zielonka(&game, SHORT))));
+        lines.push(format!("{name}: promotion {}", told(oracle::priority_promotion(&game, SHORT))));
         lines.push(format!("{name}: solitaire {}", told(oracle::solitaire(&game, SHORT))));
     }
     if !cfg!(debug_assertions) {

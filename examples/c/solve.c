@@ -58,12 +58,12 @@ int main(void)
     if (work == NULL)
         return 1;
 
-    answered(reckonbough_zielonka(TABLES, 1, UINT64_MAX, even, S, odd, S, strategy, N, work, work_length, &place, &count));
+    answered(reckonbough_zielonka(TABLES, UINT64_MAX, even, S, odd, S, strategy, N, work, work_length, &place, &count));
     printf("zielonka: %" PRIu64 " calls\n", count);
     print_checked();
 
     answered(reckonbough_priority_promotion(
-        TABLES, 1, UINT64_MAX, even, S, odd, S, strategy, N, work, work_length, &place, &count));
+        TABLES, UINT64_MAX, even, S, odd, S, strategy, N, work, work_length, &place, &count));
     printf("priority promotion: %" PRIu64 " rounds\n", count);
     print_checked();
 

@@ -8,11 +8,11 @@ fn main() -> Result<(), Refusal> {
     // vertex 0 is Even's, with priority 2 and an edge to 1; vertex 1 is Odd's, with priority 0 and edges to 0 and 1
     let game = Game::new(&[(Player::Even, 2, &[1]), (Player::Odd, 0, &[0, 1])])?;
 
-    let solved = game.solve_zielonka(true, u64::MAX)?;
+    let solved = game.solve_zielonka(u64::MAX)?;
     println!("zielonka: {} calls", solved.count);
     print_checked(&game, &solved);
 
-    let solved = game.solve_priority_promotion(true, u64::MAX)?;
+    let solved = game.solve_priority_promotion(u64::MAX)?;
     println!("priority promotion: {} rounds", solved.count);
     print_checked(&game, &solved);
 

@@ -59,6 +59,8 @@ pub enum Refusal {
     BadIdentifier(usize),
     /// 32: the byte that goes beyond a limit.
     BeyondLimit(usize),
+    /// 25: no vertex has an entry, in the place of 22 and at the vertex that 22 would name.
+    NoStrategy(usize),
     /// A number that this crate does not know. The library that it is made for gives none.
     Unknown {
         /// The number.
@@ -92,6 +94,7 @@ impl Refusal {
             Refusal::BadText(byte) => (30, byte),
             Refusal::BadIdentifier(identifier) => (31, identifier),
             Refusal::BeyondLimit(byte) => (32, byte),
+            Refusal::NoStrategy(vertex) => (25, vertex),
             Refusal::Unknown { number, place } => (number, place),
         }
     }
@@ -123,6 +126,7 @@ impl Answer {
             30 => Refusal::BadText(place),
             31 => Refusal::BadIdentifier(place),
             32 => Refusal::BeyondLimit(place),
+            25 => Refusal::NoStrategy(place),
             number => Refusal::Unknown { number, place },
         })
     }
@@ -152,6 +156,7 @@ impl fmt::Display for Refusal {
             Refusal::BadText(_) => (Some("byte"), "no text of PGSolver's form goes on here"),
             Refusal::BadIdentifier(_) => (Some("identifier"), "the identifiers are not 0 to the highest, each once"),
             Refusal::BeyondLimit(_) => (Some("byte"), "the text goes beyond a limit"),
+            Refusal::NoStrategy(_) => (Some("vertex"), "an entry is needed, and the strategy has none at all"),
             Refusal::Unknown { .. } => (Some("place"), "a number that this crate does not know"),
         };
         let (number, place) = self.number_and_place();

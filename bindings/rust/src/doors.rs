@@ -50,7 +50,7 @@ extern "C" {
         priorities: *const u16, priorities_length: usize,
         offsets: *const u16, offsets_length: usize,
         targets: *const u16, targets_length: usize,
-        compute_strategy: u8, budget: u64,
+        budget: u64,
         even: *mut u64, even_length: usize,
         odd: *mut u64, odd_length: usize,
         strategy: *mut u16, strategy_length: usize,
@@ -62,7 +62,7 @@ extern "C" {
         priorities: *const u16, priorities_length: usize,
         offsets: *const u16, offsets_length: usize,
         targets: *const u16, targets_length: usize,
-        compute_strategy: u8, budget: u64,
+        budget: u64,
         even: *mut u64, even_length: usize,
         odd: *mut u64, odd_length: usize,
         strategy: *mut u16, strategy_length: usize,
@@ -164,7 +164,6 @@ pub fn attractor(
 /// Solves by Zielonka's recursion: 0, 1 to 10 or 13; the count is calls.
 pub fn zielonka(
     tables: Tables<'_>,
-    compute_strategy: bool,
     budget: u64,
     even: &mut [u64],
     odd: &mut [u64],
@@ -172,7 +171,7 @@ pub fn zielonka(
     work: &mut [u64],
 ) -> Answer {
     call! {
-        reckonbough_zielonka, tables, u8::from(compute_strategy), budget,
+        reckonbough_zielonka, tables, budget,
         even.as_mut_ptr(), even.len(), odd.as_mut_ptr(), odd.len(),
         strategy.as_mut_ptr(), strategy.len(), work.as_mut_ptr(), work.len()
     }
@@ -181,7 +180,6 @@ pub fn zielonka(
 /// Solves by priority promotion: 0, 1 to 10 or 13; the count is rounds.
 pub fn priority_promotion(
     tables: Tables<'_>,
-    compute_strategy: bool,
     budget: u64,
     even: &mut [u64],
     odd: &mut [u64],
@@ -189,7 +187,7 @@ pub fn priority_promotion(
     work: &mut [u64],
 ) -> Answer {
     call! {
-        reckonbough_priority_promotion, tables, u8::from(compute_strategy), budget,
+        reckonbough_priority_promotion, tables, budget,
         even.as_mut_ptr(), even.len(), odd.as_mut_ptr(), odd.len(),
         strategy.as_mut_ptr(), strategy.len(), work.as_mut_ptr(), work.len()
     }
@@ -200,7 +198,7 @@ pub fn solitaire(tables: Tables<'_>, set: &mut [u64], work: &mut [u64]) -> Answe
     call!(reckonbough_solitaire, tables, set.as_mut_ptr(), set.len(), work.as_mut_ptr(), work.len())
 }
 
-/// Checks a claim of winning sets and strategy: 0 for yes, 1 to 10 or 21 to 24; the count is 0.
+/// Checks a claim of winning sets and strategy: 0 for yes, 1 to 10 or 21 to 25; the count is 0.
 pub fn check(tables: Tables<'_>, even: &[u64], odd: &[u64], strategy: &[u16], work: &mut [u64]) -> Answer {
     call! {
         reckonbough_check, tables,

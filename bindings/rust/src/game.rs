@@ -55,7 +55,7 @@ pub struct Solved {
     pub even: Vec<bool>,
     /// Whether Odd wins, for each vertex.
     pub odd: Vec<bool>,
-    /// The chosen target where the vertex's owner wins it and a strategy was asked for.
+    /// The chosen target where the vertex's owner wins it.
     pub strategy: Vec<Option<usize>>,
     /// Calls of Zielonka's recursion or rounds of priority promotion.
     pub count: u64,
@@ -198,27 +198,27 @@ impl Game {
         &self.targets[usize::from(self.offsets[vertex])..usize::from(self.offsets[vertex + 1])]
     }
 
-    /// Solves by Zielonka's recursion, in at most `budget` calls. Without `compute_strategy` no entry is chosen.
+    /// Solves by Zielonka's recursion, in at most `budget` calls.
     ///
     /// Refuses by [`Refusal::OverBudget`] alone. With n vertices and d different priorities 2·(C(n,0)+C(n,1)+...+C(n,d))−1 calls
     /// are always enough; `u64::MAX` asks for an answer however long it takes. It nests at most n + 1 calls: on x86-64 2 MiB
     /// of stack are enough, the size that `std::thread` gives.
-    pub fn solve_zielonka(&self, compute_strategy: bool, budget: u64) -> Result<Solved, Refusal> {
-        self.solve(doors::zielonka, compute_strategy, budget)
+    pub fn solve_zielonka(&self, budget: u64) -> Result<Solved, Refusal> {
+        self.solve(doors::zielonka, budget)
     }
 
-    /// Solves by priority promotion, in at most `budget` rounds. Without `compute_strategy` no entry is chosen.
+    /// Solves by priority promotion, in at most `budget` rounds.
     ///
     /// Refuses by [`Refusal::OverBudget`] alone. With n vertices and d different priorities n·(n+2)^d rounds are always enough;
     /// `u64::MAX` asks for an answer however long it takes.
-    pub fn solve_priority_promotion(&self, compute_strategy: bool, budget: u64) -> Result<Solved, Refusal> {
-        self.solve(doors::priority_promotion, compute_strategy, budget)
+    pub fn solve_priority_promotion(&self, budget: u64) -> Result<Solved, Refusal> {
+        self.solve(doors::priority_promotion, budget)
     }
 
-    fn solve(&self, solver: Solver, compute_strategy: bool, budget: u64) -> Result<Solved, Refusal> {
+    fn solve(&self, solver: Solver, budget: u64) -> Result<Solved, Refusal> {
         let (mut even, mut odd) = (self.set(), self.set());
         let (mut strategy, mut work) = (self.strategy(), self.work());
-        let answer = solver(self.tables(), compute_strategy, budget, &mut even, &mut odd, &mut strategy, &mut work);
+        let answer = solver(self.tables(), budget, &mut even, &mut odd, &mut strategy, &mut work);
         let count = answer.result()?;
         Ok(Solved { even: self.members(&even), odd: self.members(&odd), strategy: choices(&strategy), count })
     }
@@ -248,9 +248,9 @@ impl Game {
     /// Whether Even wins from `even` and Odd from `odd` by the strategy: yes, or the first thing that is wrong.
     ///
     /// Refuses by [`Refusal::BadSize`] where one of them has not one entry a vertex. What is wrong is one of
-    /// [`NotOneWinner`](Refusal::NotOneWinner), [`Entry`](Refusal::BadEntry), [`Leaves`](Refusal::LeavesSet) and
-    /// [`LostCycle`](Refusal::LosingCycle). A run without `compute_strategy` leaves nothing to check by, and gets `Entry` where
-    /// an owner wins.
+    /// [`NotOneWinner`](Refusal::NotOneWinner), [`BadEntry`](Refusal::BadEntry), [`LeavesSet`](Refusal::LeavesSet) and
+    /// [`LosingCycle`](Refusal::LosingCycle). A result that was kept without its strategy leaves nothing to check by: where no
+    /// vertex has a choice, [`NoStrategy`](Refusal::NoStrategy) stands in the place of `BadEntry`.
     pub fn check(&self, even: &[bool], odd: &[bool], strategy: &[Option<usize>]) -> Result<(), Refusal> {
         let entries: Vec<u16> = strategy.iter().map(|choice| entry(*choice)).collect();
         let (even, odd) = (self.words(even)?, self.words(odd)?);
@@ -305,7 +305,7 @@ impl Game {
     }
 }
 
-type Solver = fn(Tables<'_>, bool, u64, &mut [u64], &mut [u64], &mut [u16], &mut [u64]) -> Answer;
+type Solver = fn(Tables<'_>, u64, &mut [u64], &mut [u64], &mut [u16], &mut [u64]) -> Answer;
 
 fn choices(strategy: &[u16]) -> Vec<Option<usize>> {
     strategy.iter().map(|entry| if *entry == NONE { None } else { Some(usize::from(*entry)) }).collect()

@@ -8,7 +8,7 @@
 //! use reckonbough::{Game, Player::*};
 //!
 //! let game = Game::new(&[(Even, 2, &[1]), (Odd, 0, &[0, 1])])?;
-//! let solved = game.solve_zielonka(true, u64::MAX)?;
+//! let solved = game.solve_zielonka(u64::MAX)?;
 //! assert_eq!(solved.even, [true, true]);
 //! assert_eq!(solved.strategy, [Some(1), None]);
 //! game.check(&solved.even, &solved.odd, &solved.strategy)?;

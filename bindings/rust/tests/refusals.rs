@@ -65,7 +65,7 @@ fn wrong_lengths_and_stray_members() {
 
 #[test]
 fn every_number_goes_both_ways() {
-    for number in (1..=13).chain(21..=24) {
+    for number in (1..=13).chain(21..=25) {
         let refusal = Answer { number, place: 0, count: 0 }.result().unwrap_err();
         assert_eq!(refusal.number_and_place(), (number, 0));
     }
@@ -92,6 +92,7 @@ fn a_refusal_says_its_place_where_it_has_one() {
         (22, "vertex"),
         (23, "vertex"),
         (24, "vertex"),
+        (25, "vertex"),
         (99, "place"),
     ] {
         assert!(said(number).starts_with(&format!("{} at {} 3: ", number, what)), "{}", said(number));
@@ -101,10 +102,18 @@ fn a_refusal_says_its_place_where_it_has_one() {
 }
 
 #[test]
-fn a_run_without_a_strategy_is_refused_by_the_checker() {
+fn a_result_without_a_strategy_gets_25_in_the_place_of_22() {
     let game = Game::new(&[(Even, 1, &[0]), (Even, 2, &[1])]).unwrap();
-    let solved = game.solve_zielonka(false, u64::MAX).unwrap();
-    assert_eq!(game.check(&solved.even, &solved.odd, &solved.strategy), Err(Refusal::BadEntry(1)));
+    let solved = game.solve_zielonka(u64::MAX).unwrap();
+    assert_eq!(game.check(&solved.even, &solved.odd, &[None, None]), Err(Refusal::NoStrategy(1)));
+    // an entry at a vertex that its owner loses, and none where one is needed
+    assert_eq!(game.check(&solved.even, &solved.odd, &[Some(0), None]), Err(Refusal::BadEntry(0)));
+    // 21 comes first
+    assert_eq!(game.check(&solved.even, &[false, false], &[None, None]), Err(Refusal::NotOneWinner(0)));
+    // where no owner wins its vertex nothing is missing
+    let lost = Game::new(&[(Even, 1, &[0])]).unwrap();
+    assert_eq!(lost.check(&[false], &[true], &[None]), Ok(()));
+    assert_eq!(Game::new(&[]).unwrap().check(&[], &[], &[]), Ok(()));
 }
 
 /// C6, with junk in everything that is lent: two words of work area more than needed.
@@ -135,11 +144,11 @@ impl Lent {
     }
 
     fn solve(&mut self, solver: Solver, budget: u64, words: usize) -> Answer {
-        solver(C6, true, budget, &mut self.even, &mut self.odd, &mut self.strategy, &mut self.work[..words])
+        solver(C6, budget, &mut self.even, &mut self.odd, &mut self.strategy, &mut self.work[..words])
     }
 }
 
-type Solver = fn(Tables<'_>, bool, u64, &mut [u64], &mut [u64], &mut [u16], &mut [u64]) -> Answer;
+type Solver = fn(Tables<'_>, u64, &mut [u64], &mut [u64], &mut [u16], &mut [u64]) -> Answer;
 
 #[test]
 fn sizes_are_those_of_document_01() {
@@ -178,9 +187,9 @@ fn budget_3_on_c6_gets_13_and_4_answers() {
 fn a_set_or_a_table_of_another_length_gets_9() {
     let nine = Answer { number: 9, place: 0, count: 0 };
     for solver in [doors::zielonka as Solver, doors::priority_promotion] {
-        assert_eq!(solver(C6, true, 9, &mut [0; 2], &mut [0], &mut [0; 2], &mut [0; W]), nine);
-        assert_eq!(solver(C6, true, 9, &mut [0], &mut [], &mut [0; 2], &mut [0; W]), nine);
-        assert_eq!(solver(C6, true, 9, &mut [0], &mut [0], &mut [0; 3], &mut [0; W - 1]), nine);
+        assert_eq!(solver(C6, 9, &mut [0; 2], &mut [0], &mut [0; 2], &mut [0; W]), nine);
+        assert_eq!(solver(C6, 9, &mut [0], &mut [], &mut [0; 2], &mut [0; W]), nine);
+        assert_eq!(solver(C6, 9, &mut [0], &mut [0], &mut [0; 3], &mut [0; W - 1]), nine);
     }
     assert_eq!(doors::compact(C6, &mut [0; 3]), nine);
     assert_eq!(doors::solitaire(C6, &mut [], &mut [0; W]), nine);

@@ -36,15 +36,12 @@ fn expect(game: &Game, solved: Solved, winners: &[Player], count: u64) {
 
 /// Both solvers, with a budget that is just enough and with one that is not.
 fn solve(game: &Game, winners: &[Player], calls: u64, rounds: u64) {
-    expect(game, game.solve_zielonka(true, calls).unwrap(), winners, calls);
-    expect(game, game.solve_priority_promotion(true, rounds).unwrap(), winners, rounds);
-    assert_eq!(game.solve_zielonka(true, calls - 1), Err(Refusal::OverBudget));
+    expect(game, game.solve_zielonka(calls).unwrap(), winners, calls);
+    expect(game, game.solve_priority_promotion(rounds).unwrap(), winners, rounds);
+    assert_eq!(game.solve_zielonka(calls - 1), Err(Refusal::OverBudget));
     if rounds > 0 {
-        assert_eq!(game.solve_priority_promotion(true, rounds - 1), Err(Refusal::OverBudget));
+        assert_eq!(game.solve_priority_promotion(rounds - 1), Err(Refusal::OverBudget));
     }
-    let without = game.solve_zielonka(false, ANY).unwrap();
-    assert_eq!(without.count, calls);
-    assert_eq!(without.strategy, vec![None; game.vertices()]);
 }
 
 #[test]
@@ -62,7 +59,7 @@ fn c2_is_won_by_its_owner() {
 fn c3_is_lost_by_its_owner() {
     let c3 = game(&[(Even, 1, &[0])]);
     solve(&c3, &[Odd], 2, 1);
-    assert_eq!(c3.solve_zielonka(true, ANY).unwrap().strategy, [None]);
+    assert_eq!(c3.solve_zielonka(ANY).unwrap().strategy, [None]);
 }
 
 #[test]
@@ -81,13 +78,13 @@ fn c5_counts_parallel_edges() {
 #[test]
 fn c6_needs_four_calls() {
     solve(&c6(), &[Odd, Odd], 4, 2);
-    assert_eq!(c6().solve_zielonka(true, 3), Err(Refusal::OverBudget));
+    assert_eq!(c6().solve_zielonka(3), Err(Refusal::OverBudget));
 }
 
 #[test]
 fn c7_promotes() {
     solve(&c7(), &[Even, Even], 3, 3);
-    assert_eq!(c7().solve_priority_promotion(true, ANY).unwrap().strategy, [Some(1), None]);
+    assert_eq!(c7().solve_priority_promotion(ANY).unwrap().strategy, [Some(1), None]);
 }
 
 #[test]
@@ -100,7 +97,7 @@ fn c8_is_a_solitaire_game() {
 fn c9_has_a_lone_vertex_that_is_no_cycle() {
     let c9 = game(&[(Even, 2, &[1]), (Even, 1, &[1])]);
     assert_eq!(c9.solve_solitaire_game(), Ok(vec![false, false]));
-    assert_eq!(c9.solve_zielonka(true, ANY).unwrap().count, 4);
+    assert_eq!(c9.solve_zielonka(ANY).unwrap().count, 4);
 }
 
 #[test]
@@ -124,7 +121,7 @@ fn compaction_keeps_parity_and_winners() {
     let wide = game(&[(Even, 3, &[0]), (Odd, 7, &[0, 1]), (Even, 4, &[2, 1])]);
     assert_eq!(wide.compact(), Ok(vec![1, 3, 2]));
     let small = game(&[(Even, 1, &[0]), (Odd, 3, &[0, 1]), (Even, 2, &[2, 1])]);
-    let (wide, small) = (wide.solve_zielonka(false, ANY).unwrap(), small.solve_zielonka(false, ANY).unwrap());
+    let (wide, small) = (wide.solve_zielonka(ANY).unwrap(), small.solve_zielonka(ANY).unwrap());
     assert_eq!(wide.even, small.even);
 }
 
@@ -137,7 +134,7 @@ fn compaction_gives_equal_parity_one_number() {
     for (wide, small) in [(two(2, 6), two(0, 0)), (three(3, 7, 8), three(1, 1, 2))] {
         assert_eq!(small.compact(), wide.compact());
         for solve in [Game::solve_zielonka, Game::solve_priority_promotion] {
-            let (wide, small) = (solve(&wide, false, ANY).unwrap(), solve(&small, false, ANY).unwrap());
+            let (wide, small) = (solve(&wide, ANY).unwrap(), solve(&small, ANY).unwrap());
             assert_eq!((wide.even, wide.odd), (small.even, small.odd));
         }
     }
@@ -152,7 +149,7 @@ fn sets_of_two_words() {
     let loops: Vec<(Player, u16, &[u16])> =
         (0..100).map(|v| (Odd, if thirds[v] { 2 } else { 1 }, &itself[v..v + 1])).collect();
     let loops = game(&loops);
-    for solved in [loops.solve_zielonka(true, ANY).unwrap(), loops.solve_priority_promotion(true, ANY).unwrap()] {
+    for solved in [loops.solve_zielonka(ANY).unwrap(), loops.solve_priority_promotion(ANY).unwrap()] {
         assert_eq!((&solved.even, &solved.odd), (&thirds, &others));
         assert_eq!(loops.check(&solved.even, &solved.odd, &solved.strategy), Ok(()));
     }
@@ -184,7 +181,7 @@ fn the_largest_chain_in_two_threads_of_2_mib() {
     let solve = || {
         let chain = chain.clone();
         let thread = std::thread::Builder::new().stack_size(2 << 20);
-        thread.spawn(move || chain.solve_zielonka(true, ANY).unwrap()).unwrap()
+        thread.spawn(move || chain.solve_zielonka(ANY).unwrap()).unwrap()
     };
     let (one, other) = (solve(), solve());
     let (one, other) = (one.join().unwrap(), other.join().unwrap());

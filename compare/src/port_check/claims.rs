@@ -1,4 +1,4 @@
-//! The checker's door: right claims, and claims damaged in many ways.
+//! The checker's door: right claims, the same without entries, and claims damaged in many ways.
 
 use super::zeroed;
 use crate::compare::same;
@@ -7,20 +7,28 @@ use crate::generate::Numbers;
 use crate::port::{self, Lent};
 use crate::reference::{checker, Answer};
 
-/// A solver's claim gets a yes from the checker of the rules and from the port's own; damaged copies get the same from both.
+/// A solver's claim gets a yes from the checker of the rules and from the port's own; a copy without entries and damaged copies,
+/// with entries and without, get the same from both.
 pub fn compare(game: &Game, solved: &Lent, numbers: &mut Numbers) -> Result<(), String> {
     let right = Lent { work: Lent::junk(game).work, ..solved.clone() };
     let by_the_rules = checker::check(game, &right.even, &right.odd, &right.strategy);
     same(&format!("port: a solver's strategy {:?}", right.strategy), &Answer::yes(0), &by_the_rules)?;
     claim(game, &right)?;
+    claim(game, &without_entries(&right))?;
     for _ in 0..8 {
         let mut damaged = right.clone();
         for _ in 0..numbers.between(1, 2) {
             damage(game, &mut damaged, numbers);
         }
         claim(game, &damaged)?;
+        claim(game, &without_entries(&damaged))?;
     }
     Ok(())
+}
+
+/// The same sets, with none in every entry.
+fn without_entries(claim: &Lent) -> Lent {
+    Lent { strategy: vec![NONE; claim.strategy.len()], ..claim.clone() }
 }
 
 fn damage(game: &Game, claim: &mut Lent, numbers: &mut Numbers) {

@@ -72,11 +72,11 @@ fn wrong_sizes(game: &Game) -> Result<(), String> {
 type Call = fn(&Game, &mut Lent) -> Answer;
 
 fn zielonka(game: &Game, lent: &mut Lent) -> Answer {
-    port::zielonka(game, true, u64::MAX, lent)
+    port::zielonka(game, u64::MAX, lent)
 }
 
 fn promotion(game: &Game, lent: &mut Lent) -> Answer {
-    port::priority_promotion(game, true, u64::MAX, lent)
+    port::priority_promotion(game, u64::MAX, lent)
 }
 
 fn attractor(game: &Game, lent: &mut Lent) -> Answer {

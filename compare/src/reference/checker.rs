@@ -1,4 +1,4 @@
-//! The checker: yes, or kinds 21 to 24.
+//! The checker: yes, or kinds 21 to 24, with 25 in the place of 22 where every entry is none.
 
 use super::solitaire::reached;
 use super::tables::set_words;
@@ -18,7 +18,7 @@ pub fn check(game: &Game, even: &[u64], odd: &[u64], strategy: &[u16]) -> Answer
     let own = |v: usize| game.owners[v] == winners[v];
     let chosen = |v: usize| if own(v) { game.edges(v).contains(&strategy[v]) } else { strategy[v] == NONE };
     if let Some(v) = (0..n).find(|v| !chosen(*v)) {
-        return Answer::no(22, v);
+        return Answer::no(if strategy.iter().all(|entry| *entry == NONE) { 25 } else { 22 }, v);
     }
 
     let kept = kept_edges(game, &winners, strategy);

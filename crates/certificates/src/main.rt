@@ -1,5 +1,5 @@
-// The checker on the worked games: C10 and C11, and right results of C6 and C7. Each line is a name, then the number
-// and place given back.
+// The checker on the worked games: C10 and C11, results without a strategy, and right results of C6 and C7. Each line
+// is a name, then the number and place given back.
 use libc::STDOUT_FILENO;
 
 // C6: E2→1; O1→1.
@@ -63,6 +63,26 @@ fn main() {
     on_c6(b"C10, one each: ", &[1], &[2], &[1, 1]);
     on_c7(b"C11, 0 to 0: ", &[3], &[0], &[0, 65535]);
     on_c5(b"C11, vertex 0 in no set: ", &[2], &[0], &[65535, 1]);
+    on_c5(b"C5, no entries: ", &[3], &[0], &[65535, 65535]);
+    on_c5(b"C5, one entry: ", &[3], &[0], &[1, 65535]);
+    on_c5(
+        b"C5, no entries, vertex 0 in no set: ",
+        &[2],
+        &[0],
+        &[65535, 65535],
+    );
+    on_c6(
+        b"C6, no entries, Even claims both: ",
+        &[3],
+        &[0],
+        &[65535, 65535],
+    );
+    on_c6(
+        b"C6, no entries, sets turned round: ",
+        &[2],
+        &[1],
+        &[65535, 65535],
+    );
     on_c6(b"C6 as it is: ", &[0], &[3], &[65535, 1]);
     on_c7(b"C7 as it is: ", &[3], &[0], &[1, 65535]);
 }

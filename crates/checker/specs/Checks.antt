@@ -11,13 +11,13 @@ use lib.Dec.{eqb}
 use lib.ListN.{length, getD, drop, replicate, length-append, length-drop, length-replicate, getD-replicate, List·getD-append}
 use lib.Seq.{ext-getD, getD-drop, getD-append-add}
 use Rattle.rules.specs.Counting.{Set, some}
-use Rattle.rules.specs.Game.{Player, Even, Odd, playerOf, parity, same, everywhere}
+use Rattle.rules.specs.Game.{Player, Even, Odd, Game, playerOf, parity, same, everywhere}
 use Rattle.rules.specs.Outcome.{Outcome, Verdict, none, refused, outcome, answered, givenAt, _then_}
 use Rattle.rules.specs.Tables.{Tables, vertices, edgesIn, words, workWords, gameOf, Accepted}
 use Rattle.rules.specs.Words.{setOf, entry}
 use Rattle.rules.specs.Zielonka.{highestIn}
 use Rattle.rules.specs.Solver.{cleared}
-use Rattle.rules.specs.Checker.{winnerOf, check21, check22, check23, check24, certificateChecks, leftBy, Checks}
+use Rattle.rules.specs.Checker.{winnerOf, nothingChosen, check21, check22, check23, check24, certificateChecks, leftBy, Checks}
 use Rattle.theory.specs.Basics.{lt-or-ge, same-true}
 use Rattle.theory.specs.Checker.{after22}
 use Rattle.theory.specs.Chosen.{chosenPart, check24-chosen, givenAt-cong}
@@ -29,7 +29,7 @@ use Rattle.parity_game.specs.Laws.{Numbered, numbered-givenAt}
 use Rattle.predecessors.specs.Whole.{accepted-edges}
 use Rattle.solver.specs.Checks.{checksBy, checks-passed}
 use Rattle.depth_first.specs.Area.{behind, Cleared, marked}
-use Rattle.checker.specs.Sides.{Sets, Given, Sided, ownBy, sideOf, wrongEntry, leavesSet, entry-is}
+use Rattle.checker.specs.Sides.{Sets, Given, Sided, ownBy, sideOf, unchosen, entryNumber, wrongEntry, leavesSet, entry-is}
 use Rattle.checker.specs.Cycles.{losingAt, Scannable, MarksReady, CyclesMarked}
 
 pub record CyclesReady (t : Tables) (even strategy work : List ℕ) : Type 0 where
@@ -187,6 +187,15 @@ pub numbered21 : (n : ℕ) (even odd : List ℕ) → Numbered (check21 n even od
 unfolding check21
 numbered21 n even odd = numbered-givenAt 21 _ _ (omega arith)
 
+pub numbered22 : (g : Game) (even strategy : List ℕ) → Numbered (check22 g even strategy)
+unfolding check22
+numbered22 g even strategy =
+    numbered-givenAt (cond (nothingChosen g strategy) 25 22) _ _ (either (nothingChosen g strategy))
+  where
+    either : (b : Bool) → 0 < cond b 25 22
+    either true = omega arith
+    either false = omega arith
+
 words-cover : (n : ℕ) → n ≤ 64 * words n
 unfolding words
 words-cover n = omega arith
@@ -214,11 +223,12 @@ module _ {t : Tables} {even odd strategy before : List ℕ} (given : Certifiable
   entries-ready =
       record { edges = accepted-edges t (given .accepted); strategy-long = given .strategy-long; even-long = covers }
 
-  -- 22 and 23 as the code checks them
+  -- 22, with 25 in its place, and 23 as the code checks them
   pub check22-is :
-      givenAt 22 vs (wrongEntry (t .owners) (t .offsets) (t .targets) even strategy) ≡ check22 (gameOf t) even strategy
-  unfolding check22 wrongEntry ownBy gameOf
-  check22-is = refl
+      givenAt (entryNumber strategy) vs (wrongEntry (t .owners) (t .offsets) (t .targets) even strategy) ≡
+      check22 (gameOf t) even strategy
+  unfolding check22 wrongEntry ownBy unchosen gameOf
+  check22-is = rw (given .strategy-long)
 
   pub check23-is :
       givenAt 23 vs (leavesSet (t .owners) (t .offsets) (t .targets) even strategy) ≡ check23 (gameOf t) even strategy
@@ -256,7 +266,7 @@ module _ {t : Tables} {even odd strategy before : List ℕ} (given : Certifiable
   unfolding certificateChecks gameOf
   from21 e = e
 
-  -- 21, 22 or 23: the work area was not touched
+  -- 21, 22 or 25, or 23: the work area was not touched
   pub certify-stops : {o : Outcome} → o ≡ outcome in-order (answered 0) → Certifies t even odd strategy before before o
   certify-stops e = record { gives = from21 e; long = refl; beyond = λ i l. refl }
 

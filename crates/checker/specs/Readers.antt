@@ -1,29 +1,33 @@
--- What a reader may conclude: yes is right, right answers get yes, and any two results that meet the promise are the same.
+-- What a reader may conclude: yes is right, right answers get yes, 25 is given exactly where 22 would be and every entry is none, and any
+-- two results that meet the promise are the same.
 use mathlib.Core.Bool.{true}
 use mathlib.Core.List.{List}
 use mathlib.Core.Logic.{_⊎_}
-use mathlib.Core.Path.{_≡_, sym, ap, _∙_}
+use mathlib.Core.Path.{_≡_, refl, sym, ap, ap₂, _∙_}
 use Prim.Native.Nat.{ℕ, _<_}
 use native.Mathlib.Omega.{arith}
+use borrow.Author.Tests.{eqb-false}
 use lib.ListN.{length}
 use Rattle.rules.specs.Game.{Player, Even, Odd, Game}
-use Rattle.rules.specs.Outcome.{Outcome, Verdict, none, outcome, answered, _then_}
+use Rattle.rules.specs.Outcome.{Outcome, Verdict, none, refused, outcome, answered, _then_}
 use Rattle.rules.specs.Tables.{Tables, gameOf}
 use Rattle.rules.specs.Checker.{check21, check22, check23, check24, certificateChecks, Checks}
 use Rattle.rules.specs.Counting.{Set}
 use Rattle.rules.specs.Winning.{WinningSets, WinningEntries}
 use Rattle.rules.specs.Words.{Holds}
 use Rattle.theory.specs.Checker.{Certified, accepted-certificate-yes, winning-gets-yes}
+use Rattle.theory.specs.NothingChosen.{Unchosen, no-strategy-tells, no-strategy-given}
 use Rattle.theory.specs.Tables.{accepted-total}
+use Rattle.parity_game.specs.Said.{refusal}
 use Rattle.parity_game.specs.Laws.{Numbered, numbered-givenAt, numbered-then, then-none, zero-none, outcome-pass}
 use Rattle.solver.specs.Checks.{checksBy, numbered-by, checks-passed}
-use Rattle.checker.specs.Checks.{numbered21}
+use Rattle.checker.specs.Checks.{numbered21, numbered22}
 
 numbered-certificate : (g : Game) (even odd strategy : List ℕ) → Numbered (certificateChecks g even odd strategy)
-unfolding certificateChecks check22 check23 check24
+unfolding certificateChecks check23 check24
 numbered-certificate g even odd strategy =
     numbered-then (check21 (g .size) even odd) _ (numbered21 _ _ _)
-    (numbered-then (check22 g even strategy) _ (numbered-givenAt 22 _ _ (omega arith))
+    (numbered-then (check22 g even strategy) _ (numbered22 _ _ _)
     (numbered-then (check23 g even strategy) (check24 g even strategy) (numbered-givenAt 23 _ _ (omega arith)) (numbered-givenAt 24 _ _ (omega arith))))
 
 module _ (t : Tables) (even odd strategy before after : List ℕ) (o : Outcome) (checks : Checks t even odd strategy before after o) where
@@ -63,6 +67,23 @@ module _ (t : Tables) (even odd strategy before after : List ℕ) (o : Outcome) 
       let p = checks-passed t (length even) (length odd) (length strategy) (length before) r in
       accepted-gets-yes r
       (winning-gets-yes (gameOf t) (accepted-total t (p .accepted)) won sets cover even odd strategy even-held odd-held entries)
+
+  -- **25 is right**: 22 would be given at its place, and every entry is none,
+  pub no-strategy-is-right : R ≡ none → o .number ≡ 25 → Unchosen (gameOf t) even odd strategy (o .place)
+  no-strategy-is-right r e =
+      let gives = checks .gives ∙ outcome-pass R (certificateChecks (gameOf t) even odd strategy) (answered 0) r in
+      no-strategy-tells (gameOf t) even odd strategy (refused-at (certificateChecks (gameOf t) even odd strategy) o gives e)
+    where
+      refused-at : (v : Verdict) (q : Outcome) → q ≡ outcome v (answered 0) → q .number ≡ 25 → v ≡ refused 25 (q .place)
+      refused-at none q is e = absurd (eqb-false 0 25 refl (sym (ap (λ (x : Outcome). x .number) is) ∙ e))
+      refused-at (refused k p) q is e =
+          ap₂ refused (sym (ap (λ (x : Outcome). x .number) is) ∙ e) (sym (ap (λ (x : Outcome). x .place) is))
+
+  -- **and there it is given.**
+  pub no-strategy-gets-25 : R ≡ none → {v : ℕ} → Unchosen (gameOf t) even odd strategy v → o ≡ refusal 25 v
+  no-strategy-gets-25 r u =
+      checks .gives ∙ outcome-pass R (certificateChecks (gameOf t) even odd strategy) (answered 0) r ∙
+      ap (λ (v : Verdict). outcome v (answered 0)) (no-strategy-given (gameOf t) even odd strategy u)
 
 -- **Any two results are the same.**
 pub one-result :

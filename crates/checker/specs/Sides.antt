@@ -1,4 +1,4 @@
--- The kinds 21 to 23: the tests as the code makes them, and that a search over them gives the rule's verdicts.
+-- The kinds 21 to 23, and 25 in the place of 22: the tests as the code makes them, and that a search over them gives the rule's verdicts.
 use mathlib.Core.Bool.{Bool, true, false, _||_, not, cond}
 use mathlib.Core.List.{List, List·Memᴰ}
 use mathlib.Core.Logic.{_⊎_, ⊎-elim}
@@ -6,16 +6,17 @@ use mathlib.Core.Path.{_≡_, refl, sym, ap, _∙_}
 use Prim.Native.Nat.{ℕ, zero, suc, _+_, _-_, _*_, _≤_, _<_}
 use native.Mathlib.Numerals.{add-one}
 use native.Mathlib.Omega.{arith}
-use borrow.Author.Tests.{eq-eqb, ne-eqb, lt-ltb, le-ltb}
+use borrow.Author.Tests.{eqb-true, eq-eqb, ne-eqb, lt-ltb, le-ltb}
 use lib.Dec.{eqb, ltb}
 use lib.ListN.{length, getD}
-use Rattle.rules.specs.Counting.{Set, someOf, everyOf}
+use Rattle.rules.specs.Counting.{Set, every, someOf, everyOf}
 use Rattle.rules.specs.Game.{Even, Odd, playerOf, same}
 use Rattle.rules.specs.Outcome.{outcome, answered}
 use Rattle.rules.specs.Tables.{Tables, words, gameOf, targetsOf}
 use Rattle.rules.specs.Words.{setOf, entry, noEntry}
 use Rattle.rules.specs.Checker.{check21, winnerOf, sameSide}
-use Rattle.theory.specs.Basics.{clash, not-true-is-false, below-suc, someOf-intro, false-someOf, everyOf-intro, everyOf-elim}
+use Rattle.theory.specs.Basics.{clash, not-true-is-false, below-suc, every-intro, every-elim}
+use Rattle.theory.specs.Basics.{someOf-intro, false-someOf, everyOf-intro, everyOf-elim}
 use Rattle.theory.specs.Tables.{edge-place, place-edge}
 use Rattle.parity_game.specs.Said.{refusal}
 use Rattle.parity_game.specs.Search.{FailsBelow, outcome-found, outcome-none}
@@ -93,6 +94,36 @@ wrongEntry owners offsets targets even strategy v =
     cond (ownBy owners even v)
     (not (someOf (targetsOf offsets targets v) (eqb (entry strategy v))))
     (not (eqb (entry strategy v) noEntry))
+
+-- every entry is none, and the number that a wrong entry then gets, 25 in the place of 22
+unfoldable pub unchosen : List ℕ → Bool
+unchosen strategy = every (length strategy) (λ v. eqb (entry strategy v) noEntry)
+
+abbrev pub entryNumber : List ℕ → ℕ
+entryNumber strategy = cond (unchosen strategy) 25 22
+
+pub chosen-somewhere :
+    (strategy : List ℕ) (u : ℕ) → u < length strategy → (getD strategy u 0 ≡ 65535 → ⊥) → false ≡ unchosen strategy
+unfolding unchosen
+chosen-somewhere strategy u l d =
+    sym
+    (not-true-is-false (unchosen strategy)
+    (λ e.
+    d
+    (getD-within strategy u 0 noEntry l ∙
+    eqb-true (entry strategy u) noEntry (every-elim (length strategy) (λ v. eqb (entry strategy v) noEntry) e u l))))
+
+pub chosen-nowhere :
+    (strategy : List ℕ) → ((u : ℕ) → u < length strategy → getD strategy u 0 ≡ 65535) → true ≡ unchosen strategy
+unfolding unchosen
+chosen-nowhere strategy h =
+    sym
+    (every-intro (length strategy) (λ v. eqb (entry strategy v) noEntry)
+    (λ v l. eq-eqb (entry strategy v) noEntry (sym (getD-within strategy v 0 noEntry l) ∙ h v l)))
+
+-- the number by what was told of the entries
+pub number-is : (strategy : List ℕ) {told : Bool} → told ≡ unchosen strategy → (b : Bool) → told ≡ b → cond b 25 22 ≡ entryNumber strategy
+number-is strategy e b is = ap (λ (x : Bool). cond x 25 22) (sym is ∙ e)
 
 unfoldable pub sideOf : List ℕ → ℕ → ℕ → Bool
 sideOf even v w = sameSide even v w

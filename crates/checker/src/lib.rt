@@ -1,5 +1,5 @@
 // The certificate checker: two sets and a strategy, checked without trust in any solver. Yes, or the first of 21 to
-// 24 that applies.
+// 24 that applies, with 25 in the place of 22 where every entry is none.
 mod cycles;
 mod sides;
 
@@ -9,7 +9,7 @@ ghost use Rattle.rules.specs.Checker.{Checks};
 ghost use Rattle.checker.specs.Checks.{Certifiable, Certifies};
 ghost use Rattle.rules.specs.Tables.{tablesOf};
 
-// The kinds 21 to 24 in order.
+// The kinds 21, 22 or 25, 23 and 24, in this order.
 fn certify(
     owners: &[u8],
     priorities: &[u16],
@@ -27,17 +27,17 @@ fn certify(
         (now (targets .entry))) (now (even .entry)) (now (odd .entry))
         (now (strategy .entry)) (now (work .entry)) (now (work .exit)) (said r) ⌝ }
 {
-    let r = sides::check_partition(owners.len(), even, odd);
-    if r.number() != 0 {
-        return r;
+    let split = sides::check_partition(owners.len(), even, odd);
+    if split.number() != 0 {
+        return split;
     }
-    let r = sides::check_entries(owners, offsets, targets, even, strategy);
-    if r.number() != 0 {
-        return r;
+    let entries = sides::check_entries(owners, offsets, targets, even, strategy);
+    if entries.number() != 0 {
+        return entries;
     }
-    let r = sides::check_sides(owners, offsets, targets, even, strategy);
-    if r.number() != 0 {
-        return r;
+    let stays = sides::check_sides(owners, offsets, targets, even, strategy);
+    if stays.number() != 0 {
+        return stays;
     }
     cycles::check_cycles(owners, priorities, offsets, targets, even, strategy, work)
 }

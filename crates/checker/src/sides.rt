@@ -1,8 +1,9 @@
 // The kinds 21 to 23: the sets split the vertices, entries are edges of winners' own vertices, and edges stay on
-// their side.
+// their side. 25 stands in the place of 22 where every entry is none.
 use parity_game::Answer;
 use parity_game::BAD_ENTRY;
 use parity_game::LEAVES_SET;
+use parity_game::NO_STRATEGY;
 use parity_game::NOT_ONE_WINNER;
 use parity_game::VertexIndex;
 ghost use mathlib.Core.Path.{_≡_};
@@ -11,8 +12,9 @@ ghost use Prim.Native.Nat.{_*_, _<_};
 ghost use lib.ListN.{length};
 ghost use Rattle.rules.specs.Outcome.{outcome, answered, givenAt};
 ghost use Rattle.rules.specs.Checker.{check21};
-ghost use Rattle.parity_game.specs.Said.{said};
-ghost use Rattle.checker.specs.Sides.{strayAt, Sets, ownBy, Given, wrongEntry, sideOf, Sided, leavesSet};
+ghost use Rattle.parity_game.specs.Said.{said, refusal};
+ghost use Rattle.checker.specs.Sides.{strayAt, Sets, ownBy, unchosen, entryNumber, Given, wrongEntry, sideOf};
+ghost use Rattle.checker.specs.Sides.{Sided, leavesSet};
 
 // Whether bit b speaks against the partition: in both sets or neither, or, at n or above, in one.
 fn is_stray(n: usize, even: &[u64], odd: &[u64], b: usize) -> bool
@@ -53,6 +55,28 @@ fn is_own(owners: &[u8], even: &[u64], v: usize) -> bool
     owners[v] != 0
 }
 
+// Whether every entry is none.
+fn nothing_chosen(strategy: &[u16]) -> bool
+    ensures { λ r. ⌜ r ≡ unchosen (now (strategy .entry)) ⌝ }
+{
+    for u in 0..strategy.len() {
+        if strategy[u] != 65535 {
+            return false;
+        }
+    }
+    true
+}
+
+// What is given where the entry of v is wrong: 22, or 25 in its place where every entry is none.
+fn bad_entry(strategy: &[u16], v: usize) -> Answer
+    ensures { λ r. ⌜ said r ≡ refusal (entryNumber (now (strategy .entry))) v ⌝ }
+{
+    if nothing_chosen(strategy) {
+        return Answer::AtVertex(NO_STRATEGY, VertexIndex(v));
+    }
+    Answer::AtVertex(BAD_ENTRY, VertexIndex(v))
+}
+
 // 22: an entry that is not none where the owner isn't the winner, or that is no target where it is.
 pub fn check_entries(
     owners: &[u8],
@@ -65,7 +89,7 @@ pub fn check_entries(
     ensures { λ r.
         ⌜ said r ≡
         outcome
-        (givenAt 22 (length (now (owners .entry)))
+        (givenAt (entryNumber (now (strategy .entry))) (length (now (owners .entry)))
         (wrongEntry (now (owners .entry)) (now (offsets .entry)) (now (targets .entry)) (now (even .entry))
         (now (strategy .entry))))
         (answered 0) ⌝ }
@@ -73,7 +97,7 @@ pub fn check_entries(
     'vertices: for v in 0..owners.len() {
         if !is_own(owners, even, v) {
             if strategy[v] != 65535 {
-                return Answer::AtVertex(BAD_ENTRY, VertexIndex(v));
+                return bad_entry(strategy, v);
             }
             continue 'vertices;
         }
@@ -82,7 +106,7 @@ pub fn check_entries(
                 continue 'vertices;
             }
         }
-        return Answer::AtVertex(BAD_ENTRY, VertexIndex(v));
+        return bad_entry(strategy, v);
     }
     Answer::Answered(0)
 }

@@ -11,7 +11,6 @@ fn report(name: &[u8], budget: u64, work: &mut [u64]) {
         &[2, 1],
         &[0, 1, 2],
         &[1, 1],
-        true,
         budget,
         &mut even,
         &mut odd,

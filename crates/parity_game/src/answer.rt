@@ -38,6 +38,8 @@ pub const LEAVES_SET: u64 = 23;
 
 pub const LOSING_CYCLE: u64 = 24;
 
+pub const NO_STRATEGY: u64 = 25;
+
 pub const BAD_TEXT: u64 = 30;
 
 pub const BAD_IDENTIFIER: u64 = 31;

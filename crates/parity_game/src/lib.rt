@@ -17,6 +17,7 @@ pub use answer::BEYOND_LIMIT;
 pub use answer::DEAD_END;
 pub use answer::LEAVES_SET;
 pub use answer::LOSING_CYCLE;
+pub use answer::NO_STRATEGY;
 pub use answer::NOT_ONE_WINNER;
 pub use answer::OVER_BUDGET;
 pub use answer::OWNERS_DIFFER;

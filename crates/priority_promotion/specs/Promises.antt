@@ -31,11 +31,11 @@ use Rattle.priority_promotion.specs.Round.{Shows}
 use Rattle.priority_promotion.specs.Rounds.{RoundDone}
 
 -- the contract of `solve_priority_promotion`
-abbrev pub Promise : Bool → ℕ → Tables → Lent → Lent → Outcome → Type 0
-Promise flag budget t before after o =
-    Solves flag budget t (roundsNeeded (gameOf t) budget) (afterRounds (gameOf t) (roundsNeeded (gameOf t) budget) .won) before after o
+abbrev pub Promise : ℕ → Tables → Lent → Lent → Outcome → Type 0
+Promise budget t before after o =
+    Solves budget t (roundsNeeded (gameOf t) budget) (afterRounds (gameOf t) (roundsNeeded (gameOf t) budget) .won) before after o
 
-module _ {flag : Bool} {budget : ℕ} {t : Tables} {before after : Lent} {o : Outcome} (p : Promise flag budget t before after o) where
+module _ {budget : ℕ} {t : Tables} {before after : Lent} {o : Outcome} (p : Promise budget t before after o) where
   -- **The count is the rounds of the rules: after as many all vertices are solved, and after fewer some are not.**
   pub answered-rounds :
       o .number ≡ 0 →
@@ -84,10 +84,10 @@ module _ {flag : Bool} {budget : ℕ} {t : Tables} {before after : Lent} {o : Ou
   answers-within-bound passed enough =
       answers-within p passed (accepted-finishes t (then-none (tableChecks t) _ passed .0) budget enough .0)
 
--- **With the flag the strategy wins: it is a winning choice for both players.**
+-- **The strategy wins: it is a winning choice for both players.**
 pub answered-strategy :
     {budget : ℕ} {t : Tables} {before after : Lent} {o : Outcome} →
-    Promise true budget t before after o →
+    Promise budget t before after o →
     o .number ≡ 0 →
     WinningEntries (gameOf t) (afterRounds (gameOf t) (roundsNeeded (gameOf t) budget) .won) (after .strategy)
 answered-strategy p e = answer p e .entries
@@ -95,26 +95,26 @@ answered-strategy p e = answer p e .entries
 -- **Sets and strategy then get the checker's yes.**
 pub answered-gets-yes :
     {budget : ℕ} {t : Tables} {before after : Lent} {o : Outcome} →
-    Promise true budget t before after o →
+    Promise budget t before after o →
     o .number ≡ 0 →
     certificateChecks (gameOf t) (after .even) (after .odd) (after .strategy) ≡ none
 answered-gets-yes p e = answered-certified p e (rules-sets p e)
 
 -- **Any two results that meet the contract are the same but for the entries of winners' own vertices,**
 pub promotion-results-agree :
-    {flag : Bool} {budget : ℕ} {t : Tables} {before after after′ : Lent} {o o′ : Outcome} →
+    {budget : ℕ} {t : Tables} {before after after′ : Lent} {o o′ : Outcome} →
     ((c : Player) → Narrow (setFor after c)) →
     ((c : Player) → Narrow (setFor after′ c)) →
-    Promise flag budget t before after o →
-    Promise flag budget t before after′ o′ →
-    Agree flag t after after′ o o′
+    Promise budget t before after o →
+    Promise budget t before after′ o′ →
+    Agree t after after′ o o′
 promotion-results-agree n n′ p p′ = results-agree n n′ (rules-sets p) p p′
 
 -- **any two answers count the same rounds, whatever the budgets,**
 pub answers-count-the-same :
-    {flag flag′ : Bool} {budget budget′ : ℕ} {t : Tables} {before before′ after after′ : Lent} {o o′ : Outcome} →
-    Promise flag budget t before after o →
-    Promise flag′ budget′ t before′ after′ o′ →
+    {budget budget′ : ℕ} {t : Tables} {before before′ after after′ : Lent} {o o′ : Outcome} →
+    Promise budget t before after o →
+    Promise budget′ t before′ after′ o′ →
     o .number ≡ 0 →
     o′ .number ≡ 0 →
     o .count ≡ o′ .count
@@ -134,9 +134,9 @@ answers-count-the-same {t = t} {o = o} {o′ = o′} p p′ e e′ =
 
 -- **and the words of the sets are those that Zielonka's solver gives.**
 pub same-words-as-zielonka :
-    {flag flag′ : Bool} {budget budget′ : ℕ} {t : Tables} {before before′ after after′ : Lent} {o o′ : Outcome} →
-    Promise flag budget t before after o →
-    Solves flag′ budget′ t (zielonka (gameOf t) .calls) (zielonka (gameOf t) .won) before′ after′ o′ →
+    {budget budget′ : ℕ} {t : Tables} {before before′ after after′ : Lent} {o o′ : Outcome} →
+    Promise budget t before after o →
+    Solves budget′ t (zielonka (gameOf t) .calls) (zielonka (gameOf t) .won) before′ after′ o′ →
     o .number ≡ 0 →
     o′ .number ≡ 0 →
     (c : Player) →

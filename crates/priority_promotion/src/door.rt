@@ -18,7 +18,6 @@ fn run(
     priorities: &[u16],
     offsets: &[u16],
     targets: &[u16],
-    compute_strategy: bool,
     budget: u64,
     even: &mut [u64],
     odd: &mut [u64],
@@ -31,7 +30,7 @@ fn run(
         ⌜ (let t =
         tablesOf (now (owners .entry)) (now (priorities .entry)) (now (offsets .entry)) (now (targets .entry)) in
         (now (work .exit) ≡ replicate (length (now (work .entry))) 0) ×
-        Runs «compute_strategy» budget t (roundsNeeded (gameOf t) budget)
+        Runs budget t (roundsNeeded (gameOf t) budget)
         (afterRounds (gameOf t) (roundsNeeded (gameOf t) budget) .won)
         (record { even = now (even .entry); odd = now (odd .entry); strategy = now (strategy .entry) })
         (record { even = now (even .exit); odd = now (odd .exit); strategy = now (strategy .exit) })
@@ -50,17 +49,7 @@ fn run(
         return Ran::OverBudget;
     }
     let held = unsolved + s + s;
-    solver::write_out(
-        compute_strategy,
-        owners,
-        s,
-        entries,
-        held + s,
-        work,
-        even,
-        odd,
-        strategy,
-    );
+    solver::write_out(owners, s, entries, held + s, work, even, odd, strategy);
     sets::clear(work, 0, work.len());
     Ran::Needed(end.rounds)
 }
@@ -70,7 +59,6 @@ pub fn solve_priority_promotion(
     priorities: &[u16],
     offsets: &[u16],
     targets: &[u16],
-    compute_strategy: bool,
     budget: u64,
     even: &mut [u64],
     odd: &mut [u64],
@@ -80,7 +68,7 @@ pub fn solve_priority_promotion(
     ensures { λ r.
         ⌜ (let t =
         tablesOf (now (owners .entry)) (now (priorities .entry)) (now (offsets .entry)) (now (targets .entry)) in
-        Solves «compute_strategy» budget t (roundsNeeded (gameOf t) budget)
+        Solves budget t (roundsNeeded (gameOf t) budget)
         (afterRounds (gameOf t) (roundsNeeded (gameOf t) budget) .won)
         (record {
           even = now (even .entry);
@@ -115,7 +103,6 @@ pub fn solve_priority_promotion(
         priorities,
         offsets,
         targets,
-        compute_strategy,
         budget,
         even,
         odd,

@@ -1,29 +1,16 @@
 -- What a door tells: the number it returns and what it writes through its last two references, as one outcome; and what its
 -- function ensures, said of what the door was given and tells.
-use mathlib.Core.Bool.{Bool}
 use mathlib.Core.List.{List}
 use mathlib.Core.Path.{_≡_, subst}
 use Prim.Native.Nat.{ℕ}
-use Rattle.rules.specs.Counting.{Set}
 use Rattle.rules.specs.Game.{Player}
 use Rattle.rules.specs.Outcome.{Outcome}
-use Rattle.rules.specs.Solver.{Solves, Lent}
 use Rattle.rules.specs.Tables.{Tables}
 use Rattle.rules.specs.Attracts as attractor
 use Rattle.rules.specs.Attracts.{Attracts}
 
 abbrev pub told : ℕ → ℕ → ℕ → Outcome
 told number place count = record { number = number; place = place; count = count }
-
--- a solver, by its flag and its outcome
-pub solves-as :
-    {f flag : Bool} {budget : ℕ} {t : Tables} {needed : ℕ} {won : Player → Set} {before after : Lent} {r o : Outcome} →
-    f ≡ flag →
-    r ≡ o →
-    Solves f budget t needed won before after r →
-    Solves flag budget t needed won before after o
-solves-as {flag = flag} {budget} {t} {needed} {won} {before} {after} {r} e d h =
-    subst (Solves flag budget t needed won before after) d (subst (λ (b : Bool). Solves b budget t needed won before after r) e h)
 
 -- the attractor, by its player and its outcome
 pub attracts-as :

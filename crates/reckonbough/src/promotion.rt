@@ -1,8 +1,5 @@
 // The solver by priority promotion.
-use crate::answer::asked;
 use crate::answer::tell;
-ghost use mathlib.Core.Bool.{not};
-ghost use lib.Dec.{eqb};
 ghost use Rattle.rules.specs.Promotion.{afterRounds, roundsNeeded};
 ghost use Rattle.rules.specs.Solver.{Solves};
 ghost use Rattle.rules.specs.Tables.{gameOf, tablesOf};
@@ -14,7 +11,6 @@ pub extern "C" fn reckonbough_priority_promotion(
     priorities: &[u16],
     offsets: &[u16],
     targets: &[u16],
-    compute_strategy: u8,
     budget: u64,
     even: &mut [u64],
     odd: &mut [u64],
@@ -26,7 +22,7 @@ pub extern "C" fn reckonbough_priority_promotion(
     ensures { λ n.
         ⌜ (let t =
         tablesOf (now (owners .entry)) (now (priorities .entry)) (now (offsets .entry)) (now (targets .entry)) in
-        Solves (not (eqb «compute_strategy» 0)) budget t (roundsNeeded (gameOf t) budget)
+        Solves budget t (roundsNeeded (gameOf t) budget)
         (afterRounds (gameOf t) (roundsNeeded (gameOf t) budget) .won)
         (record {
           even = now (even .entry);
@@ -42,14 +38,12 @@ pub extern "C" fn reckonbough_priority_promotion(
         })
         (told n (now (place .exit)) (now (count .exit)))) ⌝ }
 {
-    let flag = asked(compute_strategy);
     tell(
         priority_promotion::solve_priority_promotion(
             owners,
             priorities,
             offsets,
             targets,
-            flag,
             budget,
             even,
             odd,

@@ -1,8 +1,5 @@
 // Zielonka's solver.
-use crate::answer::asked;
 use crate::answer::tell;
-ghost use mathlib.Core.Bool.{not};
-ghost use lib.Dec.{eqb};
 ghost use Rattle.rules.specs.Solver.{Solves};
 ghost use Rattle.rules.specs.Tables.{gameOf, tablesOf};
 ghost use Rattle.rules.specs.Zielonka.{zielonka};
@@ -14,7 +11,6 @@ pub extern "C" fn reckonbough_zielonka(
     priorities: &[u16],
     offsets: &[u16],
     targets: &[u16],
-    compute_strategy: u8,
     budget: u64,
     even: &mut [u64],
     odd: &mut [u64],
@@ -26,8 +22,7 @@ pub extern "C" fn reckonbough_zielonka(
     ensures { λ n.
         ⌜ (let t =
         tablesOf (now (owners .entry)) (now (priorities .entry)) (now (offsets .entry)) (now (targets .entry)) in
-        Solves (not (eqb «compute_strategy» 0)) budget t (zielonka (gameOf t) .calls)
-        (zielonka (gameOf t) .won)
+        Solves budget t (zielonka (gameOf t) .calls) (zielonka (gameOf t) .won)
         (record {
           even = now (even .entry);
           odd = now (odd .entry);
@@ -42,14 +37,12 @@ pub extern "C" fn reckonbough_zielonka(
         })
         (told n (now (place .exit)) (now (count .exit)))) ⌝ }
 {
-    let flag = asked(compute_strategy);
     tell(
         zielonka::solve_zielonka(
             owners,
             priorities,
             offsets,
             targets,
-            flag,
             budget,
             even,
             odd,

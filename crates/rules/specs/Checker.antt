@@ -1,11 +1,11 @@
--- The checker's kinds 21 to 24, on two sets and a strategy, kind by kind in this order; and what the function gives back and leaves, for
--- every input.
+-- The checker's kinds 21 to 24, on two sets and a strategy, kind by kind in this order, with 25 in the place of 22 where every entry is none;
+-- and what the function gives back and leaves, for every input.
 use mathlib.Core.Bool.{Bool, _&&_, _||_, not, cond}
 use mathlib.Core.List.{List}
 use mathlib.Core.Path.{_≡_}
 use Prim.Native.Nat.{ℕ, suc, _*_}
 use lib.Dec.{eqb, ltb, leb}
-use Rattle.rules.specs.Counting.{Set, some, someOf, everyOf}
+use Rattle.rules.specs.Counting.{Set, some, every, someOf, everyOf}
 use Rattle.rules.specs.Game.{Player, Even, Odd, Game, everywhere, parity, same}
 use Rattle.rules.specs.Outcome.{Outcome, Verdict, none, refused, outcome, answered, givenAt, _then_}
 use Rattle.rules.specs.Tables.{Tables, gameOf, words}
@@ -32,11 +32,15 @@ ownWinner g even v = same (g .owner v) (winnerOf even v)
 abbrev pub sameSide : List ℕ → ℕ → ℕ → Bool
 sameSide even v w = same (winnerOf even v) (winnerOf even w)
 
+-- every entry is none
+abbrev pub nothingChosen : Game → List ℕ → Bool
+nothingChosen g strategy = every (g .size) (λ v. eqb (entry strategy v) noEntry)
+
 -- 22: an entry that is not none where the vertex's owner isn't its winner, or that is no target of the vertex's edges where it
--- is, at the lowest vertex
+-- is, at the lowest vertex; where 22 would be given and every entry is none, 25 in its place, with 22's place
 unfoldable pub check22 : Game → List ℕ → List ℕ → Verdict
 check22 g even strategy =
-    givenAt 22 (g .size)
+    givenAt (cond (nothingChosen g strategy) 25 22) (g .size)
     (λ v.
     cond (ownWinner g even v)
     (not (someOf (g .targets v) (eqb (entry strategy v))))

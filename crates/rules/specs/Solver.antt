@@ -11,7 +11,7 @@ use Rattle.rules.specs.Game.{Player, Even, Odd}
 use Rattle.rules.specs.Outcome.{Outcome, Verdict, none, refused, outcome, budgeted, _then_}
 use Rattle.rules.specs.Tables.{Tables, gameOf, vertices, edgesIn, workWords, tableChecks, check9, check10}
 use Rattle.rules.specs.Winning.{WinningEntries}
-use Rattle.rules.specs.Words.{Holds, noEntry}
+use Rattle.rules.specs.Words.{Holds}
 
 -- the work area after an answer or 13: the first W words zero, the words beyond as they were
 abbrev pub cleared : Tables → List ℕ → List ℕ
@@ -31,17 +31,12 @@ solverChecks t lent =
     check9 (vertices t) (length (lent .even) ∷ length (lent .odd) ∷ []) (length (lent .strategy) ∷ []) then
     check10 (vertices t) (edgesIn t) (length (lent .work))
 
--- the entries: a winning choice with the flag, none everywhere without it
-abbrev pub Entries : Bool → Tables → (Player → Set) → List ℕ → Type 0
-Entries true t won strategy = WinningEntries (gameOf t) won strategy
-Entries false t won strategy = strategy ≡ replicate (vertices t) noEntry
-
--- after an answer
-pub record Answered (flag : Bool) (t : Tables) (won : Player → Set) (before after : Lent) : Type 0 where
+-- after an answer: the sets, and entries that are a winning choice
+pub record Answered (t : Tables) (won : Player → Set) (before after : Lent) : Type 0 where
   pub even : Holds (vertices t) (won Even) (after .even)
   pub odd : Holds (vertices t) (won Odd) (after .odd)
   pub long : length (after .strategy) ≡ vertices t
-  pub entries : Entries flag t won (after .strategy)
+  pub entries : WinningEntries (gameOf t) won (after .strategy)
   pub work : after .work ≡ cleared t (before .work)
 
 -- after 13: sets and strategy as before
@@ -52,14 +47,13 @@ pub record Stopped (t : Tables) (before after : Lent) : Type 0 where
   pub work : after .work ≡ cleared t (before .work)
 
 -- by cases: a refusal of 1 to 10 writes nothing; then 13 where more is needed than the budget; else an answer
-abbrev pub Leaves : Verdict → Bool → Bool → Tables → (Player → Set) → Lent → Lent → Type 0
-Leaves (refused k p) over flag t won before after = after ≡ before
-Leaves none true flag t won before after = Stopped t before after
-Leaves none false flag t won before after = Answered flag t won before after
+abbrev pub Leaves : Verdict → Bool → Tables → (Player → Set) → Lent → Lent → Type 0
+Leaves (refused k p) over t won before after = after ≡ before
+Leaves none true t won before after = Stopped t before after
+Leaves none false t won before after = Answered t won before after
 
 -- a solver that needs so many calls or rounds for its sets, under a budget
 pub record Solves
-    (flag : Bool)
     (budget : ℕ)
     (t : Tables)
     (needed : ℕ)
@@ -68,4 +62,4 @@ pub record Solves
     (o : Outcome)
     : Type 0 where
   pub gives : o ≡ outcome (solverChecks t before) (budgeted budget needed)
-  pub leaves : Leaves (solverChecks t before) (ltb budget needed) flag t won before after
+  pub leaves : Leaves (solverChecks t before) (ltb budget needed) t won before after

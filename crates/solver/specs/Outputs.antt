@@ -1,16 +1,15 @@
 -- What stands in the work area when a solver has ended, how it is written out, and that this is what the rules ask for.
-use mathlib.Core.Bool.{Bool, true, false, _&&_, cond}
+use mathlib.Core.Bool.{Bool, true, false, cond}
 use mathlib.Core.List.{List, [], _∷_}
 use mathlib.Core.Path.{_≡_, refl, sym, ap, ap₂, _∙_}
 use Prim.Native.Nat.{ℕ, zero, suc, _+_, _-_, _≤_, _<_}
 use native.Mathlib.Nat.{not-suc-le-zero, le-of-suc-le-suc}
 use native.Mathlib.Omega.{arith}
 use lib.Dec.{eqb, eqb·suc-zero}
-use lib.ListN.{length, getD, take, drop, replicate, length-replicate, getD-replicate}
-use lib.Seq.{ext-getD, getD-take, getD-drop}
+use lib.ListN.{length, getD, take, drop}
+use lib.Seq.{getD-take, getD-drop}
 use Rattle.rules.specs.Counting.{Set, listed, noted}
 use Rattle.rules.specs.Game.{Player, Even, Odd, playerOf}
-use Rattle.rules.specs.Solver.{Entries}
 use Rattle.rules.specs.Tables.{Tables, gameOf, vertices, edgesIn, words, Accepted}
 use Rattle.rules.specs.Winning.{WinningSets, WinningEntries}
 use Rattle.rules.specs.Words.{setOf, Holds, noEntry, entry}
@@ -26,7 +25,7 @@ use Rattle.solver.specs.Running.{Outputs, Finished}
 
 -- ---- what `write_out` asks for and leaves
 
--- room for the outputs, and entries that fit where they are asked for
+-- room for the outputs, and entries that fit where they are written
 pub record Writable (owners : List ℕ) (s from at : ℕ) (work even odd strategy : List ℕ) : Type 0 where
   pub even-long : length even ≡ s
   pub odd-long : length odd ≡ s
@@ -36,11 +35,11 @@ pub record Writable (owners : List ℕ) (s from at : ℕ) (work even odd strateg
       Enterable owners (take s (drop at work)) (take s (drop (at + s) work)) (take (length owners) (drop from work)) strategy
 
 -- the sets as they stand, and the strategy by them
-pub record WroteOut (flag : Bool) (owners : List ℕ) (s from at : ℕ) (work : List ℕ) (before after : Outputs) : Type 0 where
+pub record WroteOut (owners : List ℕ) (s from at : ℕ) (work : List ℕ) (before after : Outputs) : Type 0 where
   pub even : after .even ≡ take s (drop at work)
   pub odd : after .odd ≡ take s (drop (at + s) work)
   pub strategy :
-      Written flag owners (take s (drop at work)) (take s (drop (at + s) work)) (take (length owners) (drop from work))
+      Written owners (take s (drop at work)) (take s (drop (at + s) work)) (take (length owners) (drop from work))
       (before .strategy) (after .strategy)
 
 -- the parts, as the code lends them
@@ -55,12 +54,12 @@ lent-enterable {owners} {s} {from} {at} {work} w =
     rw (part-is at s work, part-is (at + s) s work, part-is from (length owners) work) (w .enterable)
 
 pub wrote-parts :
-    {flag : Bool} {owners : List ℕ} (s from at : ℕ) (work : List ℕ) {even odd strategy : List ℕ} (was : Outputs) →
+    {owners : List ℕ} (s from at : ℕ) (work : List ℕ) {even odd strategy : List ℕ} (was : Outputs) →
     even ≡ partAt at s work →
     odd ≡ partAt (at + s) s work →
-    Written flag owners (partAt at s work) (partAt (at + s) s work) (partAt from (length owners) work) (was .strategy) strategy →
-    WroteOut flag owners s from at work was (record { even = even; odd = odd; strategy = strategy })
-wrote-parts {flag} {owners} s from at work was e o w =
+    Written owners (partAt at s work) (partAt (at + s) s work) (partAt from (length owners) work) (was .strategy) strategy →
+    WroteOut owners s from at work was (record { even = even; odd = odd; strategy = strategy })
+wrote-parts {owners} s from at work was e o w =
     record {
       even = e ∙ part-is at s work;
       odd = o ∙ part-is (at + s) s work;
@@ -152,11 +151,11 @@ module _ {t : Tables} {won : Player → Set} {s at : ℕ} {w : List ℕ} (found 
       go (suc k) = rw (eqb·suc-zero k) (holds Odd .bits v l)
 
   -- the entry of v where its owner wins it
-  abbrev own : Bool → ℕ → ℕ
-  own flag v = cond (flag && won (gameOf t .owner v) v) (entryAt n (edgesIn t) w v) noEntry
+  abbrev own : ℕ → ℕ
+  own v = cond (won (gameOf t .owner v) v) (entryAt n (edgesIn t) w v) noEntry
 
   own-wins :
-      (strategy : List ℕ) → ((v : ℕ) → v < n → entry strategy v ≡ own true v) → WinningEntries (gameOf t) won strategy
+      (strategy : List ℕ) → ((v : ℕ) → v < n → entry strategy v ≡ own v) → WinningEntries (gameOf t) won strategy
   own-wins strategy is =
       found .wins strategy
       (λ c v l p mine.
@@ -170,10 +169,10 @@ module _ {t : Tables} {won : Player → Set} {s at : ℕ} {w : List ℕ} (found 
   own-small : (v : ℕ) → v < n → won (gameOf t .owner v) v ≡ true → entryAt n (edgesIn t) w v < n
   unfolding gameOf noted
   own-small v l p =
-      let is : entry (listed n (own true)) v ≡ entryAt n (edgesIn t) w v =
-      noted-below noEntry n (own true) v l ∙ ap (λ (b : Bool). cond b (entryAt n (edgesIn t) w v) noEntry) p in
-      let edge = own-wins (listed n (own true)) (noted-below noEntry n (own true)) .given (gameOf t .owner v) v l p refl in
-      let small = accepted-total t (found .accepted) .ends v (entry (listed n (own true)) v) edge in
+      let is : entry (listed n own) v ≡ entryAt n (edgesIn t) w v =
+      noted-below noEntry n own v l ∙ ap (λ (b : Bool). cond b (entryAt n (edgesIn t) w v) noEntry) p in
+      let edge = own-wins (listed n own) (noted-below noEntry n own) .given (gameOf t .owner v) v l p refl in
+      let small = accepted-total t (found .accepted) .ends v (entry (listed n own) v) edge in
       rw is at small
 
   abbrev entriesIn : List ℕ
@@ -214,30 +213,21 @@ module _ {t : Tables} {won : Player → Set} {s at : ℕ} {w : List ℕ} (found 
             };
       }
 
-  module _ {flag : Bool} {before after : Outputs} (size : length (before .strategy) ≡ vertices t)
-      (wrote : WroteOut flag (t .owners) s (entries (vertices t) (edgesIn t)) at w before after)
+  module _ {before after : Outputs} (size : length (before .strategy) ≡ vertices t)
+      (wrote : WroteOut (t .owners) s (entries (vertices t) (edgesIn t)) at w before after)
     where
       strategy-long : length (after .strategy) ≡ n
       strategy-long = wrote .strategy .long ∙ size
 
-      written-entry : (v : ℕ) → v < n → entry (after .strategy) v ≡ own flag v
+      written-entry : (v : ℕ) → v < n → entry (after .strategy) v ≡ own v
       written-entry v l =
           getD-any (after .strategy) v noEntry 0 (omega (arith, strategy-long)) ∙
           wrote .strategy .all v l ∙
-          ap₂ (λ (b : Bool) (x : ℕ). cond (flag && b) x noEntry) (owner-won v l) (entry-is v l)
-
-      by-flag : (f : Bool) → flag ≡ f → Entries f t won (after .strategy)
-      by-flag true e =
-          own-wins (after .strategy) (λ v l. written-entry v l ∙ ap (λ (b : Bool). own b v) e)
-      by-flag false e =
-          ext-getD noEntry (after .strategy) (replicate n noEntry) (strategy-long ∙ sym (length-replicate n noEntry))
-          (λ v h.
-          let l : v < n = omega (arith, strategy-long) in
-          written-entry v l ∙ ap (λ (b : Bool). own b v) e ∙ sym (getD-replicate n v noEntry noEntry l))
+          ap₂ (λ (b : Bool) (x : ℕ). cond b x noEntry) (owner-won v l) (entry-is v l)
 
       -- **What is written out is what the rules ask for.**
       pub found-finished :
-          {budget needed made : ℕ} → made ≡ needed → made ≤ budget → Finished flag budget t needed won made after
+          {budget needed made : ℕ} → made ≡ needed → made ≤ budget → Finished budget t needed won made after
       found-finished is within =
           record {
             exact = is;
@@ -245,5 +235,5 @@ module _ {t : Tables} {won : Player → Set} {s at : ℕ} {w : List ℕ} (found 
             even = rw (wrote .even) (holds Even);
             odd = rw (wrote .odd) (holds Odd);
             long = strategy-long;
-            entries = by-flag flag refl;
+            entries = own-wins (after .strategy) written-entry;
           }

@@ -8,19 +8,17 @@ use Prim.Native.Nat.{ℕ, _≤_, _<_}
 use native.Mathlib.Omega.{arith}
 use borrow.Author.Tests.{le-ltb, ltb-false, eqb-false}
 use lib.Dec.{ltb}
-use lib.ListN.{getD-replicate}
 use Rattle.rules.specs.Checker.{certificateChecks}
 use Rattle.rules.specs.Counting.{Set}
 use Rattle.rules.specs.Game.{Player, Even, Odd}
 use Rattle.rules.specs.Outcome.{Outcome, Verdict, none, refused, outcome, answered, budgeted}
-use Rattle.rules.specs.Solver.{Lent, solverChecks, Entries, Answered, Leaves, Solves}
+use Rattle.rules.specs.Solver.{Lent, solverChecks, Answered, Leaves, Solves}
 use Rattle.rules.specs.Tables.{Tables, gameOf, vertices, tableChecks, Accepted}
 use Rattle.rules.specs.Winning.{WinningSets}
 use Rattle.rules.specs.Words.{setOf, Holds, noEntry, entry}
 use Rattle.area.specs.Alike.{Alike, alike-same, alike-none, alike-equal}
 use Rattle.parity_game.specs.Laws.{then-none, zero-none}
 use Rattle.sets.specs.Same.{Narrow, holds-same}
-use Rattle.theory.specs.Basics.{clash}
 use Rattle.theory.specs.Checker.{winning-gets-yes}
 use Rattle.theory.specs.Tables.{accepted-total}
 use Rattle.theory.specs.Zielonka.{determinacy}
@@ -39,8 +37,8 @@ budget-number : (over : Bool) (budget needed : ℕ) → cond over (record { numb
 budget-number true budget needed e = absurd (eqb-false 13 0 refl e)
 budget-number false budget needed e = refl
 
-module _ {flag : Bool} {budget : ℕ} {t : Tables} {needed : ℕ} {won : Player → Set} {before after : Lent} {o : Outcome}
-    (p : Solves flag budget t needed won before after o)
+module _ {budget : ℕ} {t : Tables} {needed : ℕ} {won : Player → Set} {before after : Lent} {o : Outcome}
+    (p : Solves budget t needed won before after o)
   where
     -- an answer was not refused, and needed no more than the budget
     not-refused : o .number ≡ 0 → solverChecks t before ≡ none
@@ -58,7 +56,7 @@ module _ {flag : Bool} {budget : ℕ} {t : Tables} {needed : ℕ} {won : Player 
     pub answered-within : o .number ≡ 0 → needed ≤ budget
     answered-within e = ltb-false budget needed (within-budget e)
 
-    pub answer : o .number ≡ 0 → Answered flag t won before after
+    pub answer : o .number ≡ 0 → Answered t won before after
     answer e = rw (not-refused e, within-budget e) at (p .leaves)
 
     -- the tables are accepted where it answers
@@ -99,32 +97,23 @@ module _ {flag : Bool} {budget : ℕ} {t : Tables} {needed : ℕ} {won : Player 
           λ a b. both (got Even v small .0 a) (got Odd v small .0 b),
         )
 
-    -- **An entry is none without the flag, and where the vertex is not in its owner's set.**
+    -- **An entry is none where the vertex is not in its owner's set.**
     pub answered-absent :
         o .number ≡ 0 →
         WinningSets (gameOf t) won →
         (v : ℕ) →
         v < vertices t →
-        (flag ≡ true → gotBy after (gameOf t .owner v) v ≡ true → ⊥) →
+        (gotBy after (gameOf t .owner v) v ≡ true → ⊥) →
         entry (after .strategy) v ≡ noEntry
     unfolding gameOf
-    answered-absent e wins v small lost = by flag (answer e .entries) lost
+    answered-absent e wins v small lost =
+        ⊎-elim (λ w. theirs Even (wins Even v small .1 w)) (λ w. theirs Odd (wins Odd v small .1 w))
+        (determinacy t (answered-accepted e) v small .0)
       where
-        by :
-            (f : Bool) →
-            Entries f t won (after .strategy) →
-            (f ≡ true → gotBy after (gameOf t .owner v) v ≡ true → ⊥) →
-            entry (after .strategy) v ≡ noEntry
-        by true entries lost =
-            ⊎-elim (λ w. theirs Even (wins Even v small .1 w)) (λ w. theirs Odd (wins Odd v small .1 w))
-            (determinacy t (answered-accepted e) v small .0)
-          where
-            theirs : (c : Player) → won c v ≡ true → entry (after .strategy) v ≡ noEntry
-            theirs c w =
-                entries .absent c v small w
-                (λ own. lost refl (ap (λ (b : Player). gotBy after b v) own ∙ answered-holds e c .bits v small ∙ w))
-        by false entries lost =
-            ap (λ (s : List ℕ). entry s v) entries ∙ getD-replicate (vertices t) v noEntry noEntry small
+        theirs : (c : Player) → won c v ≡ true → entry (after .strategy) v ≡ noEntry
+        theirs c w =
+            answer e .entries .absent c v small w
+            (λ own. lost (ap (λ (b : Player). gotBy after b v) own ∙ answered-holds e c .bits v small ∙ w))
 
     -- **It answers whenever nothing is refused and the budget is enough.**
     pub answers-within : solverChecks t before ≡ none → needed ≤ budget → o ≡ answered needed
@@ -133,10 +122,10 @@ module _ {flag : Bool} {budget : ℕ} {t : Tables} {needed : ℕ} {won : Player 
         ap (λ (v : Verdict). outcome v (budgeted budget needed)) passed ∙
         ap (λ (b : Bool). cond b (record { number = 13; place = 0; count = budget }) (answered needed)) (le-ltb budget needed (omega arith))
 
--- **With the flag, where the rules' sets are the winning sets, what is given gets the checker's yes.**
+-- **Where the rules' sets are the winning sets, what is given gets the checker's yes.**
 pub answered-certified :
     {budget : ℕ} {t : Tables} {needed : ℕ} {won : Player → Set} {before after : Lent} {o : Outcome} →
-    Solves true budget t needed won before after o →
+    Solves budget t needed won before after o →
     o .number ≡ 0 →
     WinningSets (gameOf t) won →
     certificateChecks (gameOf t) (after .even) (after .odd) (after .strategy) ≡ none
@@ -153,25 +142,24 @@ answered-certified {t = t} {won = won} {after = after} p e wins =
 pub holds-alike : {n : ℕ} {S T : Set} {xs : List ℕ} → ((v : ℕ) → v < n → S v ≡ T v) → Holds n S xs → Holds n T xs
 holds-alike same h = record { long = h .long; bits = λ v l. h .bits v l ∙ same v l; clear = h .clear }
 
--- the entry of v is free: in an answer with the flag, where v is in its owner's set
-pub record Free (flag : Bool) (t : Tables) (after : Lent) (o : Outcome) (v : ℕ) : Type 0 where
-  pub asked : flag ≡ true
+-- the entry of v is free: in an answer, where v is in its owner's set
+pub record Free (t : Tables) (after : Lent) (o : Outcome) (v : ℕ) : Type 0 where
   pub answer : o .number ≡ 0
   pub own : gotBy after (gameOf t .owner v) v ≡ true
 
 -- two results agree in all but the entries that are free
-pub record Agree (flag : Bool) (t : Tables) (after after′ : Lent) (o o′ : Outcome) : Type 0 where
+pub record Agree (t : Tables) (after after′ : Lent) (o o′ : Outcome) : Type 0 where
   pub outcomes : o ≡ o′
   pub even : after .even ≡ after′ .even
   pub odd : after .odd ≡ after′ .odd
-  pub strategy : Alike (Free flag t after o) (after .strategy) (after′ .strategy)
+  pub strategy : Alike (Free t after o) (after .strategy) (after′ .strategy)
   pub work : after .work ≡ after′ .work
 
 -- where nothing is free they are the same in all
 free-same :
-    {flag : Bool} {t : Tables} {after after′ : Lent} {o o′ : Outcome} →
-    Agree flag t after after′ o o′ →
-    ((v : ℕ) → Free flag t after o v → ⊥) →
+    {t : Tables} {after after′ : Lent} {o o′ : Outcome} →
+    Agree t after after′ o o′ →
+    ((v : ℕ) → Free t after o v → ⊥) →
     after ≡ after′
 free-same h f = lent (h .even) (h .odd) (alike-equal f (h .strategy)) (h .work)
   where
@@ -182,14 +170,14 @@ free-same h f = lent (h .even) (h .odd) (alike-equal f (h .strategy)) (h .work)
     lent a b c d = cc
 
 agree-by :
-    (v : Verdict) (over flag : Bool) (t : Tables) (won : Player → Set) (before after after′ : Lent) (o : Outcome) →
+    (v : Verdict) (over : Bool) (t : Tables) (won : Player → Set) (before after after′ : Lent) (o : Outcome) →
     ((c : Player) → Narrow (setFor after c)) →
     ((c : Player) → Narrow (setFor after′ c)) →
-    (v ≡ none → over ≡ false → Alike (Free flag t after o) (after .strategy) (after′ .strategy)) →
-    Leaves v over flag t won before after →
-    Leaves v over flag t won before after′ →
-    Agree flag t after after′ o o
-agree-by (refused k q) over flag t won before after after′ o n n′ strategy l l′ =
+    (v ≡ none → over ≡ false → Alike (Free t after o) (after .strategy) (after′ .strategy)) →
+    Leaves v over t won before after →
+    Leaves v over t won before after′ →
+    Agree t after after′ o o
+agree-by (refused k q) over t won before after after′ o n n′ strategy l l′ =
     let same : after ≡ after′ = l ∙ sym l′ in
     record {
       outcomes = refl;
@@ -198,7 +186,7 @@ agree-by (refused k q) over flag t won before after after′ o n n′ strategy l
       strategy = alike-same (ap (λ (x : Lent). x .strategy) same);
       work = ap (λ (x : Lent). x .work) same;
     }
-agree-by none true flag t won before after after′ o n n′ strategy l l′ =
+agree-by none true t won before after after′ o n n′ strategy l l′ =
     record {
       outcomes = refl;
       even = l .even ∙ sym (l′ .even);
@@ -206,7 +194,7 @@ agree-by none true flag t won before after after′ o n n′ strategy l l′ =
       strategy = alike-same (l .strategy ∙ sym (l′ .strategy));
       work = l .work ∙ sym (l′ .work);
     }
-agree-by none false flag t won before after after′ o n n′ strategy l l′ =
+agree-by none false t won before after after′ o n n′ strategy l l′ =
     record {
       outcomes = refl;
       even = holds-same (after .even) (after′ .even) (n Even) (n′ Even) (l .even) (l′ .even);
@@ -215,46 +203,41 @@ agree-by none false flag t won before after after′ o n n′ strategy l l′ =
       work = l .work ∙ sym (l′ .work);
     }
 
--- **Any two results that meet the contract are the same but for the entries of winners' own vertices, in an answer with the flag,**
+-- **Any two results that meet the contract are the same but for the entries of winners' own vertices, in an answer,**
 pub results-agree :
-    {flag : Bool} {budget : ℕ} {t : Tables} {needed : ℕ} {won : Player → Set} {before after after′ : Lent} {o o′ : Outcome} →
+    {budget : ℕ} {t : Tables} {needed : ℕ} {won : Player → Set} {before after after′ : Lent} {o o′ : Outcome} →
     ((c : Player) → Narrow (setFor after c)) →
     ((c : Player) → Narrow (setFor after′ c)) →
     (o .number ≡ 0 → WinningSets (gameOf t) won) →
-    Solves flag budget t needed won before after o →
-    Solves flag budget t needed won before after′ o′ →
-    Agree flag t after after′ o o′
-results-agree {flag} {budget} {t} {needed} {won} {before} {after} {after′} {o} {o′} n n′ wins p p′ =
+    Solves budget t needed won before after o →
+    Solves budget t needed won before after′ o′ →
+    Agree t after after′ o o′
+results-agree {budget} {t} {needed} {won} {before} {after} {after′} {o} {o′} n n′ wins p p′ =
     subst
-    (λ (x : Outcome). Agree flag t after after′ o x)
+    (λ (x : Outcome). Agree t after after′ o x)
     outcomes
-    (agree-by (solverChecks t before) (ltb budget needed) flag t won before after after′ o n n′
+    (agree-by (solverChecks t before) (ltb budget needed) t won before after after′ o n n′
     (λ passed within. alike (ap (λ (x : Outcome). x .number) (answers-within p passed (ltb-false budget needed within))))
     (p .leaves) (p′ .leaves))
   where
     outcomes : o ≡ o′
     outcomes = p .gives ∙ sym (p′ .gives)
 
-    alike : o .number ≡ 0 → Alike (Free flag t after o) (after .strategy) (after′ .strategy)
+    alike : o .number ≡ 0 → Alike (Free t after o) (after .strategy) (after′ .strategy)
     alike e =
         let e′ : o′ .number ≡ 0 = ap (λ (x : Outcome). x .number) (sym outcomes) ∙ e in
         alike-none (vertices t) (answer p e .long) (answer p′ e′ .long)
         (λ v l f.
         let c = gameOf t .owner v in
         let same = answered-holds p e c .bits v l ∙ sym (answered-holds p′ e′ c .bits v l) in (
-          answered-absent p e (wins e) v l (λ asked own. f (record { asked = asked; answer = e; own = own })),
-          answered-absent p′ e′ (wins e) v l (λ asked own. f (record { asked = asked; answer = e; own = same ∙ own })),
+          answered-absent p e (wins e) v l (λ own. f (record { answer = e; own = own })),
+          answered-absent p′ e′ (wins e) v l (λ own. f (record { answer = e; own = same ∙ own })),
         ))
 
--- **after a refusal or 13 they are the same in all,**
+-- **and after a refusal or 13 they are the same in all.**
 pub refused-same :
-    {flag : Bool} {t : Tables} {after after′ : Lent} {o o′ : Outcome} →
-    Agree flag t after after′ o o′ →
+    {t : Tables} {after after′ : Lent} {o o′ : Outcome} →
+    Agree t after after′ o o′ →
     (o .number ≡ 0 → ⊥) →
     after ≡ after′
 refused-same h r = free-same h (λ v f. r (f .answer))
-
--- **and without the flag too.**
-pub unasked-same :
-    {t : Tables} {after after′ : Lent} {o o′ : Outcome} → Agree false t after after′ o o′ → after ≡ after′
-unasked-same h = free-same h (λ v f. clash (f .asked) refl)

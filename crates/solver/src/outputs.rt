@@ -4,7 +4,6 @@ ghost use Rattle.solver.specs.Outputs.{Writable, WroteOut};
 
 // What Even wins stands at `at`, what Odd wins behind it, and the entries at `from`.
 pub fn write_out(
-    compute_strategy: bool,
     owners: &[u8],
     s: usize,
     from: usize,
@@ -16,7 +15,7 @@ pub fn write_out(
 )
     requires { ⌜ Writable (now owners) s from at (now work) (now even) (now odd) (now strategy) ⌝ }
     ensures { λ _.
-        ⌜ WroteOut «compute_strategy» (now (owners .entry)) s from at (now (work .entry))
+        ⌜ WroteOut (now (owners .entry)) s from at (now (work .entry))
         (record { even = now (even .entry); odd = now (odd .entry); strategy = now (strategy .entry) })
         (record { even = now (even .exit); odd = now (odd .exit); strategy = now (strategy .exit) }) ⌝ }
 {
@@ -25,7 +24,6 @@ pub fn write_out(
     sets::copy_from(even, &work[at..at + s]);
     sets::copy_from(odd, &work[next..next + s]);
     write_strategy(
-        compute_strategy,
         owners,
         &work[at..at + s],
         &work[next..next + s],

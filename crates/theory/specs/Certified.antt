@@ -1,4 +1,4 @@
--- What Zielonka's solver hands out is always certified: an answer with a strategy gets the checker's yes.
+-- What Zielonka's solver hands out is always certified: an answer gets the checker's yes.
 use mathlib.Core.Bool.{true}
 use mathlib.Core.Logic.{_⊎_, inl, inr, ⊎-elim}
 use mathlib.Core.Path.{_≡_}
@@ -24,12 +24,12 @@ covered t ok v l =
     let sets = zielonka-wins (gameOf t) (accepted-total t ok) in
     ⊎-elim (λ w. inl (sets Even v l .1 w)) (λ w. inr (sets Odd v l .1 w)) (determinacy t ok v l .0)
 
--- The answers of Zielonka's solver, with a strategy, always get yes.
+-- The answers of Zielonka's solver always get yes.
 pub zielonka-gets-yes :
     (t : Tables) →
     Accepted t →
     (before after : Lent) →
-    Answered true t (zielonka (gameOf t) .won) before after →
+    Answered t (zielonka (gameOf t) .won) before after →
     certificateChecks (gameOf t) (after .even) (after .odd) (after .strategy) ≡ none
 unfolding gameOf
 zielonka-gets-yes t ok before after answer =

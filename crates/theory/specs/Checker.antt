@@ -17,7 +17,7 @@ use Rattle.rules.specs.Tables.{Tables, words, gameOf, Accepted}
 use Rattle.rules.specs.Winning.{Cycle, here, step, Step, Fixes, WinsBy, WinningSets, WinningEntries}
 use Rattle.rules.specs.Words.{digit, bit, setOf, Holds, entry, noEntry}
 use Rattle.rules.specs.Zielonka.{highestIn}
-use Rattle.rules.specs.Checker.{winnerOf, ownWinner, sameSide, keptEdges, onCycle}
+use Rattle.rules.specs.Checker.{winnerOf, ownWinner, sameSide, nothingChosen, keptEdges, onCycle}
 use Rattle.rules.specs.Checker.{check21, check22, check23, check24, certificateChecks}
 use Rattle.theory.specs.Basics.{bool-cases, clash, not-true-is-false, and-intro, and-left, and-right, or-false-both}
 use Rattle.theory.specs.Basics.{some-false, false-some, everyOf-intro, everyOf-elim, lt-or-ge}
@@ -145,9 +145,9 @@ module _ (n : ℕ) (even odd : List ℕ) where
       (lt-or-ge v n))
 
 module _ (g : Game) (even strategy : List ℕ) where
-  -- 22
+  -- 22, or 25 in its place
 
-  abbrev badEntry : Set
+  abbrev pub badEntry : Set
   badEntry v =
       cond
       (ownWinner g even v)
@@ -169,7 +169,7 @@ module _ (g : Game) (even strategy : List ℕ) where
   )
     where
       fails : (v : ℕ) → v < g .size → badEntry v ≡ false
-      fails = givenAt-none 22 (g .size) badEntry e
+      fails = givenAt-none (cond (nothingChosen g strategy) 25 22) (g .size) badEntry e
 
   before22 :
       ((v : ℕ) → v < g .size → g .owner v ≡ winnerOf even v → Edge g v (entry strategy v)) →
@@ -178,7 +178,7 @@ module _ (g : Game) (even strategy : List ℕ) where
   unfolding check22
   before22 given absent =
       none-givenAt
-      22
+      (cond (nothingChosen g strategy) 25 22)
       (g .size)
       badEntry
       (λ v l.

@@ -25,6 +25,7 @@ pub mod Bound
 pub mod Links
 pub mod Solitaire
 pub mod Checker
+pub mod NothingChosen
 pub mod Certified
 pub mod Chosen
 pub mod SolitaireAttractor

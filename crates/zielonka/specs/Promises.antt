@@ -1,7 +1,7 @@
 -- What a reader may conclude of `solve_zielonka`, from its contract alone: whenever it answers, its sets are the winning sets of demand 2,
 -- each vertex has one winner, the strategy wins and the count is the recursion's calls; it answers whenever nothing is refused and the
 -- budget is demand 3's bound or more; and any two results that meet the contract are the same but for the entries of winners' own vertices.
-use mathlib.Core.Bool.{Bool, true}
+use mathlib.Core.Bool.{true}
 use mathlib.Core.Logic.{_⊎_}
 use mathlib.Core.Path.{_≡_}
 use Prim.Native.Nat.{ℕ, _≤_, _<_}
@@ -22,11 +22,11 @@ use Rattle.solver.specs.Promises.{setFor, gotBy, answer, answered-accepted, ans
 use Rattle.solver.specs.Promises.{Agree, results-agree}
 
 -- the contract of `solve_zielonka`
-abbrev pub Promise : Bool → ℕ → Tables → Lent → Lent → Outcome → Type 0
-Promise flag budget t before after o =
-    Solves flag budget t (zielonka (gameOf t) .calls) (zielonka (gameOf t) .won) before after o
+abbrev pub Promise : ℕ → Tables → Lent → Lent → Outcome → Type 0
+Promise budget t before after o =
+    Solves budget t (zielonka (gameOf t) .calls) (zielonka (gameOf t) .won) before after o
 
-module _ {flag : Bool} {budget : ℕ} {t : Tables} {before after : Lent} {o : Outcome} (p : Promise flag budget t before after o) where
+module _ {budget : ℕ} {t : Tables} {before after : Lent} {o : Outcome} (p : Promise budget t before after o) where
   -- **The count is the calls of the recursion.**
   pub answered-calls : o .number ≡ 0 → o .count ≡ zielonka (gameOf t) .calls
   answered-calls e = answered-count p e
@@ -53,21 +53,21 @@ module _ {flag : Bool} {budget : ℕ} {t : Tables} {before after : Lent} {o : Ou
       let bound = zielonka-bound (gameOf t) (accepted-total t (then-none (tableChecks t) _ passed .0)) in
       answers-within p passed (omega arith)
 
--- **With the flag the strategy wins: it is a winning choice for both players.**
+-- **The strategy wins: it is a winning choice for both players.**
 pub answered-strategy :
     {budget : ℕ} {t : Tables} {before after : Lent} {o : Outcome} →
-    Promise true budget t before after o →
+    Promise budget t before after o →
     o .number ≡ 0 →
     WinningEntries (gameOf t) (zielonka (gameOf t) .won) (after .strategy)
 answered-strategy p e = answer p e .entries
 
 -- **Any two results that meet the contract are the same but for the entries of winners' own vertices.**
 pub zielonka-results-agree :
-    {flag : Bool} {budget : ℕ} {t : Tables} {before after after′ : Lent} {o o′ : Outcome} →
+    {budget : ℕ} {t : Tables} {before after after′ : Lent} {o o′ : Outcome} →
     ((c : Player) → Narrow (setFor after c)) →
     ((c : Player) → Narrow (setFor after′ c)) →
-    Promise flag budget t before after o →
-    Promise flag budget t before after′ o′ →
-    Agree flag t after after′ o o′
+    Promise budget t before after o →
+    Promise budget t before after′ o′ →
+    Agree t after after′ o o′
 zielonka-results-agree {t = t} n n′ p p′ =
     results-agree n n′ (λ e. zielonka-wins (gameOf t) (accepted-total t (answered-accepted p e))) p p′

@@ -17,7 +17,6 @@ fn run(
     priorities: &[u16],
     offsets: &[u16],
     targets: &[u16],
-    compute_strategy: bool,
     budget: u64,
     even: &mut [u64],
     odd: &mut [u64],
@@ -30,7 +29,7 @@ fn run(
         ⌜ (let t =
         tablesOf (now (owners .entry)) (now (priorities .entry)) (now (offsets .entry)) (now (targets .entry)) in
         (now (work .exit) ≡ replicate (length (now (work .entry))) 0) ×
-        Runs «compute_strategy» budget t (zielonka (gameOf t) .calls) (zielonka (gameOf t) .won)
+        Runs budget t (zielonka (gameOf t) .calls) (zielonka (gameOf t) .won)
         (record { even = now (even .entry); odd = now (odd .entry); strategy = now (strategy .entry) })
         (record { even = now (even .exit); odd = now (odd .exit); strategy = now (strategy .exit) })
         r) ⌝ }
@@ -45,17 +44,7 @@ fn run(
         sets::clear(work, 0, work.len());
         return Ran::OverBudget;
     };
-    solver::write_out(
-        compute_strategy,
-        owners,
-        s,
-        entries,
-        base + 2 * s,
-        work,
-        even,
-        odd,
-        strategy,
-    );
+    solver::write_out(owners, s, entries, base + 2 * s, work, even, odd, strategy);
     sets::clear(work, 0, work.len());
     Ran::Needed(calls)
 }
@@ -65,7 +54,6 @@ pub fn solve_zielonka(
     priorities: &[u16],
     offsets: &[u16],
     targets: &[u16],
-    compute_strategy: bool,
     budget: u64,
     even: &mut [u64],
     odd: &mut [u64],
@@ -75,7 +63,7 @@ pub fn solve_zielonka(
     ensures { λ r.
         ⌜ (let t =
         tablesOf (now (owners .entry)) (now (priorities .entry)) (now (offsets .entry)) (now (targets .entry)) in
-        Solves «compute_strategy» budget t (zielonka (gameOf t) .calls) (zielonka (gameOf t) .won)
+        Solves budget t (zielonka (gameOf t) .calls) (zielonka (gameOf t) .won)
         (record {
           even = now (even .entry);
           odd = now (odd .entry);
@@ -109,7 +97,6 @@ pub fn solve_zielonka(
         priorities,
         offsets,
         targets,
-        compute_strategy,
         budget,
         even,
         odd,

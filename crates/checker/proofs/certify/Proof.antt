@@ -6,7 +6,7 @@ use Rattle.rules.specs.Checker.{check21, check22, check23, check24}
 use Rattle.parity_game.specs.Laws.{numbered-givenAt}
 use Rattle.parity_game.proofs.Matched.{went-on, stopped}
 use Rattle.checker.specs.Checks.{partition-ready, entries-ready, sides-ready, cycles-given, certify-stops}
-use Rattle.checker.specs.Checks.{from21, check22-is, check23-is, past, numbered21}
+use Rattle.checker.specs.Checks.{from21, check22-is, check23-is, past, numbered21, numbered22}
 use native.Mathlib.Omega.{arith}
 use borrow.Author.Needs.{needs}
 use Rattle.checker.proofs.certify.Statement.{statement}
@@ -45,6 +45,10 @@ past22 c = past21 (c .before .before .before)
 abbrev past23 : tie.Else3 → tie.Start
 past23 c = past22 (c .before .before .before)
 
+-- equal verdicts give equal outcomes
+out : {u v : Verdict} → u ≡ v → outcome u (answered 0) ≡ outcome v (answered 0)
+out e = ap (λ (v : Verdict). outcome v (answered 0)) e
+
 -- there the kind gave nothing
 ok21 : (c : tie.Else1) → v21 (past21 c) ≡ none
 ok21 c =
@@ -54,18 +58,14 @@ ok21 c =
 ok22 : (c : tie.Else2) → v22 (past22 c) ≡ none
 ok22 c =
     let f = c .before .before .check-entries in
-    sym (check22-is (past22 c .pre)) ∙
-    went-on (f .result) _ (c .if2 .left) (c .before .number2 .ensures) (numbered-givenAt 22 _ _ (omega arith)) (f .ensures)
+    went-on (f .result) (v22 (past22 c)) (c .if2 .left) (c .before .number2 .ensures) (numbered22 _ _ _)
+    (f .ensures ∙ out (check22-is (past22 c .pre)))
 
 ok23 : (c : tie.Else3) → v23 (past23 c) ≡ none
 ok23 c =
     let f = c .before .before .check-sides in
     sym (check23-is (past23 c .pre)) ∙
     went-on (f .result) _ (c .if3 .left) (c .before .number3 .ensures) (numbered-givenAt 23 _ _ (omega arith)) (f .ensures)
-
--- equal verdicts give equal outcomes
-out : {u v : Verdict} → u ≡ v → outcome u (answered 0) ≡ outcome v (answered 0)
-out e = ap (λ (v : Verdict). outcome v (answered 0)) e
 
 check-partition-requires : tie.Need-check-partition-requires
 check-partition-requires c κs = partition-ready (c .before .before .before .before .before .before .before .before .pre)

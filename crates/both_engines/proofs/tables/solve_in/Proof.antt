@@ -1,5 +1,4 @@
 -- `solve_in` meets its contract: promotion, then Zielonka over its words, and the line of both.
-use mathlib.Core.Bool.{true}
 use mathlib.Core.List.{List}
 use mathlib.Core.Path.{_≡_, sym, ap, subst, _∙_}
 use Prim.Native.Nat.{ℕ, _≤_}

@@ -11,7 +11,7 @@ use lib.ListN.{length, getD}
 use Rattle.rules.specs.Counting.{Set}
 use Rattle.rules.specs.Outcome.{answered}
 use Rattle.parity_game.specs.Search.{FailsBelow, outcome-found, outcome-none}
-use Rattle.checker.specs.Sides.{wrongEntry, edges-end, from-more, entry-other, entry-none, entry-target, entry-no-target}
+use Rattle.checker.specs.Sides.{entryNumber, wrongEntry, edges-end, from-more, entry-other, entry-none, entry-target, entry-no-target}
 use native.Mathlib.Omega.{arith}
 use borrow.Author.Needs.{needs}
 use Rattle.checker.proofs.sides.check_entries.Statement.{statement}
@@ -61,14 +61,19 @@ mul-if2 c = search needs
 shared-slice-read-if2 : tie.Need-shared-slice-read-if2 Inv-loop μ-loop Inv-vertices μ-vertices
 shared-slice-read-if2 c = search needs
 
+bad-entry-requires : tie.Need-bad-entry-requires Inv-loop μ-loop Inv-vertices μ-vertices
+bad-entry-requires c κs = search needs
+
 returns : tie.Need-returns Inv-loop μ-loop Inv-vertices μ-vertices
 returns c =
-    let d = c .before .before .before in
+    let b = c .before in
+    let d = b .before .before .before in
     let s = start d in
     let l = turn d .vertices in
-    outcome-found 22 _ (wrong s) (answered 0) (l .v) (omega arith) (l .inv .2)
-    (entry-other (s .pre) (l .v) (omega arith) (sym (d .is-own .ensures) ∙ not-true _ (c .before .before .if1 .taken))
-    (c .if2 .taken))
+    c .bad-entry .ensures ∙
+    outcome-found (entryNumber (s .args .strategy .now)) _ (wrong s) (answered 0) (l .v) (omega arith) (l .inv .2)
+    (entry-other (s .pre) (l .v) (omega arith) (sym (d .is-own .ensures) ∙ not-true _ (b .before .before .if1 .taken))
+    (b .if2 .taken))
 
 add-v : tie.Need-add-v Inv-loop μ-loop Inv-vertices μ-vertices
 add-v c = search needs
@@ -179,16 +184,20 @@ loop-again c =
           (ne-eqb _ _ (λ q. c .if3 .left (sym q ∙ ap (λ (k : ℕ). getD (s .args .strategy .now) k 0) (sym (i .inv .0))))),
     )
 
+bad-entry-requires-2 : tie.Need-bad-entry-requires-2 Inv-loop μ-loop Inv-vertices μ-vertices
+bad-entry-requires-2 c κs = search needs
+
 returns-2 : tie.Need-returns-2 Inv-loop μ-loop Inv-vertices μ-vertices
 returns-2 c =
-    let e = c .before in
+    let e = c .before .before in
     let d = owned e in
     let s = start d in
     let l = turn d .vertices in
     let i = e .loop in
     let is : i .v ≡ l .v = i .inv .0 in
+    c .bad-entry2 .ensures ∙
     rw is
-    (outcome-found 22 _ (wrong s) (answered 0) (l .v) (omega arith) (l .inv .2)
+    (outcome-found (entryNumber (s .args .strategy .now)) _ (wrong s) (answered 0) (l .v) (omega arith) (l .inv .2)
     (entry-no-target (s .pre) (l .v) (omega arith)
     (sym (d .is-own .ensures) ∙ not-false _ (e .before .before .before .if1 .left)) (i .e) (omega arith) (i .inv .5)))
 
@@ -196,7 +205,7 @@ returns-3 : tie.Need-returns-3 Inv-loop μ-loop Inv-vertices μ-vertices
 returns-3 c =
     let s = c .before .before .before .before .before .before .before in
     let l = c .before .vertices in
-    outcome-none 22 _ (wrong s) (answered 0) (λ k h. l .inv .2 k (omega arith))
+    outcome-none (entryNumber (s .args .strategy .now)) _ (wrong s) (answered 0) (λ k h. l .inv .2 k (omega arith))
 
 pub check-entries-spec : {M : Type 1} → statement M
 check-entries-spec =
@@ -210,6 +219,7 @@ check-entries-spec =
     is-own-requires
     mul-if2
     shared-slice-read-if2
+    bad-entry-requires
     returns
     add-v
     vertices-less
@@ -232,5 +242,6 @@ check-entries-spec =
     add-e
     loop-less
     loop-again
+    bad-entry-requires-2
     returns-2
     returns-3)

@@ -70,7 +70,7 @@ words r = r .before .before .before .before .before .work-words .result
 
 abbrev after : tie.After-run → Lent
 after r =
-    let l = r .run .last .1 .1 .1 .1 .1 .1 in
+    let l = r .run .last .1 .1 .1 .1 .1 in
     let w = began r .args .work .now in
     record {
       even = l .0;
@@ -84,17 +84,17 @@ solved :
     (r : tie.After-run) {x : Ran} →
     r .run .result ≡ x →
     let g = began r in
-    Solves (g .args .compute-strategy) (g .args .budget) (tables g) (needed g) (won g) (lent g) (after r)
+    Solves (g .args .budget) (tables g) (needed g) (won g) (lent g) (after r)
     (ranOutcome (g .args .budget) x)
 solved r {x} e =
     let g = began r in
-    solves-ran (g .args .compute-strategy) (g .args .budget) (tables g) (needed g) (won g) (lent g) (after r) x
+    solves-ran (g .args .budget) (tables g) (needed g) (won g) (lent g) (after r) x
     (no-refusal (checked r))
     (subst
-    (Runs (g .args .compute-strategy) (g .args .budget) (tables g) (needed g) (won g) (outputsOf (lent g)) (outputsOf (after r)))
+    (Runs (g .args .budget) (tables g) (needed g) (won g) (outputsOf (lent g)) (outputsOf (after r)))
     e
     (r .run .ensures .1))
-    (work-cleared (tables g) (words r) (g .args .work .now) (r .run .last .1 .1 .1 .1 .1 .1 .1 .1 .1 .0)
+    (work-cleared (tables g) (words r) (g .args .work .now) (r .run .last .1 .1 .1 .1 .1 .1 .1 .1 .0)
     (r .before .before .before .before .before .work-words .ensures) (passed (checked r) .work-size) (r .run .ensures .0))
 
 check-all-requires : tie.Need-check-all-requires
@@ -106,7 +106,7 @@ number-requires c κs = search needs
 returns : tie.Need-returns
 returns c =
     let g = c .before .before .before .before .before .before .before .before .before .before .before in
-    solves-refused (g .args .compute-strategy) (g .args .budget) (tables g) (needed g) (won g) (lent g) _
+    solves-refused (g .args .budget) (tables g) (needed g) (won g) (lent g) _
     (c .before .before .check-all .ensures) (refusal-not-zero (c .before .before .check-all .result) (c .if1 .taken) (c .before .number .ensures))
 
 work-words-requires : tie.Need-work-words-requires

@@ -1,12 +1,10 @@
--- `reckonbough_priority_promotion` meets its contract: what is told and written is what `solve_priority_promotion` answers and writes with
--- the flag that the byte stands for.
+-- `reckonbough_priority_promotion` meets its contract: what is told and written is what `solve_priority_promotion` answers and
+-- writes.
+use mathlib.Core.Path.{subst}
 use borrow.Author.Needs.{needs}
-use Rattle.reckonbough.specs.Doors.{solves-as}
+use Rattle.rules.specs.Solver.{Solves}
 use Rattle.reckonbough.proofs.promotion.reckonbough_priority_promotion.Statement.{statement}
 use Rattle.reckonbough.proofs.promotion.reckonbough_priority_promotion.Tie as tie
-
-asked-requires : tie.Need-asked-requires
-asked-requires c κs = search needs
 
 solve-priority-promotion-requires : tie.Need-solve-priority-promotion-requires
 solve-priority-promotion-requires c κs = search needs
@@ -29,14 +27,12 @@ same-length-4 c = search needs
 returns : tie.Need-returns
 returns c =
     let called = c .before .before .before .before .before .before .before .before .before .before .before in
-    let asked = called .before .before .before .before .before in
-    solves-as (asked .asked .ensures) (c .tell .ensures) (called .solve-priority-promotion .ensures)
+    subst (Solves _ _ _ _ _ _) (c .tell .ensures) (called .solve-priority-promotion .ensures)
 
 pub reckonbough-priority-promotion-spec : {M : Type 1} → statement M
 reckonbough-priority-promotion-spec =
     tie.close
     (tie.spec
-    asked-requires
     solve-priority-promotion-requires
     tell-requires
     same-length

@@ -1,12 +1,10 @@
--- `reckonbough_zielonka` meets its contract: what is told and written is what `solve_zielonka` answers and writes with
--- the flag that the byte stands for.
+-- `reckonbough_zielonka` meets its contract: what is told and written is what `solve_zielonka` answers and
+-- writes.
+use mathlib.Core.Path.{subst}
 use borrow.Author.Needs.{needs}
-use Rattle.reckonbough.specs.Doors.{solves-as}
+use Rattle.rules.specs.Solver.{Solves}
 use Rattle.reckonbough.proofs.recursion.reckonbough_zielonka.Statement.{statement}
 use Rattle.reckonbough.proofs.recursion.reckonbough_zielonka.Tie as tie
-
-asked-requires : tie.Need-asked-requires
-asked-requires c κs = search needs
 
 solve-zielonka-requires : tie.Need-solve-zielonka-requires
 solve-zielonka-requires c κs = search needs
@@ -29,14 +27,12 @@ same-length-4 c = search needs
 returns : tie.Need-returns
 returns c =
     let called = c .before .before .before .before .before .before .before .before .before .before .before in
-    let asked = called .before .before .before .before .before in
-    solves-as (asked .asked .ensures) (c .tell .ensures) (called .solve-zielonka .ensures)
+    subst (Solves _ _ _ _ _ _) (c .tell .ensures) (called .solve-zielonka .ensures)
 
 pub reckonbough-zielonka-spec : {M : Type 1} → statement M
 reckonbough-zielonka-spec =
     tie.close
     (tie.spec
-    asked-requires
     solve-zielonka-requires
     tell-requires
     same-length

@@ -11,13 +11,13 @@ use Rattle.solver.proofs.entries.write_strategy.Statement.{statement}
 use Rattle.solver.proofs.entries.write_strategy.Tie as tie
 
 abbrev Inv-loop : tie.InvT-loop
-Inv-loop compute-strategy owners even odd entries strategy₀ v₀ v-end strategy v =
+Inv-loop owners even odd entries strategy₀ v₀ v-end strategy v =
     (v ≤ length owners) ×
     (length strategy ≡ length strategy₀) ×
-    ((k : ℕ) → k < v → getD strategy k 0 ≡ chosen compute-strategy owners even odd entries k)
+    ((k : ℕ) → k < v → getD strategy k 0 ≡ chosen owners even odd entries k)
 
 abbrev μ-loop : tie.MeasureT-loop
-μ-loop compute-strategy owners even odd entries strategy₀ v₀ v-end strategy v = length owners - v
+μ-loop owners even odd entries strategy₀ v₀ v-end strategy v = length owners - v
 
 -- where the function begins
 abbrev start-of : tie.At-loop Inv-loop μ-loop → tie.Start Inv-loop μ-loop
@@ -52,7 +52,7 @@ loop-again c =
     let l = d .before .loop in (
       search needs,
       length-set (l .strategy) (l .v) _ ∙ l .inv .1,
-      stored-more (chosen (a .compute-strategy) (a .owners .now) (a .even .now) (a .odd .now) (a .entries .now)) (l .strategy) (l .v)
+      stored-more (chosen (a .owners .now) (a .even .now) (a .odd .now) (a .entries .now)) (l .strategy) (l .v)
           (c .strategy-entry .result) (fits d) (c .strategy-entry .ensures) (l .inv .2),
     )
 

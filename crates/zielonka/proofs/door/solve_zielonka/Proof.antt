@@ -67,7 +67,7 @@ words r = sized r .work-words .result
 
 abbrev after : tie.After-run → Lent
 after r =
-    let l = r .run .last .1 .1 .1 .1 .1 .1 in
+    let l = r .run .last .1 .1 .1 .1 .1 in
     let w = began r .args .work .now in
     record {
       even = l .0;
@@ -82,15 +82,15 @@ solved :
     r .run .result ≡ x →
     let g = began r in
     let a = g .args in
-    Solves (a .compute-strategy) (a .budget) (tables g) (calls g) (won g) (lent g) (after r) (ranOutcome (a .budget) x)
+    Solves (a .budget) (tables g) (calls g) (won g) (lent g) (after r) (ranOutcome (a .budget) x)
 solved r {x} e =
     let g = began r in
     let a = g .args in
-    solves-ran (a .compute-strategy) (a .budget) (tables g) (calls g) (won g) (lent g) (after r) x
+    solves-ran (a .budget) (tables g) (calls g) (won g) (lent g) (after r) x
     (no-refusal (sized r .before))
-    (subst (Runs (a .compute-strategy) (a .budget) (tables g) (calls g) (won g) (outputsOf (lent g)) (outputsOf (after r))) e
+    (subst (Runs (a .budget) (tables g) (calls g) (won g) (outputsOf (lent g)) (outputsOf (after r))) e
     (r .run .ensures .1))
-    (work-cleared (tables g) (words r) (a .work .now) (r .run .last .1 .1 .1 .1 .1 .1 .1 .1 .1 .0)
+    (work-cleared (tables g) (words r) (a .work .now) (r .run .last .1 .1 .1 .1 .1 .1 .1 .1 .0)
     (sized r .work-words .ensures)
     (passed (sized r .before) .work-size)
     (r .run .ensures .0))
@@ -104,7 +104,7 @@ number-requires c κs = search needs
 returns : tie.Need-returns
 returns c =
     let g = c .before .before .before .before .before .before .before .before .before .before .before in
-    solves-refused (g .args .compute-strategy) (g .args .budget) (tables g) (calls g) (won g) (lent g) _
+    solves-refused (g .args .budget) (tables g) (calls g) (won g) (lent g) _
     (c .before .before .check-all .ensures)
     (refusal-not-zero (c .before .before .check-all .result) (c .if1 .taken) (c .before .number .ensures))
 
