@@ -1,5 +1,5 @@
--- What a reader may conclude: yes is right, right answers get yes, 25 is given exactly where 22 would be and every entry is none, and any
--- two results that meet the promise are the same.
+-- What a reader may conclude: yes is right, right answers get yes, 25 is given exactly where 22 would be and every entry is none,
+-- and any two results that meet the promise are the same.
 use mathlib.Core.Bool.{true}
 use mathlib.Core.List.{List}
 use mathlib.Core.Logic.{_⊎_}

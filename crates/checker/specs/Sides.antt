@@ -1,4 +1,5 @@
--- The kinds 21 to 23, and 25 in the place of 22: the tests as the code makes them, and that a search over them gives the rule's verdicts.
+-- The kinds 21 to 23, and 25 in the place of 22: the tests as the code makes them, and that a search over them gives the rule's
+-- verdicts.
 use mathlib.Core.Bool.{Bool, true, false, _||_, not, cond}
 use mathlib.Core.List.{List, List·Memᴰ}
 use mathlib.Core.Logic.{_⊎_, ⊎-elim}
@@ -122,7 +123,8 @@ chosen-nowhere strategy h =
     (λ v l. eq-eqb (entry strategy v) noEntry (sym (getD-within strategy v 0 noEntry l) ∙ h v l)))
 
 -- the number by what was told of the entries
-pub number-is : (strategy : List ℕ) {told : Bool} → told ≡ unchosen strategy → (b : Bool) → told ≡ b → cond b 25 22 ≡ entryNumber strategy
+pub number-is :
+    (strategy : List ℕ) {told : Bool} → told ≡ unchosen strategy → (b : Bool) → told ≡ b → cond b 25 22 ≡ entryNumber strategy
 number-is strategy e b is = ap (λ (x : Bool). cond x 25 22) (sym is ∙ e)
 
 unfoldable pub sideOf : List ℕ → ℕ → ℕ → Bool

@@ -1,5 +1,5 @@
--- The checker's kinds 21 to 24, on two sets and a strategy, kind by kind in this order, with 25 in the place of 22 where every entry is none;
--- and what the function gives back and leaves, for every input.
+-- The checker's kinds 21 to 24, on two sets and a strategy, kind by kind in this order, with 25 in the place of 22 where every
+-- entry is none; and what the function gives back and leaves, for every input.
 use mathlib.Core.Bool.{Bool, _&&_, _||_, not, cond}
 use mathlib.Core.List.{List}
 use mathlib.Core.Path.{_≡_}

@@ -1,5 +1,5 @@
--- 25 in the place of 22: it is given exactly where 21 is not, 22 would be given and every entry is none, and at the place that 22 would have;
--- then 22 is never given, and where some entry is not none all is as without 25.
+-- 25 in the place of 22: it is given exactly where 21 is not, 22 would be given and every entry is none, and at the place that 22
+-- would have; then 22 is never given, and where some entry is not none all is as without 25.
 use mathlib.Core.Bool.{Bool, true, false, not, cond}
 use mathlib.Core.List.{List}
 use mathlib.Core.Logic.{_⊎_, inl, inr, ⊎-elim}
@@ -95,7 +95,10 @@ module _ (g : Game) (even odd strategy : List ℕ) where
       ⊎-elim (λ a. absurd (not21 (number-own 21 _ _ a)))
       (λ r.
       ⊎-elim (λ b. (r .0, b))
-      (λ s. absurd (⊎-elim (λ c. not23 (number-own 23 _ _ c)) (λ d. not24 (number-own 24 _ _ (d .1))) (then-given (check23 g even strategy) _ (s .1))))
+      (λ s.
+      absurd
+      (⊎-elim (λ c. not23 (number-own 23 _ _ c)) (λ d. not24 (number-own 24 _ _ (d .1)))
+      (then-given (check23 g even strategy) _ (s .1))))
       (then-given (check22 g even strategy) _ (r .1)))
       (then-given (check21 (g .size) even odd) _ e)
 
@@ -140,7 +143,9 @@ module _ (g : Game) (even odd strategy : List ℕ) where
   no-strategy-own {v} u =
       let (l, bad) = holds-there 22 (g .size) (badEntry g even strategy) (u .wrong) in
       ⊎-elim (λ p. p)
-      (λ p. absurd (clash bad (otherwise (ownWinner g even v) _ _ p ∙ ap not (eq-eqb (entry strategy v) noEntry (u .entries v l)))))
+      (λ p.
+      absurd
+      (clash bad (otherwise (ownWinner g even v) _ _ p ∙ ap not (eq-eqb (entry strategy v) noEntry (u .entries v l)))))
       (bool-cases (ownWinner g even v))
     where
       otherwise : (b x y : Bool) → b ≡ false → cond b x y ≡ y

@@ -11,7 +11,8 @@ use lib.ListN.{length, getD}
 use Rattle.rules.specs.Counting.{Set}
 use Rattle.rules.specs.Outcome.{answered}
 use Rattle.parity_game.specs.Search.{FailsBelow, outcome-found, outcome-none}
-use Rattle.checker.specs.Sides.{entryNumber, wrongEntry, edges-end, from-more, entry-other, entry-none, entry-target, entry-no-target}
+use Rattle.checker.specs.Sides.{entryNumber, wrongEntry, edges-end, from-more}
+use Rattle.checker.specs.Sides.{entry-other, entry-none, entry-target, entry-no-target}
 use native.Mathlib.Omega.{arith}
 use borrow.Author.Needs.{needs}
 use Rattle.checker.proofs.sides.check_entries.Statement.{statement}
