@@ -19,3 +19,4 @@ pub mod Pgsolver
 pub mod Reading
 pub mod Decimal
 pub mod Printing
+pub mod Mending
