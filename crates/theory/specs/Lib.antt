@@ -1,5 +1,5 @@
 -- Theorems about the rules alone: one winner, dominions, attractors, Zielonka's recursion and its bound, strongly connected parts,
--- solitaire, the checker, priority promotion, relabelled priorities, and the worked games.
+-- solitaire, the checker, priority promotion, relabelled priorities, mended exports, and the worked games.
 pub mod Basics
 pub mod Walks
 pub mod Orbit
@@ -48,4 +48,9 @@ pub mod PromotionBound
 pub mod PromotionAccepted
 pub mod CompactionFewest
 pub mod CompactionAnswers
+pub mod Mending
+pub mod MendingAccepted
+pub mod MendingKeeps
+pub mod MendingWinner
+pub mod MendingTold
 pub mod Worked
