@@ -46,6 +46,8 @@ pub const BAD_IDENTIFIER: u64 = 31;
 
 pub const BEYOND_LIMIT: u64 = 32;
 
+pub const SHORT_OUTPUT: u64 = 35;
+
 pub enum Answer {
     // Calls, rounds, looks, a length, or 0 where nothing is counted.
     Answered(u64),

@@ -54,7 +54,7 @@ fn check_edges(m: usize) -> Answer
 }
 
 // 1 to 3: the sizes.
-fn check_lengths(n: usize, priorities: usize, offsets: usize, m: usize) -> Answer
+pub fn check_lengths(n: usize, priorities: usize, offsets: usize, m: usize) -> Answer
     ensures { λ r. ⌜ said r ≡ outcome (check1 n then check2 n priorities offsets then check3 m) (answered 0) ⌝ }
 {
     let r = check_vertices(n);
@@ -69,7 +69,7 @@ fn check_lengths(n: usize, priorities: usize, offsets: usize, m: usize) -> Answe
 }
 
 // 4: every owner is 0 or 1.
-fn check_owners(owners: &[u8]) -> Answer
+pub fn check_owners(owners: &[u8]) -> Answer
     ensures { λ r. ⌜ said r ≡ outcome (check4 (length (now (owners .entry))) (now (owners .entry))) (answered 0) ⌝ }
 {
     for v in 0..owners.len() {
@@ -81,7 +81,7 @@ fn check_owners(owners: &[u8]) -> Answer
 }
 
 // 5: no priority is above 255.
-fn check_priorities(priorities: &[u16]) -> Answer
+pub fn check_priorities(priorities: &[u16]) -> Answer
     ensures { λ r.
         ⌜ said r ≡ outcome (check5 (length (now (priorities .entry))) (now (priorities .entry))) (answered 0) ⌝ }
 {
@@ -94,7 +94,7 @@ fn check_priorities(priorities: &[u16]) -> Answer
 }
 
 // 6: the offsets begin at 0, never fall and end at m.
-fn check_offsets(offsets: &[u16], n: usize, m: usize) -> Answer
+pub fn check_offsets(offsets: &[u16], n: usize, m: usize) -> Answer
     requires { ⌜ length (now offsets) ≡ n + 1 ⌝ }
     ensures { λ r. ⌜ said r ≡ outcome (check6 n m (now (offsets .entry))) (answered 0) ⌝ }
 {

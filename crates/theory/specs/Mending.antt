@@ -1,27 +1,26 @@
 -- Mending an incomplete export: what the refusals 1 to 6 leave, how long the new table of edges and the list are, and how to read
 -- the list from its length.
-use mathlib.Core.Bool.{Bool, true, false, not, _||_, cond}
-use mathlib.Core.List.{List, [], _∷_, _++_, List·Memᴰ, List·Memᴰ·append-cases, List·Memᴰ·eq-of-singleton, List·Memᴰ·not-nil}
+use mathlib.Core.Bool.{Bool, true, false, not, cond}
+use mathlib.Core.List.{List, [], _∷_, _++_, List·Memᴰ, List·Memᴰ·not-nil}
 use mathlib.Core.List.{List·Memᴰ·cases-cons, List·Memᴰ·head, List·Memᴰ·tail}
-use mathlib.Core.Logic.{_⊎_, inl, inr, ⊎-elim}
-use mathlib.Core.Path.{_≡_, refl, sym, ap, _∙_}
+use mathlib.Core.Logic.{⊎-elim}
+use mathlib.Core.Path.{_≡_, refl, ap, _∙_}
 use Prim.Native.Nat.{ℕ, zero, suc, _+_, _-_, _*_, _/_, _≤_, _<_}
-use native.Mathlib.Nat.{le-refl, le-trans, le-of-lt, le-step, add-zero, add-suc}
+use native.Mathlib.Nat.{le-refl, add-zero, add-suc}
 use native.Mathlib.Numerals.{add-one}
 use native.Mathlib.Omega.{arith}
-use borrow.Author.Tests.{ltb-true, eqb-true, eqb-false, eq-eqb, le-ltb, lt-leb, ne-eqb}
-use lib.Dec.{eqb, ltb, leb}
-use lib.ListN.{length, getD, take, drop, length-append, length-take, length-drop}
-use lib.Seq.{take-suc, getD-drop, length-take-le, take-append-le, take-append-seam}
-use Rattle.rules.specs.Counting.{Set, some, count, listed}
-use Rattle.rules.specs.Game.{Player, Even, Odd, playerOf}
-use Rattle.rules.specs.Mending.{keep, keptTargets, altered, newTargets, losingPriority, newPriority, newTargetsUpTo, mended}
-use Rattle.rules.specs.Mending.{droppedUpTo, alteredUpTo, mendingList, MendingLent, mendingChecks, check35}
-use Rattle.rules.specs.Outcome.{Verdict, none, given, givenAt, _then_}
-use Rattle.rules.specs.Tables.{Tables, vertices, edgesIn, degree, targetsOf, tableChecks, Accepted}
-use Rattle.rules.specs.Tables.{check1, check2, check3, check4, check5, check6, check7, check8}
-use Rattle.theory.specs.Basics.{bool-cases, clash, false-some, length-listed, getD-listed, place-member}
-use Rattle.theory.specs.Tables.{offset, Sound, Offsets, never-falls, then-none}
+use borrow.Author.Tests.{eqb-true, eqb-false}
+use lib.Dec.{eqb, ltb}
+use lib.ListN.{length, getD, take, drop, length-append, length-drop}
+use lib.Seq.{take-suc, getD-drop}
+use Rattle.rules.specs.Counting.{Set, count}
+use Rattle.rules.specs.Mending.{keep, keptTargets, altered, newTargets, newTargetsUpTo, mended}
+use Rattle.rules.specs.Mending.{droppedUpTo, alteredUpTo, mendingList}
+use Rattle.rules.specs.Outcome.{Verdict, none, _then_}
+use Rattle.rules.specs.Tables.{Tables, vertices, edgesIn, degree, targetsOf}
+use Rattle.rules.specs.Tables.{check1, check2, check3, check4, check5, check6}
+use Rattle.theory.specs.Basics.{bool-cases}
+use Rattle.theory.specs.Tables.{offset, never-falls, then-none}
 use Rattle.theory.specs.Tables.{check1-none, check2-none, check3-none, check4-none, check5-none, check6-none}
 
 -- ---- entries that pass a test
@@ -52,7 +51,8 @@ pub keep-all :
     (test : ℕ → Bool) (xs : List ℕ) → ((w : ℕ) → List·Memᴰ w xs → test w ≡ true) → keep test xs ≡ xs
 unfolding keep
 keep-all test [] h = refl
-keep-all test (x ∷ xs) h = rw (h x (List·Memᴰ·head refl)) (ap (λ (zs : List ℕ). x ∷ zs) (keep-all test xs (λ w m. h w (List·Memᴰ·tail m))))
+keep-all test (x ∷ xs) h =
+    rw (h x (List·Memᴰ·head refl)) (ap (λ (zs : List ℕ). x ∷ zs) (keep-all test xs (λ w m. h w (List·Memᴰ·tail m))))
 
 -- ---- what the refusals 1 to 6 leave
 

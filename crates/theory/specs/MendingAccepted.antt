@@ -1,27 +1,27 @@
 -- Mended tables pass document 01's checks, and tables that passed them already come back the same, with an empty list.
-use mathlib.Core.Bool.{Bool, true, false, not, _||_, cond}
-use mathlib.Core.List.{List, [], _∷_, _++_, List·Memᴰ, List·Memᴰ·append-cases, List·Memᴰ·eq-of-singleton, List·Memᴰ·not-nil}
+use mathlib.Core.Bool.{true, false}
+use mathlib.Core.List.{List, [], List·Memᴰ, List·Memᴰ·append-cases, List·Memᴰ·eq-of-singleton, List·Memᴰ·not-nil}
 use mathlib.Core.Logic.{⊎-elim}
 use mathlib.Core.Path.{_≡_, refl, sym, ap, _∙_}
 use Prim.Native.Nat.{ℕ, zero, suc, _+_, _-_, _≤_, _<_, min}
-use native.Mathlib.Nat.{le-refl, le-trans, le-of-lt, le-step}
+use native.Mathlib.Nat.{le-refl, le-of-lt}
 use native.Mathlib.Numerals.{add-one}
 use native.Mathlib.Omega.{arith}
-use borrow.Author.Tests.{ltb-true, lt-ltb, eqb-true, eqb-false, eq-eqb, le-ltb, lt-leb, ne-eqb}
+use borrow.Author.Tests.{ltb-true, lt-ltb, eq-eqb, le-ltb, lt-leb, ne-eqb}
 use lib.Dec.{eqb, ltb, leb}
-use lib.ListN.{length, getD, take, drop, length-take, length-drop}
+use lib.ListN.{length, getD, take, length-take, length-drop}
 use lib.Seq.{take-all, take-add, length-take-le, ext-getD}
-use Rattle.rules.specs.Counting.{Set, some, count, listed}
+use Rattle.rules.specs.Counting.{Set}
 use Rattle.rules.specs.Game.{Player, Even, Odd, playerOf}
 use Rattle.rules.specs.Mending.{keptTargets, altered, newTargets, losingPriority, newPriority, newTargetsUpTo, mended}
 use Rattle.rules.specs.Mending.{droppedUpTo, alteredUpTo, mendingList}
-use Rattle.rules.specs.Outcome.{Verdict, none, given, givenAt, _then_}
+use Rattle.rules.specs.Outcome.{none, givenAt}
 use Rattle.rules.specs.Tables.{Tables, tablesOf, vertices, edgesIn, degree, targetsOf, gameOf, tableChecks, Accepted}
 use Rattle.rules.specs.Tables.{check1, check2, check3, check4, check5, check6, check7, check8}
 use Rattle.theory.specs.Basics.{bool-cases, false-some, length-listed, getD-listed, place-member}
 use Rattle.theory.specs.Tables.{offset, Sound, never-falls, accepted-sound, accepted-total}
-use Rattle.theory.specs.Mending.{keep-passes, keep-all, exportChecks, Shaped, Mendable, export-mendable, isVertex, isDropped}
-use Rattle.theory.specs.Mending.{new-positive, new-length-more, degree-spans, offset-within, mended-length}
+use Rattle.theory.specs.Mending.{keep-passes, keep-all, exportChecks, Shaped, Mendable, export-mendable, isVertex}
+use Rattle.theory.specs.Mending.{new-positive, new-length-more, degree-spans, offset-within}
 
 -- ---- tables that are sound are accepted
 

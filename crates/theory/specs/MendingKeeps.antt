@@ -1,24 +1,24 @@
 -- What mending keeps: the priority of every vertex that is not altered, and of every edge that is not dropped its target and its
 -- order among its vertex's edges. The list names exactly the dropped edges, and the altered vertices each with its old priority.
-use mathlib.Core.Bool.{Bool, true, false, not, cond}
-use mathlib.Core.List.{List, [], _∷_, _++_, append-assoc, append-nil, List·Memᴰ, List·Memᴰ·append-cases, List·Memᴰ·eq-of-singleton}
+use mathlib.Core.Bool.{true, false, cond}
+use mathlib.Core.List.{List, [], _∷_, _++_, append-assoc, append-nil, List·Memᴰ, List·Memᴰ·append-cases}
+use mathlib.Core.List.{List·Memᴰ·eq-of-singleton}
 use mathlib.Core.List.{List·Memᴰ·not-nil, List·Memᴰ·head, Memᴰ·append-left, Memᴰ·append-right}
 use mathlib.Core.Logic.{⊎-elim, _↔_}
-use mathlib.Core.Path.{_≡_, refl, sym, ap, _∙_}
+use mathlib.Core.Path.{_≡_, sym, _∙_}
 use Prim.Native.Nat.{ℕ, zero, suc, _+_, _-_, _*_, _≤_, _<_}
-use native.Mathlib.Nat.{le-refl, le-of-lt, add-zero, add-suc, not-suc-le-zero}
+use native.Mathlib.Nat.{le-of-lt, add-zero, add-suc, not-suc-le-zero}
 use native.Mathlib.Omega.{arith}
 use borrow.Author.Tests.{ltb-false, le-ltb}
-use lib.Dec.{eqb, ltb}
 use lib.ListN.{length, getD, take, drop, length-append, List·getD-append}
 use lib.Seq.{take-append-seam, drop-append-seam, getD-append-seam, getD-append-add}
 use Rattle.rules.specs.Counting.{count}
 use Rattle.rules.specs.Game.{playerOf}
 use Rattle.rules.specs.Mending.{keep, keptTargets, altered, newTargets, losingPriority, newPriority, newTargetsUpTo, mended}
 use Rattle.rules.specs.Mending.{droppedUpTo, alteredUpTo}
-use Rattle.rules.specs.Tables.{Tables, vertices, edgesIn, degree, targetsOf, gameOf}
-use Rattle.theory.specs.Basics.{bool-cases, clash, below-suc}
-use Rattle.theory.specs.Mending.{isVertex, isDropped, altered-length}
+use Rattle.rules.specs.Tables.{Tables, vertices, edgesIn, targetsOf, gameOf}
+use Rattle.theory.specs.Basics.{bool-cases, below-suc}
+use Rattle.theory.specs.Mending.{isVertex, altered-length}
 use Rattle.theory.specs.MendingAccepted.{mended-priority, mended-offset, mended-degree}
 
 -- ---- priorities

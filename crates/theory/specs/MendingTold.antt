@@ -1,23 +1,22 @@
--- What the result and the list tell: two exports with the same owners and offsets that are mended to the same tables with the same
--- list have the same priorities and drop the same edges, and all their other targets are the same.
-use mathlib.Core.Bool.{Bool, true, false, not, cond}
-use mathlib.Core.List.{List, [], _∷_, _++_, List·Memᴰ}
+-- What the result and the list tell: two exports with the same owners and offsets that are mended to the same tables with the
+-- same list have the same priorities and drop the same edges, and all their other targets are the same.
+use mathlib.Core.Bool.{Bool, true, false}
+use mathlib.Core.List.{List, [], _∷_, _++_}
 use mathlib.Core.Logic.{⊎-elim}
-use mathlib.Core.Path.{_≡_, refl, sym, ap, _∙_, subst}
-use Prim.Native.Nat.{ℕ, zero, suc, _+_, _-_, _*_, _≤_, _<_, suc-le-suc, zero-le, min}
-use native.Mathlib.Nat.{le-refl, le-of-lt, le-step, not-suc-le-zero, le-of-suc-le-suc}
+use mathlib.Core.Path.{_≡_, refl, sym, ap, _∙_}
+use Prim.Native.Nat.{ℕ, zero, suc, _+_, _-_, _≤_, _<_, suc-le-suc, zero-le}
+use native.Mathlib.Nat.{le-refl, le-of-lt, not-suc-le-zero, le-of-suc-le-suc}
 use native.Mathlib.Omega.{arith}
 use borrow.Author.Tests.{eqb-true}
-use lib.Dec.{eqb, ltb}
+use lib.Dec.{eqb}
 use lib.ListN.{length, getD, take, drop, length-take, length-drop}
 use lib.Seq.{take-at, drop-at, ext-getD, getD-take, getD-drop}
-use Rattle.rules.specs.Counting.{count}
 use Rattle.rules.specs.Mending.{keep, keptTargets, altered, newTargets, mended, droppedUpTo, alteredUpTo, mendingList}
 use Rattle.rules.specs.Tables.{Tables, tablesOf, vertices, edgesIn, degree, targetsOf, gameOf}
-use Rattle.theory.specs.Basics.{bool-cases, bool-ext, not-true-is-false, not-false-is-true, clash, below-suc, lt-or-ge, count-cong}
+use Rattle.theory.specs.Basics.{bool-cases, bool-ext, not-false-is-true, clash, lt-or-ge, count-cong}
 use Rattle.theory.specs.Tables.{offset}
-use Rattle.theory.specs.Mending.{Shaped, Mendable, isVertex, isDropped, kept-dropped-at, degree-spans, offset-within}
-use Rattle.theory.specs.Mending.{list-length, mended-length, list-read-altered, list-read-dropped}
+use Rattle.theory.specs.Mending.{Shaped, Mendable, isVertex, kept-dropped-at, degree-spans, offset-within}
+use Rattle.theory.specs.Mending.{list-length, mended-length}
 use Rattle.theory.specs.MendingKeeps.{mended-targets, unaltered-priority, listed-dropped, dropped-listed, altered-place}
 
 -- ---- lists

@@ -1,14 +1,14 @@
 -- Who wins a mended dead end: its owner's opponent. The self loop is its owner's one choice, and its priority is the opponent's.
-use mathlib.Core.Bool.{true, false}
-use mathlib.Core.List.{List, [], _∷_, List·Memᴰ·eq-of-singleton}
-use mathlib.Core.Path.{_≡_, refl, sym, ap, _∙_, subst}
-use Prim.Native.Nat.{ℕ, max, _≤_, _<_}
+use mathlib.Core.Bool.{true}
+use mathlib.Core.List.{List·Memᴰ·eq-of-singleton}
+use mathlib.Core.Path.{_≡_, refl, ap, _∙_, subst}
+use Prim.Native.Nat.{ℕ, _<_}
 use native.Mathlib.Omega.{arith}
-use lib.ListN.{length, getD}
-use Rattle.rules.specs.Game.{Player, Even, Odd, opponent, parity, playerOf, Game, Edge}
-use Rattle.rules.specs.Mending.{altered, losingPriority, mended, newTargets}
+use lib.ListN.{getD}
+use Rattle.rules.specs.Game.{Player, Even, Odd, opponent, parity, playerOf}
+use Rattle.rules.specs.Mending.{altered, losingPriority, mended}
 use Rattle.rules.specs.Tables.{Tables, vertices, gameOf}
-use Rattle.rules.specs.Winning.{Walk, one, more, Cycle, Reach, here, step, Step, WinsBy, Wins}
+use Rattle.rules.specs.Winning.{Walk, one, more, Reach, here, step, Step, Wins}
 use Rattle.theory.specs.Basics.{place-member}
 use Rattle.theory.specs.Mending.{new-positive}
 use Rattle.theory.specs.MendingKeeps.{mended-targets, altered-targets, altered-priority}
@@ -57,5 +57,6 @@ dead-end-lost t v l p =
       wins =
           λ u highest reach cycle.
           let there : u ≡ v = only-here (g .priority) R v stays v u refl reach in
-          ap parity (only-priority (g .priority) R v stays u u highest there cycle ∙ altered-priority t v l p) ∙ losing-parity loser;
+          ap parity (only-priority (g .priority) R v stays u u highest there cycle ∙ altered-priority t v l p) ∙
+          losing-parity loser;
     }
