@@ -1,0 +1,124 @@
+// Mending an incomplete export: edges that lead to no vertex are dropped, and a vertex that is left without an edge gets a self loop
+// that its owner loses. What is needed of each output is counted first, so that a refusal writes nothing.
+mod counts;
+mod edges;
+mod list;
+mod priorities;
+
+use counts::altered_vertices;
+use counts::dropped_edges;
+use edges::write_edges;
+use list::write_list;
+use parity_game::Answer;
+use parity_game::SHORT_OUTPUT;
+use parity_game::TOO_MANY_EDGES;
+use priorities::write_priorities;
+ghost use mathlib.Core.Path.{_≡_};
+ghost use Prim.Native.Nat.{_≤_};
+ghost use Rattle.rules.specs.Mending.{Mends};
+ghost use Rattle.rules.specs.Outcome.{outcome, answered};
+ghost use Rattle.rules.specs.Tables.{tablesOf};
+ghost use Rattle.parity_game.specs.Said.{said};
+ghost use Rattle.theory.specs.Mending.{exportChecks};
+ghost use Rattle.mend.specs.Laws.{lentOf, roomChecks};
+
+// 1 to 6, for any four slices whatever they hold.
+fn check_export(owners: &[u8], priorities: &[u16], offsets: &[u16], targets: &[u16]) -> Answer
+    ensures { λ r.
+        ⌜ said r
+        ≡ outcome
+        (exportChecks
+        (tablesOf (now (owners .entry)) (now (priorities .entry)) (now (offsets .entry)) (now (targets .entry))))
+        (answered 0) ⌝ }
+{
+    let n = owners.len();
+    let m = targets.len();
+    let r = parity_game::check_lengths(n, priorities.len(), offsets.len(), m);
+    if r.number() != 0 {
+        return r;
+    }
+    let r = parity_game::check_owners(owners);
+    if r.number() != 0 {
+        return r;
+    }
+    let r = parity_game::check_priorities(priorities);
+    if r.number() != 0 {
+        return r;
+    }
+    parity_game::check_offsets(offsets, n, m)
+}
+
+// 35: each output and the list have the room that is needed.
+fn check_rooms(
+    n: usize,
+    edges: usize,
+    entries: usize,
+    priorities: usize,
+    offsets: usize,
+    targets: usize,
+    list: usize,
+) -> Answer
+    requires { ⌜ n ≤ 4096 ⌝ }
+    ensures { λ r. ⌜ said r ≡ outcome (roomChecks n edges entries priorities offsets targets list) (answered 0) ⌝ }
+{
+    if priorities < n {
+        return Answer::Refused(SHORT_OUTPUT);
+    }
+    if offsets < n + 1 {
+        return Answer::Refused(SHORT_OUTPUT);
+    }
+    if targets < edges {
+        return Answer::Refused(SHORT_OUTPUT);
+    }
+    if list < entries {
+        return Answer::Refused(SHORT_OUTPUT);
+    }
+    Answer::Answered(0)
+}
+
+// Writes the mended tables and the list of what was done, for every input.
+pub fn mend(
+    owners: &[u8],
+    priorities: &[u16],
+    offsets: &[u16],
+    targets: &[u16],
+    new_priorities: &mut [u16],
+    new_offsets: &mut [u16],
+    new_targets: &mut [u16],
+    list: &mut [u16],
+) -> Answer
+    ensures { λ r.
+        ⌜ Mends
+        (tablesOf (now (owners .entry)) (now (priorities .entry)) (now (offsets .entry)) (now (targets .entry)))
+        (lentOf (now («new_priorities» .entry)) (now («new_offsets» .entry)) (now («new_targets» .entry)) (now (list .entry)))
+        (lentOf (now («new_priorities» .exit)) (now («new_offsets» .exit)) (now («new_targets» .exit)) (now (list .exit)))
+        (said r) ⌝ }
+{
+    let r = check_export(owners, priorities, offsets, targets);
+    if r.number() != 0 {
+        return r;
+    }
+    let dropped = dropped_edges(owners, targets);
+    let altered = altered_vertices(owners, offsets, targets);
+    let edges = targets.len() - dropped + altered;
+    if 16384 < edges {
+        return Answer::Refused(TOO_MANY_EDGES);
+    }
+    let entries = dropped + 2 * altered;
+    let r = check_rooms(
+        owners.len(),
+        edges,
+        entries,
+        new_priorities.len(),
+        new_offsets.len(),
+        new_targets.len(),
+        list.len(),
+    );
+    if r.number() != 0 {
+        return r;
+    }
+    write_priorities(owners, priorities, offsets, targets, new_priorities);
+    write_edges(owners, offsets, targets, new_offsets, new_targets);
+    write_list(owners, priorities, offsets, targets, dropped, list);
+    Answer::Answered(entries as u64)
+}
