@@ -1,5 +1,5 @@
--- What the steps of mending and its callers go by: the checks in the order in which the code makes them, the sizes as it works them
--- out, what an answer and a refusal leave, and that an answer leaves tables that pass document 01's checks.
+-- What the steps of mending and its callers go by: the checks in the order in which the code makes them, the sizes as it works
+-- them out, what an answer and a refusal leave, and that an answer leaves tables that pass document 01's checks.
 use mathlib.Core.Bool.{_||_}
 use mathlib.Core.List.{List, []}
 use mathlib.Core.Path.{_≡_, refl, sym, ap, _∙_}
@@ -100,7 +100,9 @@ lateChecks t lent = check3 (length (mended t .targets)) then check35 t lent
 
 pub mending-grouped : (t : Tables) (lent : MendingLent) → mendingChecks t lent ≡ exportChecks t then lateChecks t lent
 unfolding mendingChecks
-mending-grouped t lent = six-then (check1 _) (check2 _ _ _) (check3 _) (check4 _ _) (check5 _ _) (check6 _ _ _) (lateChecks t lent)
+mending-grouped t lent =
+    six-then (check1 _) (check2 _ _ _) (check3 _) (check4 _ _) (check5 _ _) (check6 _ _ _)
+    (lateChecks t lent)
 
 module _ (t : Tables) (lent : MendingLent) (ok : exportChecks t ≡ none) where
   pub late-left : mendingChecks t lent ≡ lateChecks t lent

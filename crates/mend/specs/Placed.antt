@@ -61,7 +61,8 @@ module _ (at : ℕ) (ys before : List ℕ) where
       rw two-parts (take-at (take at before ++ ys) rest here (head-long fits)) in
       let back : drop (here + length zs) (placed at ys before) ≡ drop (here + length zs) before =
       sym (drop-drop (length zs) here (placed at ys before)) ∙
-      ap (λ (xs : List ℕ). drop (length zs) xs) (ap (λ (xs : List ℕ). drop here xs) two-parts ∙ drop-at (take at before ++ ys) rest here (head-long fits)) ∙
+      ap (λ (xs : List ℕ). drop (length zs) xs)
+      (ap (λ (xs : List ℕ). drop here xs) two-parts ∙ drop-at (take at before ++ ys) rest here (head-long fits)) ∙
       drop-drop (length zs) here before in
       let end : at + length (ys ++ zs) ≡ here + length zs = rw (length-append ys zs) (omega arith) in
       ap₂ (λ (xs xs' : List ℕ). xs ++ (zs ++ xs')) front back ∙

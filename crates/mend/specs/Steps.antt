@@ -11,12 +11,14 @@ use borrow.Author.Tests.{eq-eqb, ne-eqb}
 use lib.ListN.{length, getD, take, drop, length-append, length-take, take-append-drop}
 use lib.Seq.{take-take}
 use Rattle.rules.specs.Counting.{count}
-use Rattle.rules.specs.Mending.{keep, keptTargets, altered, newTargets, newPriority, newTargetsUpTo, mended, droppedUpTo, alteredUpTo}
+use Rattle.rules.specs.Mending.{keep, keptTargets, altered, newTargets, newPriority, newTargetsUpTo, mended, droppedUpTo}
+use Rattle.rules.specs.Mending.{alteredUpTo}
 use Rattle.parity_game.specs.Said.{odd-above-zero}
 use Rattle.rules.specs.Tables.{Tables, vertices, edgesIn, degree, targetsOf}
 use Rattle.theory.specs.Basics.{bool-cases}
 use Rattle.theory.specs.Tables.{offset, never-falls}
-use Rattle.theory.specs.Mending.{isVertex, kept-more, keep-append, new-length, dropped-length-more, new-length-more, altered-length}
+use Rattle.theory.specs.Mending.{isVertex, kept-more, keep-append, new-length, dropped-length-more, new-length-more}
+use Rattle.theory.specs.Mending.{altered-length}
 
 -- ---- the edges of a vertex
 

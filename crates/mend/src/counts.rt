@@ -44,7 +44,8 @@ pub fn altered_vertices(owners: &[u8], offsets: &[u16], targets: &[u16]) -> usiz
     requires { ⌜ Shaped (bare (now owners) (now offsets) (now targets)) ⌝ }
     ensures { λ r.
         ⌜ r ≡
-        count (length (now (owners .entry))) (altered (bare (now (owners .entry)) (now (offsets .entry)) (now (targets .entry)))) ⌝ }
+        count (length (now (owners .entry)))
+        (altered (bare (now (owners .entry)) (now (offsets .entry)) (now (targets .entry)))) ⌝ }
 {
     let mut alone = 0;
     for v in 0..owners.len() {

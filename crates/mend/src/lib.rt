@@ -1,5 +1,5 @@
-// Mending an incomplete export: edges that lead to no vertex are dropped, and a vertex that is left without an edge gets a self loop
-// that its owner loses. What is needed of each output is counted first, so that a refusal writes nothing.
+// Mending an incomplete export: edges that lead to no vertex are dropped, and a vertex that is left without an edge gets a self
+// loop that its owner loses. What is needed of each output is counted first, so that a refusal writes nothing.
 mod counts;
 mod edges;
 mod list;
@@ -105,7 +105,7 @@ pub fn mend(
         return Answer::Refused(TOO_MANY_EDGES);
     }
     let entries = dropped + 2 * altered;
-    let r = check_rooms(
+    let rooms = check_rooms(
         owners.len(),
         edges,
         entries,
@@ -114,8 +114,8 @@ pub fn mend(
         new_targets.len(),
         list.len(),
     );
-    if r.number() != 0 {
-        return r;
+    if rooms.number() != 0 {
+        return rooms;
     }
     write_priorities(owners, priorities, offsets, targets, new_priorities);
     write_edges(owners, offsets, targets, new_offsets, new_targets);

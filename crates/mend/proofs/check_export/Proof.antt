@@ -6,7 +6,8 @@ use borrow.Author.Needs.{needs}
 use lib.ListN.{length}
 use Rattle.rules.specs.Outcome.{Verdict, none, _then_, outcome, answered}
 use Rattle.rules.specs.Tables.{Tables, vertices, edgesIn, check1, check2, check3, check4, check5, check6}
-use Rattle.parity_game.specs.Laws.{passed, then-none, check2-none, lengthChecks, numbered-lengths, numbered-check4, numbered-check5}
+use Rattle.parity_game.specs.Laws.{passed, then-none, check2-none, lengthChecks, numbered-lengths, numbered-check4}
+use Rattle.parity_game.specs.Laws.{numbered-check5}
 use Rattle.parity_game.specs.Said.{said}
 use Rattle.parity_game.proofs.Matched.{went-on, stopped}
 use Rattle.theory.specs.Mending.{exportChecks}
@@ -40,7 +41,8 @@ out e = ap (λ (v : Verdict). outcome v (answered 0)) e
 lengths-pass : (c : tie.Else1) → lengthChecks (lent c) ≡ none
 lengths-pass c =
     let called = c .before .before .check-lengths in
-    went-on (called .result) (lengthChecks (lent c)) (c .if1 .left) (c .before .number .ensures) (numbered-lengths (lent c)) (called .ensures)
+    went-on (called .result) (lengthChecks (lent c)) (c .if1 .left) (c .before .number .ensures) (numbered-lengths (lent c))
+    (called .ensures)
 
 -- the lengths that the check of the lengths left
 lengths-fit :
@@ -59,18 +61,22 @@ priorities-said :
     said (c .check-priorities .result) ≡ outcome (check5 (vertices t) (t .priorities)) (answered 0)
 priorities-said c =
     c .check-priorities .ensures ∙
-    ap (λ (n : ℕ). outcome (check5 n (lent2 (c .before) .priorities)) (answered 0)) (lengths-fit (c .before .before .before .before) .0)
+    ap (λ (n : ℕ). outcome (check5 n (lent2 (c .before) .priorities)) (answered 0))
+    (lengths-fit (c .before .before .before .before) .0)
 
 -- what is left past each check is the verdict on the tables
 left4 : (c : tie.Else1) → export4 (lent c) ≡ exportChecks (lent c)
-left4 c = passed (lengthChecks (lent c)) (export4 (lent c)) (exportChecks (lent c)) (lengths-pass c) (sym (export-grouped (lent c)))
+left4 c =
+    passed (lengthChecks (lent c)) (export4 (lent c)) (exportChecks (lent c)) (lengths-pass c)
+    (sym (export-grouped (lent c)))
 
 left5 : (c : tie.Else2) → export5 (lent2 c) ≡ exportChecks (lent2 c)
 left5 c =
     let t = lent2 c in
     let called = c .before .before .check-owners in
     let check = check4 (vertices t) (t .owners) in
-    let gave-none = went-on (called .result) check (c .if2 .left) (c .before .number2 .ensures) (numbered-check4 _ _) (called .ensures) in
+    let gave-none =
+    went-on (called .result) check (c .if2 .left) (c .before .number2 .ensures) (numbered-check4 _ _) (called .ensures) in
     passed check (export5 t) (exportChecks t) gave-none (left4 (c .before .before .before))
 
 left6 : (c : tie.Else3) → check6 (vertices (lent3 c)) (edgesIn (lent3 c)) (lent3 c .offsets) ≡ exportChecks (lent3 c)
@@ -78,7 +84,9 @@ left6 c =
     let t = lent3 c in
     let called = c .before .before .check-priorities in
     let check = check5 (vertices t) (t .priorities) in
-    let gave-none = went-on (called .result) check (c .if3 .left) (c .before .number3 .ensures) (numbered-check5 _ _) (priorities-said (c .before .before)) in
+    let gave-none =
+    went-on (called .result) check (c .if3 .left) (c .before .number3 .ensures) (numbered-check5 _ _)
+    (priorities-said (c .before .before)) in
     passed check (check6 (vertices t) (edgesIn t) (t .offsets)) (exportChecks t) gave-none (left5 (c .before .before .before))
 
 check-lengths-requires : tie.Need-check-lengths-requires
@@ -91,7 +99,8 @@ returns : tie.Need-returns
 returns c =
     let t = tables (c .before .before .before .before .before .before .before) in
     let called = c .before .before .check-lengths in
-    stopped (called .result) (lengthChecks t) (export4 t) (answered 0) (c .if1 .taken) (c .before .number .ensures) (called .ensures) ∙
+    stopped (called .result) (lengthChecks t) (export4 t) (answered 0) (c .if1 .taken) (c .before .number .ensures)
+    (called .ensures) ∙
     out (sym (export-grouped t))
 
 check-owners-requires : tie.Need-check-owners-requires
@@ -120,7 +129,8 @@ returns-3 c =
     let called = c .before .before .check-priorities in
     let check = check5 (vertices t) (t .priorities) in
     let sixth = check6 (vertices t) (edgesIn t) (t .offsets) in
-    stopped (called .result) check sixth (answered 0) (c .if3 .taken) (c .before .number3 .ensures) (priorities-said (c .before .before)) ∙
+    stopped (called .result) check sixth (answered 0) (c .if3 .taken) (c .before .number3 .ensures)
+    (priorities-said (c .before .before)) ∙
     out (left5 (c .before .before .before))
 
 check-offsets-requires : tie.Need-check-offsets-requires

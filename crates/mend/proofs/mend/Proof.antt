@@ -1,5 +1,5 @@
--- `mend` meets its contract. Past 1 to 6 the sizes are the rule's, past 3 and 35 every output has room, and what is written are the
--- rule's tables and its list.
+-- `mend` meets its contract. Past 1 to 6 the sizes are the rule's, past 3 and 35 every output has room, and what is written are
+-- the rule's tables and its list.
 use mathlib.Core.List.{List}
 use mathlib.Core.Path.{_≡_, sym, ap, _∙_}
 use Prim.Native.Nat.{ℕ, _≤_}
@@ -83,7 +83,8 @@ passes :
 passes c =
     let checked = c .before .before in
     let at = checked .before .before in
-    went-on (checked .check-rooms .result) (roomVerdict at) (c .if3 .left) (c .before .number2 .ensures) (numbered-rooms _ _ _ _ _ _ _) (rooms-said checked)
+    went-on (checked .check-rooms .result) (roomVerdict at) (c .if3 .left) (c .before .number2 .ensures)
+    (numbered-rooms _ _ _ _ _ _ _) (rooms-said checked)
 
 check-export-requires : tie.Need-check-export-requires
 check-export-requires c κs = search needs
@@ -97,7 +98,8 @@ returns c =
     let at = start (c .before .before) in
     let t = tables at in
     mends-refused t (lent at) (said (called .result))
-    (stopped (called .result) (exportChecks t) (lateChecks t (lent at)) (answered (length (mendingList t))) (c .if1 .taken) (c .before .number .ensures) (called .ensures) ∙
+    (stopped (called .result) (exportChecks t) (lateChecks t (lent at)) (answered (length (mendingList t))) (c .if1 .taken)
+    (c .before .number .ensures) (called .ensures) ∙
     ap (λ (v : Verdict). outcome v (answered (length (mendingList t)))) (sym (mending-grouped t (lent at))))
     (refusal-not-zero (called .result) (c .if1 .taken) (c .before .number .ensures))
 

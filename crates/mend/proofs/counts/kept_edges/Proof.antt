@@ -91,7 +91,8 @@ loop-again c =
           (λ w.
           rw (w .1, at .loop .inv .4) (kept-one-more t from e (at .loop .inv .0) (omega arith) (lt-ltb _ _ (w .0 .taken))))
           (λ w.
-          rw (w .1, at .loop .inv .4) (sym (ap length (kept-skip t from e (at .loop .inv .0) (omega arith) (le-ltb _ _ (w .0 .left))))))
+          rw (w .1, at .loop .inv .4)
+          (sym (ap length (kept-skip t from e (at .loop .inv .0) (omega arith) (le-ltb _ _ (w .0 .left))))))
           (c .if1 .came),
     )
 

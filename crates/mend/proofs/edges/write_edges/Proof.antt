@@ -86,9 +86,11 @@ loop-again c =
     let called = c .before .before .write-targets in (
       search needs,
       rw (ends at .0)
-          (written-listed (newOffset t) (start at .args .new-offsets .now) (at .loop .new-offsets) v (at .loop .inv .1) (room at .0)),
+          (written-listed (newOffset t) (start at .args .new-offsets .now) (at .loop .new-offsets) v (at .loop .inv .1)
+          (room at .0)),
       rw (new-next t v)
-          (written-then 0 (newTargetsUpTo t v) (start at .args .new-targets .now) (at .loop .new-targets) (at .loop .at) (newTargets t v) _
+          (written-then 0 (newTargetsUpTo t v) (start at .args .new-targets .now) (at .loop .new-targets) (at .loop .at)
+          (newTargets t v) _
           (called .result) (at .loop .inv .2) (called .ensures)),
     )
 
@@ -119,7 +121,8 @@ returns c =
     let within : v < length (before .new-offsets .now) = omega (arith, start at .pre) in
     let last = written-listed (newOffset t) (before .new-offsets .now) (at .loop .new-offsets) v (at .loop .inv .1) within in (
       rw (sym all, ends at .0) (rw (add-one v) at (written-front _ _ _ _ last)),
-      rw (sym all) (written-front (newTargetsUpTo t v) (before .new-targets .now) (at .loop .new-targets) (at .loop .at) (at .loop .inv .2)),
+      rw (sym all) (written-front (newTargetsUpTo t v) (before .new-targets .now) (at .loop .new-targets) (at .loop .at)
+          (at .loop .inv .2)),
     )
 
 pub write-edges-spec : {M : Type 1} → statement M

@@ -115,7 +115,8 @@ loop-again c =
           (λ a.
           let more = kept-one t from e (at .loop .inv .0) (omega arith) (lt-ltb _ _ (a .0 .taken)) in
           rw (a .1, a .2, more)
-          (written-more (start .args .at) (keptFrom t from e) (start .args .new-targets .now) (at .loop .new-targets) (at .loop .end)
+          (written-more (start .args .at) (keptFrom t from e) (start .args .new-targets .now) (at .loop .new-targets)
+          (at .loop .end)
           (getD (t .targets) e 0) w (room (record { before = c .before; if1 = a .0 }) .0)))
           (λ a.
           let same = kept-skip t from e (at .loop .inv .0) (omega arith) (le-ltb _ _ (a .0 .left)) in

@@ -20,7 +20,8 @@ returns : tie.Need-returns
 returns c =
     let start = c .before .before .before .before .before .before .before .before .before in
     let called = c .before .before .before .write-kept in
-    kept-written (tables start) (start .args .v) (start .args .at) (start .args .new-targets .now) (called .last .1 .1 .1 .1 .1 .0)
+    kept-written (tables start) (start .args .v) (start .args .at) (start .args .new-targets .now)
+    (called .last .1 .1 .1 .1 .1 .0)
     (called .result) (called .ensures) (c .if1 .taken)
 
 cast-new-targets : tie.Need-cast-new-targets
@@ -48,7 +49,8 @@ returns-2 : tie.Need-returns-2
 returns-2 c =
     let start = c .before .before .before .before .before .before .before .before .before in
     let called = c .before .before .before .write-kept in
-    loop-written (tables start) (start .args .v) (start .args .at) (start .args .new-targets .now) (called .last .1 .1 .1 .1 .1 .0)
+    loop-written (tables start) (start .args .v) (start .args .at) (start .args .new-targets .now)
+    (called .last .1 .1 .1 .1 .1 .0)
     (called .result) (called .ensures) (c .if1 .left) (start .pre .room)
 
 pub write-targets-spec : {M : Type 1} → statement M

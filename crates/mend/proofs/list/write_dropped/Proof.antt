@@ -99,7 +99,8 @@ returns c =
     let at = c .before in
     let t = tables (at .before) in
     let all : at .loop .e ≡ length (t .targets) = omega arith in
-    rw (sym all) (written-front (droppedUpTo t (at .loop .e)) (at .before .args .list .now) (at .loop .list) (at .loop .end) (at .loop .inv .2))
+    rw (sym all) (written-front (droppedUpTo t (at .loop .e)) (at .before .args .list .now) (at .loop .list) (at .loop .end)
+    (at .loop .inv .2))
 
 pub write-dropped-spec : {M : Type 1} → statement M
 write-dropped-spec =

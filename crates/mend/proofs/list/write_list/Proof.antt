@@ -19,8 +19,11 @@ start c = c .before .before .before .before .before .before
 
 write-dropped-requires : tie.Need-write-dropped-requires
 write-dropped-requires c κs =
-    let begun = start c in
-    (begun .pre .mendable .shaped .few-edges, first-room (tables begun) (begun .args .dropped) (begun .args .list .now) (begun .pre))
+    let begun = start c in (
+      begun .pre .mendable .shaped .few-edges,
+      first-room (tables begun) (begun .args .dropped) (begun .args .list .now)
+          (begun .pre),
+    )
 
 write-altered-requires : tie.Need-write-altered-requires
 write-altered-requires c κs =
@@ -38,7 +41,8 @@ returns c =
     let second = c .before .before in
     let first = second .before .before .before .before in
     let begun = start (first .before) in
-    parts-make-list (tables begun) (begun .args .dropped) (begun .args .list .now) (begun .pre) _ _ (first .write-dropped .ensures)
+    parts-make-list (tables begun) (begun .args .dropped) (begun .args .list .now) (begun .pre) _ _
+    (first .write-dropped .ensures)
     (second .write-altered .ensures)
 
 pub write-list-spec : {M : Type 1} → statement M

@@ -61,7 +61,8 @@ loop-again c =
       search needs,
       search needs,
       rw (c .new-priority .ensures)
-          (written-listed (newPriority t) (start at .args .new-priorities .now) (at .loop .new-priorities) (at .loop .v) (at .loop .inv .2)
+          (written-listed (newPriority t) (start at .args .new-priorities .now) (at .loop .new-priorities) (at .loop .v)
+          (at .loop .inv .2)
           (room c .0)),
     )
 
@@ -75,7 +76,8 @@ returns c =
     let t = tables (start at) in
     let all : at .loop .v ≡ length (t .owners) = omega arith in
     rw (sym all)
-    (written-front (listed (at .loop .v) (newPriority t)) (start at .args .new-priorities .now) (at .loop .new-priorities) (at .loop .v)
+    (written-front (listed (at .loop .v) (newPriority t)) (start at .args .new-priorities .now) (at .loop .new-priorities)
+    (at .loop .v)
     (at .loop .inv .2))
 
 pub write-priorities-spec : {M : Type 1} → statement M
