@@ -22,7 +22,7 @@
  * Each function returns a number, named below, and writes a place and a count. The count of an answer is what the function
  * says below. With 13 it is the budget, with every other number 0.
  *
- * Numbers 1 to 12 write nothing but place and count, where a function says nothing else. With 13 the sets and the strategy
+ * Numbers 1 to 12 and 35 write nothing but place and count, where a function says nothing else. With 13 the sets and the strategy
  * stay as they were. With 0, 13 and 21 to 25 the first W words of the work area are zero afterwards; words beyond W never
  * change.
  *
@@ -82,6 +82,7 @@
 #define RECKONBOUGH_BAD_IDENTIFIER 31   /* reading: identifiers 0 to n - 1 do not each appear once, or N is not n - 1;
                                            place: the lowest that does not, else n */
 #define RECKONBOUGH_BEYOND_LIMIT 32     /* reading: the byte goes beyond a limit; place: the byte */
+#define RECKONBOUGH_SHORT_OUTPUT 35     /* mend: an output or the list is shorter than needed */
 
 #ifdef __cplusplus
 extern "C" {
@@ -250,6 +251,28 @@ uint64_t reckonbough_read_tables(
     uint16_t *targets, size_t targets_length,
     uint64_t *work, size_t work_length,
     uint64_t *n, uint64_t *m,
+    uint64_t *place, uint64_t *count);
+
+/*
+ * Mends an incomplete export, whose targets need not be below n and whose vertices need no edge: drops each edge whose target
+ * is not below n, then gives every vertex that is left without an edge a self loop and, as its owner is stuck and loses there,
+ * priority 1 if the owner is Even and 0 if Odd. All other vertices, edges and their order stay; so do the owners. The result
+ * passes reckonbough_check_tables, and a game that passed already comes back the same, with an empty list.
+ * Writes new_priorities, n numbers; new_offsets, n + 1 numbers, the last of which is the new m; new_targets, the new m
+ * numbers; and list, count numbers: each dropped edge by its old index, ascending, then each altered vertex, ascending, each
+ * followed by its old priority. Each may be longer; the rest of it stays. n numbers, n + 1, m + n and m + 2 * n always do.
+ * To read the list: altered vertices = (count + new m - m) / 3, dropped edges = count - 2 * altered vertices.
+ * Gives 0, 1 to 6, 3 too where the result has more than 16384 edges (place 0), or 35 (place 0). The count is the list's length.
+ */
+uint64_t reckonbough_mend(
+    const uint8_t *owners, size_t owners_length,
+    const uint16_t *priorities, size_t priorities_length,
+    const uint16_t *offsets, size_t offsets_length,
+    const uint16_t *targets, size_t targets_length,
+    uint16_t *new_priorities, size_t new_priorities_length,
+    uint16_t *new_offsets, size_t new_offsets_length,
+    uint16_t *new_targets, size_t new_targets_length,
+    uint16_t *list, size_t list_length,
     uint64_t *place, uint64_t *count);
 
 #ifdef __cplusplus

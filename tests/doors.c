@@ -40,6 +40,7 @@ static void names(void)
         RECKONBOUGH_LEAVES_SET,
         RECKONBOUGH_LOSING_CYCLE,
         RECKONBOUGH_NO_STRATEGY,
+        RECKONBOUGH_SHORT_OUTPUT,
     };
     printf("numbers:");
     for (size_t i = 0; i < sizeof numbers / sizeof *numbers; i++)
@@ -67,6 +68,9 @@ static void no_vertices(void)
     print("solitaire of C1", reckonbough_solitaire(C1, NULL, 0, work, w, &place, &count));
     print("check of C1", reckonbough_check(C1, NULL, 0, NULL, 0, NULL, 0, work, w, &place, &count));
     print("compact of C1", reckonbough_compact(C1, NULL, 0, &place, &count));
+    uint16_t new_offset = 7;
+    print("mend of C1", reckonbough_mend(C1, NULL, 0, &new_offset, 1, NULL, 0, NULL, 0, &place, &count));
+    print("mend of C1, no offsets", reckonbough_mend(C1, NULL, 0, NULL, 0, NULL, 0, NULL, 0, &place, &count));
 }
 
 static const uint8_t c7_owners[] = {0, 1};
@@ -106,6 +110,29 @@ static void without_strategy(void)
           reckonbough_check(C7, &first, 1, &none, 1, nothing, 2, work, w, &place, &count));
 }
 
+/* An export with a dead end and two missing targets, its list read as the header says. */
+static void mending(void)
+{
+    static const uint8_t owners[] = {0, 1};
+    static const uint16_t priorities[] = {4, 7}, offsets[] = {0, 2, 3}, targets[] = {1, 9, 2};
+    uint16_t new_priorities[2], new_offsets[3], new_targets[5], list[7];
+#define HALF owners, 2, priorities, 2, offsets, 3, targets, 3
+    const uint64_t number =
+        reckonbough_mend(HALF, new_priorities, 2, new_offsets, 3, new_targets, 5, list, 7, &place, &count);
+    const size_t entries = (size_t)count, new_m = new_offsets[2];
+    const size_t altered = (entries + new_m - 3) / 3, dropped = entries - 2 * altered;
+    print("mend", number);
+    printf("  dropped edges:");
+    for (size_t i = 0; i < dropped; i++)
+        printf(" %u", (unsigned)list[i]);
+    printf("\n  altered vertices:");
+    for (size_t i = dropped; i < entries; i += 2)
+        printf(" %u was %u", (unsigned)list[i], (unsigned)list[i + 1]);
+    printf("\n");
+    print("check_tables of it",
+          reckonbough_check_tables(owners, 2, new_priorities, 2, new_offsets, 3, new_targets, new_m, &place, &count));
+}
+
 /*
  * The largest game, 2,048 pairs: E2 to the pair's other; E1 to itself and to the next pair. Zielonka's recursion nests 2,049
  * deep in it. One vertex more is refused.
@@ -143,6 +170,7 @@ int main(void)
     no_vertices();
     players();
     without_strategy();
+    mending();
     most_vertices();
     return 0;
 }

@@ -141,3 +141,39 @@ pub fn chain(n: usize) -> Game {
     }
     game
 }
+
+/// The incomplete export of a number: targets that are no vertices, and vertices without edges. One in 100 has 4,096 vertices,
+/// every other of those 16,384 edges, of which the self loops of dead ends may be too many.
+pub fn damaged(number: u64) -> Game {
+    let mut numbers = Numbers::new(number.wrapping_mul(0x0fed_cba9_8765_4321));
+    let full = number % 200 == 100;
+    let whole = match number % 200 {
+        0 => large(number / 200),
+        100 => of_most_edges(&mut numbers),
+        _ => random(number),
+    };
+    let (missing, dead) = ([1, 2, 5, 40, 5_000][numbers.below(5)], [3, 10, 100, 10_000][numbers.below(4)]);
+    let n = whole.n();
+    let outside = |numbers: &mut Numbers| [n, n, n + 1, n + numbers.below(65_536 - n), 65_535][numbers.below(5)] as u16;
+    let mut game = Game::empty();
+    for v in 0..n {
+        let edges = if !full && numbers.one_in(dead) { &[] } else { whole.edges(v) };
+        let targets: Vec<u16> =
+            edges.iter().map(|w| if numbers.one_in(missing) { outside(&mut numbers) } else { *w }).collect();
+        game.push(whole.owners[v], whole.priorities[v], &targets);
+    }
+    game
+}
+
+/// 4,096 vertices and 16,384 edges, up to four or eight at a vertex and the rest at the last one; some are dead ends.
+fn of_most_edges(numbers: &mut Numbers) -> Game {
+    let most = [4, 8][numbers.below(2)];
+    let mut game = Game::empty();
+    for v in 0..4_096 {
+        let left = 16_384 - game.m();
+        let many = if v == 4_095 { left } else { numbers.between(0, most).min(left) };
+        let targets: Vec<u16> = (0..many).map(|_| numbers.below(4_096) as u16).collect();
+        game.push(numbers.below(2) as u8, numbers.below(256) as u16, &targets);
+    }
+    game
+}

@@ -11,6 +11,10 @@ use compare::{definition, generate, list, probe, slip};
 /// Differences printed in full; the rest is counted.
 const SHOWN: u64 = 10;
 
+/// How many damaged exports are mended.
+#[cfg(feature = "port")]
+const DAMAGED: u64 = 20_000;
+
 fn main() {
     // The oracle and the reference recurse once for each call of the recursion on sets.
     let run = std::thread::Builder::new().stack_size(1 << 30).spawn(command).expect("a thread can be started");
@@ -43,6 +47,7 @@ fn all(random: u64, large: u64, allowed: u64) -> i32 {
     println!("limits: the definition up to {most} vertices, the rules up to {RULES_TO} / (1 + n + m) calls or rounds");
     let families = [
         boundaries(),
+        damaged(),
         family("worked games C2 to C9", worked().into_iter().map(|(_, game)| game).filter(|game| game.n() > 0)),
         family("two vertices", generate::two_vertices()),
         family("three vertices", generate::three_vertices()),
@@ -75,6 +80,31 @@ fn boundaries() -> Family {
         println!("DIFFERENCE at the limits: {what}");
         return Family { differ: 1, ..Family::default() };
     }
+    Family::default()
+}
+
+/// Exports that have to be mended, on the port alone: the oracle mends none.
+fn damaged() -> Family {
+    #[cfg(feature = "port")]
+    {
+        let (start, mut mended, mut refused, mut differ) = (Instant::now(), 0, 0, 0);
+        for number in 0..DAMAGED {
+            match compare::port_check::mending::compare(number) {
+                Ok(true) => mended += 1,
+                Ok(false) => refused += 1,
+                Err(what) => {
+                    differ += 1;
+                    if differ <= SHOWN {
+                        println!("DIFFERENCE in the damaged export {number}: {what}");
+                    }
+                }
+            }
+        }
+        let seconds = start.elapsed().as_secs_f64();
+        println!("damaged exports: {mended} mended alike, {refused} refused alike, {differ} differ, {seconds:.1} s");
+        return Family { differ, ..Family::default() };
+    }
+    #[cfg(not(feature = "port"))]
     Family::default()
 }
 

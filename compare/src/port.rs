@@ -131,6 +131,27 @@ impl Rooms {
     }
 }
 
+/// What is lent to [`mend`] to write into.
+#[derive(Clone, Debug, PartialEq, Eq)]
+pub struct Outputs {
+    pub priorities: Vec<u16>,
+    pub offsets: Vec<u16>,
+    pub targets: Vec<u16>,
+    pub list: Vec<u16>,
+}
+
+impl Outputs {
+    /// Of these lengths, with junk in them.
+    pub fn junk(priorities: usize, offsets: usize, targets: usize, list: usize) -> Outputs {
+        Outputs {
+            priorities: vec![0x7777; priorities],
+            offsets: vec![0x5a5a; offsets],
+            targets: vec![0xa5a5; targets],
+            list: vec![0xfeed; list],
+        }
+    }
+}
+
 /// Declares a door of the reader and gives the answer of calling it.
 macro_rules! reading {
     ($name:ident($text:expr, $most_bytes:expr, $rooms:expr)) => {{
@@ -163,4 +184,12 @@ pub fn read(text: &[u8], most_bytes: u64, rooms: &mut Rooms) -> Answer {
 
 pub fn read_tables(text: &[u8], most_bytes: u64, rooms: &mut Rooms) -> Answer {
     reading!(reckonbough_read_tables(text, most_bytes, rooms))
+}
+
+pub fn mend(game: &Game, lent: &mut Outputs) -> Answer {
+    door!(reckonbough_mend(game,
+        lent.priorities.as_mut_ptr() => *mut u16, lent.priorities.len() => usize,
+        lent.offsets.as_mut_ptr() => *mut u16, lent.offsets.len() => usize,
+        lent.targets.as_mut_ptr() => *mut u16, lent.targets.len() => usize,
+        lent.list.as_mut_ptr() => *mut u16, lent.list.len() => usize))
 }

@@ -1,6 +1,7 @@
 //! The port against the rules: number, place, count, and every lent word afterwards.
 
 mod claims;
+pub mod mending;
 mod refusals;
 
 use crate::compare::{same, Want};

@@ -11,7 +11,7 @@ pub struct Answer {
     pub number: u64,
     /// Where the refusal or the finding lies; 0 with an answer.
     pub place: u64,
-    /// Calls, rounds or looks of an answer, the budget with number 13, else 0.
+    /// Calls, rounds, looks or a list's length of an answer, the budget with number 13, else 0.
     pub count: u64,
 }
 
@@ -61,6 +61,8 @@ pub enum Refusal {
     BeyondLimit(usize),
     /// 25: no vertex has an entry, in the place of 22 and at the vertex that 22 would name.
     NoStrategy(usize),
+    /// 35: an output or a list shorter than needed.
+    ShortOutput,
     /// A number that this crate does not know. The library that it is made for gives none.
     Unknown {
         /// The number.
@@ -95,6 +97,7 @@ impl Refusal {
             Refusal::BadIdentifier(identifier) => (31, identifier),
             Refusal::BeyondLimit(byte) => (32, byte),
             Refusal::NoStrategy(vertex) => (25, vertex),
+            Refusal::ShortOutput => (35, 0),
             Refusal::Unknown { number, place } => (number, place),
         }
     }
@@ -127,6 +130,7 @@ impl Answer {
             31 => Refusal::BadIdentifier(place),
             32 => Refusal::BeyondLimit(place),
             25 => Refusal::NoStrategy(place),
+            35 => Refusal::ShortOutput,
             number => Refusal::Unknown { number, place },
         })
     }
@@ -157,6 +161,7 @@ impl fmt::Display for Refusal {
             Refusal::BadIdentifier(_) => (Some("identifier"), "the identifiers are not 0 to the highest, each once"),
             Refusal::BeyondLimit(_) => (Some("byte"), "the text goes beyond a limit"),
             Refusal::NoStrategy(_) => (Some("vertex"), "an entry is needed, and the strategy has none at all"),
+            Refusal::ShortOutput => (None, "an output or the list is too short"),
             Refusal::Unknown { .. } => (Some("place"), "a number that this crate does not know"),
         };
         let (number, place) = self.number_and_place();

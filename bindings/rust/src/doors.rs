@@ -119,6 +119,17 @@ extern "C" {
         n: *mut u64, m: *mut u64,
         place: *mut u64, count: *mut u64,
     ) -> u64;
+    fn reckonbough_mend(
+        owners: *const u8, owners_length: usize,
+        priorities: *const u16, priorities_length: usize,
+        offsets: *const u16, offsets_length: usize,
+        targets: *const u16, targets_length: usize,
+        new_priorities: *mut u16, new_priorities_length: usize,
+        new_offsets: *mut u16, new_offsets_length: usize,
+        new_targets: *mut u16, new_targets_length: usize,
+        list: *mut u16, list_length: usize,
+        place: *mut u64, count: *mut u64,
+    ) -> u64;
 }
 
 /// Calls a C function with the tables, its own arguments, place and count.
@@ -253,4 +264,20 @@ pub fn read(text: &[u8], most_bytes: u64, rooms: Rooms<'_>, work: &mut [u64]) ->
 /// Reads what a PGSolver text says, also where it is no game: as [`read`], but none of 1 to 8.
 pub fn read_tables(text: &[u8], most_bytes: u64, rooms: Rooms<'_>, work: &mut [u64]) -> (Answer, usize, usize) {
     read!(reckonbough_read_tables, text, most_bytes, rooms, work)
+}
+
+/// Writes the mended tables and the list of what was done: 0, 1 to 6, 3 too where the result has too many edges, or 35; the
+/// count is the list's length. n priorities, n + 1 offsets, m + n targets and a list of m + 2·n are always enough.
+pub fn mend(
+    tables: Tables<'_>,
+    new_priorities: &mut [u16],
+    new_offsets: &mut [u16],
+    new_targets: &mut [u16],
+    list: &mut [u16],
+) -> Answer {
+    call! {
+        reckonbough_mend, tables,
+        new_priorities.as_mut_ptr(), new_priorities.len(), new_offsets.as_mut_ptr(), new_offsets.len(),
+        new_targets.as_mut_ptr(), new_targets.len(), list.as_mut_ptr(), list.len()
+    }
 }

@@ -87,6 +87,17 @@ pub struct Attracted {
     pub looks: u64,
 }
 
+/// A mended export: the game, and what was done to get it.
+#[derive(Clone, Debug, PartialEq, Eq)]
+pub struct Mended {
+    /// The game that is left.
+    pub game: Game,
+    /// The edges that were dropped, by their old indexes, ascending.
+    pub dropped: Vec<usize>,
+    /// The vertices that got a self loop, ascending, each with its old priority.
+    pub altered: Vec<(usize, u16)>,
+}
+
 impl Game {
     /// From the vertices in order: owner, priority and where its edges go.
     ///
@@ -151,6 +162,37 @@ impl Game {
         Ok(game)
     }
 
+
+    /// From the tables of an incomplete export: drops each edge that ends at no vertex, then gives every vertex without an edge a
+    /// self loop and, as its owner is stuck and loses there, priority 1 if the owner is Even and 0 if Odd. All else stays. Tables
+    /// that [`from_tables`](Game::from_tables) takes come back as they are.
+    ///
+    /// Refuses by the numbers 1 to 6, [`Refusal::TooManyVertices`] to [`Refusal::BadOffset`], and by
+    /// [`TooManyEdges`](Refusal::TooManyEdges) where the result has too many.
+    ///
+    /// ```
+    /// # use reckonbough::{Game, Player::*, Tables};
+    /// let tables = Tables { owners: &[0, 1], priorities: &[4, 7], offsets: &[0, 2, 3], targets: &[1, 9, 2] };
+    /// let mended = Game::mend(tables)?;
+    /// assert_eq!(mended.game, Game::new(&[(Even, 4, &[1]), (Odd, 0, &[1])])?);
+    /// assert_eq!(mended.dropped, [1, 2]);
+    /// assert_eq!(mended.altered, [(1, 7)]);
+    /// # Ok::<(), reckonbough::Refusal>(())
+    /// ```
+    pub fn mend(tables: Tables<'_>) -> Result<Mended, Refusal> {
+        let (n, m) = (tables.owners.len(), tables.targets.len());
+        let (mut priorities, mut offsets) = (vec![0; n], vec![0; n + 1]);
+        let (mut targets, mut list) = (vec![0; m + n], vec![0; m + 2 * n]);
+        let count = doors::mend(tables, &mut priorities, &mut offsets, &mut targets, &mut list).result()? as usize;
+        targets.truncate(usize::from(offsets[n]));
+        let altered = (count + targets.len() - m) / 3;
+        let (dropped, pairs) = list[..count].split_at(count - 2 * altered);
+        Ok(Mended {
+            dropped: dropped.iter().map(|edge| usize::from(*edge)).collect(),
+            altered: pairs.chunks(2).map(|pair| (usize::from(pair[0]), pair[1])).collect(),
+            game: Game { owners: tables.owners.to_vec(), priorities, offsets, targets },
+        })
+    }
 
     /// The four tables, to be lent to [`doors`].
     pub fn tables(&self) -> Tables<'_> {

@@ -19,7 +19,7 @@ pub fn compare(game: &Game, numbers: &mut Numbers) -> Result<(), String> {
     wrong_sizes(game)
 }
 
-fn damage(game: &Game, numbers: &mut Numbers) -> Game {
+pub(super) fn damage(game: &Game, numbers: &mut Numbers) -> Game {
     let mut damaged = game.clone();
     for _ in 0..numbers.between(1, 2) {
         let v = numbers.below(game.n());

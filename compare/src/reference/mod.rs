@@ -4,6 +4,7 @@
 pub mod attractor;
 pub mod checker;
 pub mod compaction;
+pub mod mending;
 pub mod promotion;
 pub mod solitaire;
 pub mod tables;

@@ -3,6 +3,7 @@
 mod answer;
 mod attraction;
 mod certificate;
+mod mending;
 mod promotion;
 mod reading;
 mod recursion;
