@@ -18,5 +18,6 @@ pub mod Compaction
 pub mod Pgsolver
 pub mod Reading
 pub mod Decimal
+pub mod Writing
 pub mod Printing
 pub mod Mending
