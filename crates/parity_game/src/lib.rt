@@ -22,6 +22,8 @@ pub use answer::NOT_ONE_WINNER;
 pub use answer::OVER_BUDGET;
 pub use answer::OWNERS_DIFFER;
 pub use answer::SHORT_OUTPUT;
+pub use answer::NO_VERTEX;
+pub use answer::SHORT_TEXT;
 pub use answer::SHORT_WORK;
 pub use answer::STRAY_BIT;
 pub use answer::TABLE_LENGTHS;

@@ -153,7 +153,8 @@ module _ (t : Tables) (ok : Accepted t) where
   owners-again =
       ext-getD 0 _ (t .owners) (length-listed (length (entriesOf t)) _ ∙ many)
       (λ i low.
-      let less : i < vertices t = omega (arith, low, many, length-listed (length (entriesOf t)) (λ i. min 255 (entryOf (entriesOf t) i .owner))) in
+      let long = length-listed (length (entriesOf t)) (λ k. min 255 (entryOf (entriesOf t) k .owner)) in
+      let less : i < vertices t = omega (arith, low, many) in
       getD-listed (length (entriesOf t)) _ i 0 (omega (arith, less, many)) ∙
       ap (λ (e : Entry). min 255 (e .owner)) (entry-of t i less) ∙
       omega (arith, sound .owner-small i less))
@@ -162,7 +163,8 @@ module _ (t : Tables) (ok : Accepted t) where
   priorities-again =
       ext-getD 0 _ (t .priorities) (length-listed (length (entriesOf t)) _ ∙ many ∙ sym (sound .priority-each))
       (λ i low.
-      let less : i < vertices t = omega (arith, low, many, length-listed (length (entriesOf t)) (λ i. entryOf (entriesOf t) i .priority)) in
+      let long = length-listed (length (entriesOf t)) (λ k. entryOf (entriesOf t) k .priority) in
+      let less : i < vertices t = omega (arith, low, many) in
       getD-listed (length (entriesOf t)) _ i 0 (omega (arith, less, many)) ∙
       ap (λ (e : Entry). e .priority) (entry-of t i less))
 
@@ -171,7 +173,8 @@ module _ (t : Tables) (ok : Accepted t) where
       ext-getD 0 _ (t .offsets)
       (length-listed (suc (length (entriesOf t))) _ ∙ omega (arith, many, sound .offset-each))
       (λ i low.
-      let less : i ≤ vertices t = omega (arith, low, many, length-listed (suc (length (entriesOf t))) (λ i. length (targetsUpTo (entriesOf t) i))) in
+      let long = length-listed (suc (length (entriesOf t))) (λ k. length (targetsUpTo (entriesOf t) k)) in
+      let less : i ≤ vertices t = omega (arith, low, many) in
       getD-listed (suc (length (entriesOf t))) _ i 0 (omega (arith, less, many)) ∙
       ap length (targets-up-to i less) ∙
       length-take-le (offset t i) (t .targets)

@@ -1,18 +1,28 @@
--- How long the text is, piece by piece, and that no accepted game needs more than 131,085 bytes: 13 for the header, 12 for a record
--- and 5 for each of its targets.
+-- How long the text is, piece by piece, and that no accepted game needs more than 131,085 bytes: 13 for the header, 12 for a
+-- record and 5 for each of its targets.
 use mathlib.Core.List.{List, [], _∷_, _++_}
 use mathlib.Core.Path.{_≡_, refl, sym, ap, subst, _∙_}
-use Prim.Native.Nat.{ℕ, zero, suc, _+_, _-_, _*_, min, _≤_, _<_}
+use Prim.Native.Nat.{ℕ, zero, suc, _+_, _-_, _*_, _/_, _%_, _≤_, _<_}
 use native.Mathlib.Numerals.{add-one}
 use native.Mathlib.Omega.{arith}
 use lib.ListN.{length, getD, take, drop, length-append, length-take, length-drop, take-append-drop}
-use lib.Seq.{take-suc, getD-take, getD-drop}
+use lib.Seq.{take-all, take-suc, getD-take, getD-drop}
 use Rattle.rules.specs.Decimal.{decimal}
 use Rattle.rules.specs.Pgsolver.{comma, parityWord}
 use Rattle.rules.specs.Tables.{Tables, vertices, edgesIn, degree, targetsOf, Accepted}
 use Rattle.rules.specs.Writing.{blank, lineEnd, targetsText, recordText, recordsText, headerText, textOf}
 use Rattle.theory.specs.Tables.{offset, Sound, accepted-sound, never-falls}
-use Rattle.grammar.specs.Decimals.{decimal-short}
+use Rattle.grammar.specs.Decimals.{decimal-small, decimal-large, decimal-short}
+
+-- ---- digits
+
+-- one digit
+pub length-small : (n : ℕ) → n < 10 → length (decimal n) ≡ 1
+length-small n low = ap length (decimal-small n low)
+
+-- those of a tenth, and one more
+pub length-large : (n : ℕ) → 10 ≤ n → length (decimal n) ≡ length (decimal (n / 10)) + 1
+length-large n high = ap length (decimal-large n high) ∙ length-append (decimal (n / 10)) ((48 + n % 10) ∷ [])
 
 -- ---- targets
 
@@ -36,6 +46,9 @@ after-next ws i less =
     ap (λ (k : ℕ). afterEach (take k ws)) (add-one i) ∙
     ap afterEach (take-suc ws i 0 less) ∙
     omega (arith, after-append (take i ws) (getD ws i 0 ∷ []))
+
+pub after-all : (ws : List ℕ) (i : ℕ) → length ws ≤ i → afterEach (take i ws) ≡ afterEach ws
+after-all ws i all = ap afterEach (take-all i ws all)
 
 -- the first targets need no more than all
 pub after-first : (ws : List ℕ) (i : ℕ) → afterEach (take i ws) ≤ afterEach ws

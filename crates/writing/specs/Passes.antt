@@ -14,9 +14,9 @@ use Rattle.rules.specs.Outcome.{none}
 use Rattle.rules.specs.Pgsolver.{comma, semicolon, Entry, withTarget, Header, highest, Number, first, next}
 use Rattle.rules.specs.Reading.{Limits, highestNumber, targetsIn, Reads}
 use Rattle.rules.specs.Writing.{blank, lineEnd, targetsText, headerText}
-use Rattle.grammar.specs.Machine.{classOf, Machine, Went, on, over, Phase, atFirst, noEntryYet, to, reading, longer, Run, live, runFrom}
+use Rattle.grammar.specs.Machine.{classOf, Machine, Went, on, over, Phase, atFirst, noEntryYet, to, reading, longer, Run, live}
 use Rattle.grammar.specs.Machine.{pastWord, inHighest, betweenRecords, inIdentifier, pastIdentifier, inPriority, pastPriority}
-use Rattle.grammar.specs.Machine.{inOwner, pastOwner, inTarget, pastComma, Read, endOf, readingOf}
+use Rattle.grammar.specs.Machine.{inOwner, pastOwner, inTarget, pastComma, runFrom, Read, endOf, readingOf}
 use Rattle.grammar.specs.Free.{freeStep, Steps, Goes, stays, goes-step}
 use Rattle.grammar.specs.Classes.{digit-range}
 use Rattle.grammar.specs.Standing.{numbered, rankedAs, having}

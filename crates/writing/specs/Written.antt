@@ -67,9 +67,13 @@ module _ (l : Limits) (t : Tables) (ok : Accepted t) (keeps : Keeps l t) where
         targets-small = λ i low. omega (arith, targets-low t ok v less i low, sound .few-vertices);
       }
 
-  passes-one : (v : ℕ) → v < vertices t → Passes l (standing t (entriesFrom t 0 v)) (recordText t v) (standing t (entriesFrom t 0 (suc v)))
+  passes-one :
+      (v : ℕ) →
+      v < vertices t →
+      Passes l (standing t (entriesFrom t 0 v)) (recordText t v) (standing t (entriesFrom t 0 (suc v)))
   passes-one v less =
-      subst (λ (es : List Entry). Passes l (standing t (entriesFrom t 0 v)) (recordText t v) (standing t es)) (sym (entries-next t v))
+      subst (λ (es : List Entry). Passes l (standing t (entriesFrom t 0 v)) (recordText t v) (standing t es))
+      (sym (entries-next t v))
       (subst
       (λ (s : List ℕ).
       Passes l (standing t (entriesFrom t 0 v)) s (standing t (entriesFrom t 0 v ++ (entryAt t v ∷ []))))
@@ -117,7 +121,10 @@ read-text : {l : Limits} {text : List ℕ} {h : Header} {es : List Entry} → Re
 read-text read = none-text read refl
   where
     none-text :
-        {l : Limits} {text : List ℕ} {v : Verdict} {h : Header} {es : List Entry} → Reads l text v h es → v ≡ none → Text text h es
+        {l : Limits} {text : List ℕ} {v : Verdict} {h : Header} {es : List Entry} →
+        Reads l text v h es →
+        v ≡ none →
+        Text text h es
     none-text (Reads.beyond o n m) e = let z : _≡_ {A = ℕ} 0 1 = cc in absurd (omega arith)
     none-text (Reads.stuck s p) e = let z : _≡_ {A = ℕ} 0 1 = cc in absurd (omega arith)
     none-text (Reads.whole r p) e = r
