@@ -1,21 +1,22 @@
 -- What callers go by: what writing gives is one thing, an answer means that the front of the array is the text, which is read
 -- again as the same tables, a refusal leaves the array as it was, and 131,085 bytes are always enough.
-use mathlib.Core.List.{List, _++_}
-use mathlib.Core.Path.{_≡_, refl, sym, ap, _∙_}
-use Prim.Native.Nat.{ℕ}
+use mathlib.Core.List.{List}
+use mathlib.Core.Path.{_≡_, sym, ap, _∙_}
+use Prim.Native.Nat.{ℕ, _≤_}
 use native.Mathlib.Omega.{arith}
-use borrow.Author.Tests.{eqb-false, ltb-false}
+use borrow.Author.Tests.{eqb-false}
 use lib.Dec.{eqb, ltb}
 use lib.ListN.{length, take, drop}
 use lib.Seq.{take-append-seam}
-use Rattle.rules.specs.Outcome.{Outcome, Verdict, none, refused, outcome, answered, _then_}
-use Rattle.rules.specs.Reading.{Limits, Reads}
+use Rattle.rules.specs.Outcome.{Outcome, none, answered, _then_}
+use Rattle.rules.specs.Reading.{Limits}
 use Rattle.rules.specs.Tables.{Tables, vertices, tableChecks, Accepted}
-use Rattle.rules.specs.Writing.{textOf, check33, check34, writingChecks, writtenText, Writes}
+use Rattle.rules.specs.Writing.{textOf, check33, check34, writingChecks, Writes}
 use Rattle.parity_game.specs.Laws.{Numbered, numbered-then, numbered-given, numbered-tables, zero-none, then-none, given-none}
-use Rattle.writing.specs.Lengths.{text-bounded}
 use Rattle.writing.specs.Written.{Keeps, ReadAgain, written-reads}
+use Rattle.writing.specs.Lengths.{text-bounded}
 use Rattle.pgsolver_writer.specs.Written.{Written, above}
+use Rattle.pgsolver_writer.specs.Texts.{checks-pass}
 
 -- What writing gives and leaves is one thing: any two runs from the same entry agree.
 pub writes-unique :
@@ -57,3 +58,9 @@ module _ (t : Tables) (before after : List ℕ) (o : Outcome) (met : Writes t be
     -- and it is read again as the same tables, in all limits that game and text keep.
     pub answered-again : (l : Limits) → Keeps l t → ReadAgain l t
     answered-again l keeps = written-reads l t (answered-written .accepted) (answered-written .some) keeps
+
+  -- 131,085 bytes are always enough for accepted tables with a vertex.
+  pub enough-room : Written t → 131085 ≤ length before → o ≡ answered (length (textOf t))
+  enough-room w room =
+      met .gives ∙
+      rw (checks-pass t (length before) w (omega (arith, text-bounded t (w .accepted))))

@@ -1,15 +1,15 @@
 -- Records put one behind another: what the tables have at a vertex, a record from its pieces, and the records before it.
 use mathlib.Core.List.{List, [], _∷_, _++_, append-assoc}
 use mathlib.Core.Path.{_≡_, refl, sym, ap, subst, _∙_}
-use Prim.Native.Nat.{ℕ, suc, _+_, _-_, _≤_, _<_}
+use Prim.Native.Nat.{ℕ, _+_, _-_, _≤_, _<_}
 use native.Mathlib.Omega.{arith}
 use lib.ListN.{length, getD, take, drop, length-append}
 use Rattle.rules.specs.Decimal.{decimal}
-use Rattle.rules.specs.Tables.{Tables, vertices, edgesIn, degree, targetsOf}
-use Rattle.rules.specs.Writing.{blank, lineEnd, targetsText, recordText, recordsText, headerText, textOf}
+use Rattle.rules.specs.Tables.{Tables, vertices, degree, targetsOf}
+use Rattle.rules.specs.Writing.{blank, lineEnd, targetsText, recordText, recordsText}
 use Rattle.theory.specs.Tables.{offset, accepted-sound}
-use Rattle.printing.specs.Puts.{Fits, Puts, puts-none, puts-both}
-use Rattle.writing.specs.Lengths.{recordBytes, record-bytes, record-bound, records-next, records-length, records-first}
+use Rattle.printing.specs.Puts.{Puts, puts-none, puts-both}
+use Rattle.writing.specs.Lengths.{recordBytes, record-bytes, records-next, records-length, records-first}
 use Rattle.writing.specs.Lengths.{offsets-within, offset-after, targets-some, text-length, text-bounded}
 use Rattle.pgsolver_writer.specs.Written.{Written}
 
@@ -61,31 +61,47 @@ row t w v less =
 
 -- ---- a record from its pieces
 
-abbrev pieces : ℕ → ℕ → ℕ → List ℕ → List ℕ
-pieces v p o ws =
-    (decimal v ++ (blank ∷ [])) ++
-    ((decimal p ++ (blank ∷ [])) ++ ((decimal o ++ (blank ∷ [])) ++ (targetsText ws ++ lineEnd)))
+-- the three numbers before the targets, a blank behind each
+abbrev pub fieldsBytes : ℕ → ℕ → ℕ → List ℕ
+fieldsBytes v p o = decimal v ++ (blank ∷ (decimal p ++ (blank ∷ (decimal o ++ (blank ∷ [])))))
 
-joined : (v p o : ℕ) (ws : List ℕ) → pieces v p o ws ≡ recordBytes v p o ws
-joined v p o ws = simp append-assoc
+fields-joined :
+    (v p o : ℕ) →
+    (decimal v ++ (blank ∷ [])) ++ ((decimal p ++ (blank ∷ [])) ++ (decimal o ++ (blank ∷ []))) ≡ fieldsBytes v p o
+fields-joined v p o = simp append-assoc
+
+pub fields-pieces :
+    (v p o : ℕ) →
+    length (fieldsBytes v p o) ≡
+    length (decimal v ++ (blank ∷ [])) + (length (decimal p ++ (blank ∷ [])) + length (decimal o ++ (blank ∷ [])))
+fields-pieces v p o = ap length (sym (fields-joined v p o)) ∙ simp length-append
+
+pub fields-put :
+    {at at₁ at₂ r : ℕ} {out out₁ out₂ after : List ℕ} (v p o : ℕ) →
+    Puts at (decimal v ++ (blank ∷ [])) out out₁ at₁ →
+    Puts at₁ (decimal p ++ (blank ∷ [])) out₁ out₂ at₂ →
+    Puts at₂ (decimal o ++ (blank ∷ [])) out₂ after r →
+    Puts at (fieldsBytes v p o) out after r
+fields-put {at} {r = r} {out = out} {after = after} v p o a b c =
+    subst (λ (s : List ℕ). Puts at s out after r) (fields-joined v p o) (puts-both a (puts-both b c))
+
+record-joined :
+    (v p o : ℕ) (ws : List ℕ) → fieldsBytes v p o ++ (targetsText ws ++ lineEnd) ≡ recordBytes v p o ws
+record-joined v p o ws = simp append-assoc
 
 pub record-pieces :
     (v p o : ℕ) (ws : List ℕ) →
-    length (recordBytes v p o ws) ≡
-    length (decimal v ++ (blank ∷ [])) +
-    (length (decimal p ++ (blank ∷ [])) + (length (decimal o ++ (blank ∷ [])) + length (targetsText ws ++ lineEnd)))
+    length (recordBytes v p o ws) ≡ length (fieldsBytes v p o) + length (targetsText ws ++ lineEnd)
 record-pieces v p o ws =
-    ap length (sym (joined v p o ws)) ∙ simp length-append
+    ap length (sym (record-joined v p o ws)) ∙ length-append (fieldsBytes v p o) (targetsText ws ++ lineEnd)
 
 pub record-put :
-    {at at₁ at₂ at₃ r : ℕ} {out out₁ out₂ out₃ after : List ℕ} (v p o : ℕ) (ws : List ℕ) →
-    Puts at (decimal v ++ (blank ∷ [])) out out₁ at₁ →
-    Puts at₁ (decimal p ++ (blank ∷ [])) out₁ out₂ at₂ →
-    Puts at₂ (decimal o ++ (blank ∷ [])) out₂ out₃ at₃ →
-    Puts at₃ (targetsText ws ++ lineEnd) out₃ after r →
+    {at at₁ r : ℕ} {out out₁ after : List ℕ} (v p o : ℕ) (ws : List ℕ) →
+    Puts at (fieldsBytes v p o) out out₁ at₁ →
+    Puts at₁ (targetsText ws ++ lineEnd) out₁ after r →
     Puts at (recordBytes v p o ws) out after r
-record-put {at} {r = r} {out = out} {after = after} v p o ws a b c d =
-    subst (λ (s : List ℕ). Puts at s out after r) (joined v p o ws) (puts-both a (puts-both b (puts-both c d)))
+record-put {at} {r = r} {out = out} {after = after} v p o ws a b =
+    subst (λ (s : List ℕ). Puts at s out after r) (record-joined v p o ws) (puts-both a b)
 
 -- ---- the records before a vertex
 

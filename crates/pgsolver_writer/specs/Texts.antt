@@ -4,12 +4,11 @@ use mathlib.Core.Path.{_≡_, refl, sym, ap, subst, _∙_}
 use Prim.Native.Nat.{ℕ, _+_, _-_, _≤_, _<_}
 use native.Mathlib.Omega.{arith}
 use borrow.Author.Tests.{eq-eqb, ne-eqb, lt-ltb, le-ltb}
-use lib.Dec.{eqb, ltb}
 use lib.ListN.{length, drop, length-append, take-append-drop}
 use Rattle.rules.specs.Decimal.{decimal}
 use Rattle.rules.specs.Outcome.{Outcome, Verdict, none, refused, outcome, answered}
 use Rattle.rules.specs.Pgsolver.{parityWord}
-use Rattle.rules.specs.Tables.{Tables, vertices, tableChecks, Accepted}
+use Rattle.rules.specs.Tables.{Tables, vertices, Accepted}
 use Rattle.rules.specs.Writing.{blank, lineEnd, recordsText, headerText, textOf, check33, check34, writingChecks, writtenText}
 use Rattle.rules.specs.Writing.{Writes}
 use Rattle.printing.specs.Puts.{Puts, puts-both}
@@ -88,6 +87,12 @@ writes-short t before w short =
     rw (w .accepted, ne-eqb (vertices t) 0 (λ e. omega (arith, e, w .some)), lt-ltb (length before) (length (textOf t)) short) in
     record { gives = rw all; leaves = rw all }
 
+-- none of them
+pub checks-pass : (t : Tables) (room : ℕ) → Written t → length (textOf t) ≤ room → writingChecks t room ≡ none
+unfolding Accepted check33 check34
+checks-pass t room w enough =
+    rw (w .accepted, ne-eqb (vertices t) 0 (λ e. omega (arith, e, w .some)), le-ltb room (length (textOf t)) enough)
+
 -- an answer
 pub writes-answered :
     {r : ℕ} {before after : List ℕ} (t : Tables) →
@@ -95,10 +100,8 @@ pub writes-answered :
     length (textOf t) ≤ length before →
     Puts 0 (textOf t) before after r →
     Writes t before after (answered r)
-unfolding Accepted check33 check34
 writes-answered {r} {before} {after} t w room put =
-    let all : writingChecks t (length before) ≡ none =
-    rw (w .accepted, ne-eqb (vertices t) 0 (λ e. omega (arith, e, w .some)), le-ltb (length before) (length (textOf t)) room) in
+    let all = checks-pass t (length before) w room in
     let long : r ≡ length (textOf t) = omega (arith, put .place) in
     record {
       gives = rw all (ap answered long);

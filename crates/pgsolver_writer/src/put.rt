@@ -9,6 +9,7 @@ ghost use Rattle.rules.specs.Tables.{tablesOf};
 ghost use Rattle.rules.specs.Writing.{lineEnd, targetsText, recordsText, textOf};
 ghost use Rattle.printing.specs.Puts.{Fits, Puts};
 ghost use Rattle.writing.specs.Lengths.{recordBytes};
+ghost use Rattle.pgsolver_writer.specs.Records.{fieldsBytes};
 ghost use Rattle.pgsolver_writer.specs.Written.{Written};
 
 // A number and what stands behind it.
@@ -34,6 +35,16 @@ fn put_targets(targets: &[u16], text: &mut [u8], at: usize) -> usize
     put_ended(targets[last] as u64, b";\n", text, next)
 }
 
+// The numbers before the targets.
+fn put_fields(identifier: u64, priority: u64, owner: u64, text: &mut [u8], at: usize) -> usize
+    requires { ⌜ Fits at (fieldsBytes identifier priority owner) (now text) ⌝ }
+    ensures { λ r. ⌜ Puts at (fieldsBytes identifier priority owner) (now (text .entry)) (now (text .exit)) r ⌝ }
+{
+    let at = put_ended(identifier, b" ", text, at);
+    let at = put_ended(priority, b" ", text, at);
+    put_ended(owner, b" ", text, at)
+}
+
 // Identifier, priority, owner and targets.
 fn put_record(
     v: usize,
@@ -47,9 +58,7 @@ fn put_record(
     ensures { λ r.
         ⌜ Puts at (recordBytes v priority owner (now (targets .entry))) (now (text .entry)) (now (text .exit)) r ⌝ }
 {
-    let at = put_ended(v as u64, b" ", text, at);
-    let at = put_ended(priority as u64, b" ", text, at);
-    let at = put_ended(owner as u64, b" ", text, at);
+    let at = put_fields(v as u64, priority as u64, owner as u64, text, at);
     put_targets(targets, text, at)
 }
 

@@ -1,5 +1,4 @@
 -- The records that stand in the text of accepted tables, and that the tables read from them are those tables again.
-use mathlib.Core.Bool.{cond}
 use mathlib.Core.List.{List, [], _∷_, _++_, map}
 use mathlib.Core.Path.{_≡_, refl, sym, ap, subst, _∙_}
 use Prim.Native.Nat.{ℕ, zero, suc, _+_, _-_, min, _≤_, _<_}
@@ -7,18 +6,17 @@ use native.Mathlib.Decide.{decLe}
 use native.Mathlib.Numerals.{add-one}
 use native.Mathlib.Omega.{arith}
 use borrow.Author.Tests.{eq-eqb, ne-eqb}
-use lib.Dec.{eqb}
-use lib.ListN.{length, getD, take, drop, length-append}
+use lib.ListN.{length, getD, take}
 use lib.Seq.{ext-getD, take-add, take-all, length-take-le}
 use Rattle.rules.specs.Counting.{times, listed}
 use Rattle.rules.specs.Outcome.{none}
 use Rattle.rules.specs.Pgsolver.{Entry, highest}
 use Rattle.rules.specs.Reading.{targetsIn, check31, entryOf, targetsUpTo, tablesRead}
-use Rattle.rules.specs.Tables.{Tables, vertices, edgesIn, degree, targetsOf, Accepted}
+use Rattle.rules.specs.Tables.{Tables, vertices, degree, targetsOf, Accepted}
 use Rattle.theory.specs.Basics.{length-listed, getD-listed}
 use Rattle.theory.specs.Tables.{offset, Sound, accepted-sound}
-use Rattle.grammar.specs.OneReading.{RightIdentifiers, right-passes}
-use Rattle.writing.specs.Lengths.{offsets-within, offset-after, targets-many}
+use Rattle.grammar.specs.OneReading.{right-passes}
+use Rattle.writing.specs.Lengths.{offset-after, targets-many}
 
 -- ---- the records
 

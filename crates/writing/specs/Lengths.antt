@@ -8,7 +8,7 @@ use native.Mathlib.Omega.{arith}
 use lib.ListN.{length, getD, take, drop, length-append, length-take, length-drop, take-append-drop}
 use lib.Seq.{take-all, take-suc, getD-take, getD-drop}
 use Rattle.rules.specs.Decimal.{decimal}
-use Rattle.rules.specs.Pgsolver.{comma, parityWord}
+use Rattle.rules.specs.Pgsolver.{comma}
 use Rattle.rules.specs.Tables.{Tables, vertices, edgesIn, degree, targetsOf, Accepted}
 use Rattle.rules.specs.Writing.{blank, lineEnd, targetsText, recordText, recordsText, headerText, textOf}
 use Rattle.theory.specs.Tables.{offset, Sound, accepted-sound, never-falls}

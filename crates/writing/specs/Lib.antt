@@ -4,4 +4,5 @@ pub mod Lengths
 pub mod Entries
 pub mod Passes
 pub mod Written
+pub mod ReadBack
 pub mod WorkedWriting

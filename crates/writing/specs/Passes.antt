@@ -1,9 +1,9 @@
 -- The machine passes over the text that is written: over each piece it goes on, and no state on the way is beyond a limit that
 -- game and text keep.
-use mathlib.Core.Bool.{Bool, true, false, cond, _||_}
+use mathlib.Core.Bool.{Bool, false, cond, _||_}
 use mathlib.Core.List.{List, [], _∷_, _++_, append-assoc}
 use mathlib.Core.Path.{_≡_, refl, sym, ap, subst, _∙_}
-use Prim.Native.Nat.{ℕ, zero, suc, _+_, _-_, _*_, _≤_, _<_}
+use Prim.Native.Nat.{ℕ, zero, suc, _+_, _-_, _≤_, _<_}
 use native.Mathlib.Omega.{arith}
 use borrow.Author.Tests.{lt-ltb, le-ltb, lt-leb}
 use lib.Dec.{ltb, leb, lit<}
@@ -11,12 +11,12 @@ use lib.ListN.{length, getD, length-append}
 use lib.Seq.{append-snoc}
 use Rattle.rules.specs.Decimal.{decimal}
 use Rattle.rules.specs.Outcome.{none}
-use Rattle.rules.specs.Pgsolver.{comma, semicolon, Entry, withTarget, Header, highest, Number, first, next}
+use Rattle.rules.specs.Pgsolver.{comma, Entry, withTarget, Header, highest, Number, first, next}
 use Rattle.rules.specs.Reading.{Limits, highestNumber, targetsIn, Reads}
-use Rattle.rules.specs.Writing.{blank, lineEnd, targetsText, headerText}
-use Rattle.grammar.specs.Machine.{classOf, Machine, Went, on, over, Phase, atFirst, noEntryYet, to, reading, longer, Run, live}
-use Rattle.grammar.specs.Machine.{pastWord, inHighest, betweenRecords, inIdentifier, pastIdentifier, inPriority, pastPriority}
-use Rattle.grammar.specs.Machine.{inOwner, pastOwner, inTarget, pastComma, runFrom, Read, endOf, readingOf}
+use Rattle.rules.specs.Writing.{lineEnd, targetsText, headerText}
+use Rattle.grammar.specs.Machine.{classOf, Machine, Went, on, over, Phase, atFirst, noEntryYet, reading, longer, Run, live}
+use Rattle.grammar.specs.Machine.{betweenRecords, pastIdentifier, pastPriority}
+use Rattle.grammar.specs.Machine.{pastOwner, inTarget, pastComma, runFrom, Read, endOf, readingOf}
 use Rattle.grammar.specs.Free.{freeStep, Steps, Goes, stays, goes-step}
 use Rattle.grammar.specs.Classes.{digit-range}
 use Rattle.grammar.specs.Standing.{numbered, rankedAs, having}

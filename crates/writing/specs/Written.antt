@@ -5,12 +5,12 @@ use mathlib.Core.Path.{_≡_, refl, sym, ap, subst, _∙_}
 use Prim.Native.Nat.{ℕ, zero, suc, _+_, _-_, _≤_, _<_}
 use native.Mathlib.Omega.{arith}
 use lib.ListN.{length, getD}
-use Rattle.rules.specs.Outcome.{Verdict, none, refused}
+use Rattle.rules.specs.Outcome.{Verdict, none}
 use Rattle.rules.specs.Pgsolver.{Entry, Header, highest, Text}
-use Rattle.rules.specs.Reading.{Limits, Reads, targetsIn, check31, tablesRead}
+use Rattle.rules.specs.Reading.{Limits, Reads, check31, tablesRead}
 use Rattle.rules.specs.Tables.{Tables, vertices, edgesIn, targetsOf, Accepted}
-use Rattle.rules.specs.Writing.{recordText, recordsText, headerText, textOf}
-use Rattle.theory.specs.Tables.{offset, Sound, accepted-sound}
+use Rattle.rules.specs.Writing.{recordText, recordsText, textOf}
+use Rattle.theory.specs.Tables.{Sound, accepted-sound}
 use Rattle.grammar.specs.Machine.{Machine, atFirst, betweenRecords, noEntryYet}
 use Rattle.grammar.specs.Free.{Goes, goes-same}
 use Rattle.grammar.specs.Standing.{having}
