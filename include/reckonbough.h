@@ -22,8 +22,8 @@
  * Each function returns a number, named below, and writes a place and a count. The count of an answer is what the function
  * says below. With 13 it is the budget, with every other number 0.
  *
- * Numbers 1 to 12 and 35 write nothing but place and count, where a function says nothing else. With 13 the sets and the strategy
- * stay as they were. With 0, 13 and 21 to 25 the first W words of the work area are zero afterwards; words beyond W never
+ * Numbers 1 to 12 and 33 to 35 write nothing but place and count, where a function says nothing else. With 13 the sets and
+ * the strategy stay as they were. With 0, 13 and 21 to 25 the first W words of the work area are zero afterwards; words beyond W never
  * change.
  *
  * The budget is the most calls of reckonbough_zielonka, or rounds of reckonbough_priority_promotion. Let d be the number of
@@ -46,6 +46,9 @@
 #define RECKONBOUGH_MAX_VERTICES 4096
 #define RECKONBOUGH_MAX_EDGES 16384
 #define RECKONBOUGH_MAX_PRIORITY 255
+
+/* The most bytes that the text of a game needs. */
+#define RECKONBOUGH_MAX_TEXT 131085
 
 /*
  * The numbers. Of those that a function gives it is the first that applies, in the order that the function names, else 0;
@@ -82,6 +85,8 @@
 #define RECKONBOUGH_BAD_IDENTIFIER 31   /* reading: identifiers 0 to n - 1 do not each appear once, or N is not n - 1;
                                            place: the lowest that does not, else n */
 #define RECKONBOUGH_BEYOND_LIMIT 32     /* reading: the byte goes beyond a limit; place: the byte */
+#define RECKONBOUGH_NO_VERTEX 33        /* write: n is 0 */
+#define RECKONBOUGH_SHORT_TEXT 34       /* write: a text shorter than needed; place: the length needed */
 #define RECKONBOUGH_SHORT_OUTPUT 35     /* mend: an output or the list is shorter than needed */
 
 #ifdef __cplusplus
@@ -273,6 +278,21 @@ uint64_t reckonbough_mend(
     uint16_t *new_offsets, size_t new_offsets_length,
     uint16_t *new_targets, size_t new_targets_length,
     uint16_t *list, size_t list_length,
+    uint64_t *place, uint64_t *count);
+
+/*
+ * Writes the game as PGSolver text: `parity N;` with N the highest identifier, then for each vertex in order its identifier,
+ * priority, owner and targets, one space between fields, commas without spaces between targets, no leading zeros and no
+ * name; a semicolon and a line feed behind each. Writes the front of text; what is behind stays. RECKONBOUGH_MAX_TEXT bytes
+ * are enough for every game.
+ * Gives 0, 1 to 8, 33 or 34. The count is the text's length.
+ */
+uint64_t reckonbough_write(
+    const uint8_t *owners, size_t owners_length,
+    const uint16_t *priorities, size_t priorities_length,
+    const uint16_t *offsets, size_t offsets_length,
+    const uint16_t *targets, size_t targets_length,
+    uint8_t *text, size_t text_length,
     uint64_t *place, uint64_t *count);
 
 #ifdef __cplusplus

@@ -1,6 +1,6 @@
 /*
  * The names of the numbers; what only C can pass: null pointers for empty slices, and players other than 0 and 1; results
- * without a strategy; and the largest game. Every function is called.
+ * without a strategy; an export that is mended; a game as text; and the largest game. Every function is called.
  * Each line is what was asked and the number, the place and the count given; tests/doors compares them.
  */
 #include <inttypes.h>
@@ -40,6 +40,11 @@ static void names(void)
         RECKONBOUGH_LEAVES_SET,
         RECKONBOUGH_LOSING_CYCLE,
         RECKONBOUGH_NO_STRATEGY,
+        RECKONBOUGH_BAD_TEXT,
+        RECKONBOUGH_BAD_IDENTIFIER,
+        RECKONBOUGH_BEYOND_LIMIT,
+        RECKONBOUGH_NO_VERTEX,
+        RECKONBOUGH_SHORT_TEXT,
         RECKONBOUGH_SHORT_OUTPUT,
     };
     printf("numbers:");
@@ -68,6 +73,7 @@ static void no_vertices(void)
     print("solitaire of C1", reckonbough_solitaire(C1, NULL, 0, work, w, &place, &count));
     print("check of C1", reckonbough_check(C1, NULL, 0, NULL, 0, NULL, 0, work, w, &place, &count));
     print("compact of C1", reckonbough_compact(C1, NULL, 0, &place, &count));
+    print("write of C1", reckonbough_write(C1, NULL, 0, &place, &count));
     uint16_t new_offset = 7;
     print("mend of C1", reckonbough_mend(C1, NULL, 0, &new_offset, 1, NULL, 0, NULL, 0, &place, &count));
     print("mend of C1, no offsets", reckonbough_mend(C1, NULL, 0, NULL, 0, NULL, 0, NULL, 0, &place, &count));
@@ -133,6 +139,28 @@ static void mending(void)
           reckonbough_check_tables(owners, 2, new_priorities, 2, new_offsets, 3, new_targets, new_m, &place, &count));
 }
 
+/* C7 as text, in no room, in one byte too few, and in more than it needs; read again; and a text that is cut. */
+static void as_text(void)
+{
+    uint8_t text[40], owners[3];
+    uint16_t priorities[3], offsets[4], targets[4];
+    uint64_t n = 0, m = 0;
+#define ROOMS owners, 3, priorities, 3, offsets, 4, targets, 4, work, 7
+    for (size_t i = 0; i < sizeof text; i++)
+        text[i] = '.';
+    print("write of C7, no room", reckonbough_write(C7, NULL, 0, &place, &count));
+    print("write of C7, 29 bytes", reckonbough_write(C7, text, 29, &place, &count));
+    printf("%.*s\n", (int)sizeof text, (const char *)text);
+    print("write of C7, 40 bytes", reckonbough_write(C7, text, sizeof text, &place, &count));
+    printf("%.*s\n", (int)sizeof text, (const char *)text);
+    print("read of it", reckonbough_read(text, 30, 16384, ROOMS, &n, &m, &place, &count));
+    printf("  %u vertices, %u edges, targets %u %u %u %u\n", (unsigned)n, (unsigned)m, (unsigned)targets[0], (unsigned)targets[1],
+           (unsigned)targets[2], (unsigned)targets[3]);
+    print("read of 27 bytes", reckonbough_read(text, 27, 16384, ROOMS, &n, &m, &place, &count));
+    print("read of 30 bytes, 20 allowed", reckonbough_read_tables(text, 30, 20, ROOMS, &n, &m, &place, &count));
+    print("read of no text", reckonbough_read_tables(NULL, 0, 0, ROOMS, &n, &m, &place, &count));
+}
+
 /*
  * The largest game, 2,048 pairs: E2 to the pair's other; E1 to itself and to the next pair. Zielonka's recursion nests 2,049
  * deep in it. One vertex more is refused.
@@ -159,6 +187,8 @@ static void most_vertices(void)
           reckonbough_priority_promotion(CHAIN, UINT64_MAX, even, S, odd, S, strategy, N, area, w, &place, &count));
     print("check of it", reckonbough_check(CHAIN, even, S, odd, S, strategy, N, area, w, &place, &count));
     print("solitaire of 4,096 vertices", reckonbough_solitaire(CHAIN, even, S, area, w, &place, &count));
+    static uint8_t text[RECKONBOUGH_MAX_TEXT];
+    print("write of 4,096 vertices", reckonbough_write(CHAIN, text, sizeof text, &place, &count));
     print("zielonka of 4,097 vertices",
           reckonbough_zielonka(owners, N + 1, priorities, N + 1, offsets, N + 2, targets, M, UINT64_MAX, even, S, odd, S,
                                strategy, N, area, w, &place, &count));
@@ -171,6 +201,7 @@ int main(void)
     players();
     without_strategy();
     mending();
+    as_text();
     most_vertices();
     return 0;
 }

@@ -59,6 +59,10 @@ pub enum Refusal {
     BadIdentifier(usize),
     /// 32: the byte that goes beyond a limit.
     BeyondLimit(usize),
+    /// 33: no vertex, so that there is nothing to write.
+    NoVertex,
+    /// 34: a text shorter than this length, which is needed.
+    ShortText(usize),
     /// 25: no vertex has an entry, in the place of 22 and at the vertex that 22 would name.
     NoStrategy(usize),
     /// 35: an output or a list shorter than needed.
@@ -96,6 +100,8 @@ impl Refusal {
             Refusal::BadText(byte) => (30, byte),
             Refusal::BadIdentifier(identifier) => (31, identifier),
             Refusal::BeyondLimit(byte) => (32, byte),
+            Refusal::NoVertex => (33, 0),
+            Refusal::ShortText(length) => (34, length),
             Refusal::NoStrategy(vertex) => (25, vertex),
             Refusal::ShortOutput => (35, 0),
             Refusal::Unknown { number, place } => (number, place),
@@ -129,6 +135,8 @@ impl Answer {
             30 => Refusal::BadText(place),
             31 => Refusal::BadIdentifier(place),
             32 => Refusal::BeyondLimit(place),
+            33 => Refusal::NoVertex,
+            34 => Refusal::ShortText(place),
             25 => Refusal::NoStrategy(place),
             35 => Refusal::ShortOutput,
             number => Refusal::Unknown { number, place },
@@ -160,6 +168,8 @@ impl fmt::Display for Refusal {
             Refusal::BadText(_) => (Some("byte"), "no text of PGSolver's form goes on here"),
             Refusal::BadIdentifier(_) => (Some("identifier"), "the identifiers are not 0 to the highest, each once"),
             Refusal::BeyondLimit(_) => (Some("byte"), "the text goes beyond a limit"),
+            Refusal::NoVertex => (None, "the game has no vertex"),
+            Refusal::ShortText(_) => (Some("length"), "the text is shorter than needed"),
             Refusal::NoStrategy(_) => (Some("vertex"), "an entry is needed, and the strategy has none at all"),
             Refusal::ShortOutput => (None, "an output or the list is too short"),
             Refusal::Unknown { .. } => (Some("place"), "a number that this crate does not know"),

@@ -130,6 +130,14 @@ extern "C" {
         list: *mut u16, list_length: usize,
         place: *mut u64, count: *mut u64,
     ) -> u64;
+    fn reckonbough_write(
+        owners: *const u8, owners_length: usize,
+        priorities: *const u16, priorities_length: usize,
+        offsets: *const u16, offsets_length: usize,
+        targets: *const u16, targets_length: usize,
+        text: *mut u8, text_length: usize,
+        place: *mut u64, count: *mut u64,
+    ) -> u64;
 }
 
 /// Calls a C function with the tables, its own arguments, place and count.
@@ -280,4 +288,10 @@ pub fn mend(
         new_priorities.as_mut_ptr(), new_priorities.len(), new_offsets.as_mut_ptr(), new_offsets.len(),
         new_targets.as_mut_ptr(), new_targets.len(), list.as_mut_ptr(), list.len()
     }
+}
+
+/// Writes the game as PGSolver text at the front of `text`; what is behind stays: 0, 1 to 8, 33 or 34; the count is the text's
+/// length. [`MAX_TEXT`](crate::MAX_TEXT) bytes are enough for every game.
+pub fn write(tables: Tables<'_>, text: &mut [u8]) -> Answer {
+    call!(reckonbough_write, tables, text.as_mut_ptr(), text.len())
 }

@@ -2,7 +2,7 @@
 #![forbid(unsafe_code)]
 
 use crate::doors::{self, set_words, work_words};
-use crate::{Answer, Refusal, NONE};
+use crate::{Answer, Refusal, MAX_TEXT, NONE};
 
 /// Even or Odd; `player as u8` is the number in the tables.
 #[derive(Clone, Copy, Debug, PartialEq, Eq, Hash)]
@@ -153,7 +153,7 @@ impl Game {
             offsets: &mut game.offsets,
             targets: &mut game.targets,
         };
-        let (answer, n, m) = doors::read(text, crate::MAX_TEXT, rooms, &mut vec![0; vertices + edges]);
+        let (answer, n, m) = doors::read(text, crate::MAX_READ, rooms, &mut vec![0; vertices + edges]);
         answer.result()?;
         game.owners.truncate(n);
         game.priorities.truncate(n);
@@ -316,6 +316,21 @@ impl Game {
         let mut new_priorities = vec![0; self.vertices()];
         doors::compact(self.tables(), &mut new_priorities).result()?;
         Ok(new_priorities)
+    }
+
+    /// The game as PGSolver text. It refuses a game without a vertex.
+    ///
+    /// ```
+    /// # use reckonbough::{Game, Player::*};
+    /// let game = Game::new(&[(Even, 2, &[1]), (Odd, 0, &[0, 1])])?;
+    /// assert_eq!(game.write()?, b"parity 1;\n0 2 0 1;\n1 0 1 0,1;\n");
+    /// # Ok::<(), reckonbough::Refusal>(())
+    /// ```
+    pub fn write(&self) -> Result<Vec<u8>, Refusal> {
+        let mut text = vec![0; MAX_TEXT];
+        let length = doors::write(self.tables(), &mut text).result()?;
+        text.truncate(length as usize);
+        Ok(text)
     }
 
     fn set(&self) -> Vec<u64> {

@@ -33,5 +33,7 @@ pub const MAX_VERTICES: usize = 4_096;
 pub const MAX_EDGES: usize = 16_384;
 /// The highest priority of a game.
 pub const MAX_PRIORITY: u16 = 255;
+/// The most bytes that the text of a game needs, as [`Game::write`] writes it.
+pub const MAX_TEXT: usize = 131_085;
 /// The longest text that [`Game::read`] takes, in bytes.
-pub const MAX_TEXT: u64 = 1 << 24;
+pub const MAX_READ: u64 = 1 << 24;

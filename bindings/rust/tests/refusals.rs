@@ -65,7 +65,7 @@ fn wrong_lengths_and_stray_members() {
 
 #[test]
 fn every_number_goes_both_ways() {
-    for number in (1..=13).chain(21..=25).chain(30..=32).chain(35..=35) {
+    for number in (1..=13).chain(21..=25).chain(30..=35) {
         let refusal = Answer { number, place: 0, count: 0 }.result().unwrap_err();
         assert_eq!(refusal.number_and_place(), (number, 0));
     }

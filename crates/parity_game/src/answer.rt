@@ -5,28 +5,51 @@ ghost use mathlib.Core.Path.{_≡_};
 ghost use Rattle.parity_game.specs.Said.{said};
 
 pub const TOO_MANY_VERTICES: u64 = 1;
+
 pub const TABLE_LENGTHS: u64 = 2;
+
 pub const TOO_MANY_EDGES: u64 = 3;
+
 pub const BAD_OWNER: u64 = 4;
+
 pub const BAD_PRIORITY: u64 = 5;
+
 pub const BAD_OFFSET: u64 = 6;
+
 pub const BAD_TARGET: u64 = 7;
+
 pub const DEAD_END: u64 = 8;
+
 pub const BAD_SIZE: u64 = 9;
+
 pub const SHORT_WORK: u64 = 10;
+
 pub const OWNERS_DIFFER: u64 = 11;
+
 pub const STRAY_BIT: u64 = 12;
+
 pub const OVER_BUDGET: u64 = 13;
+
 pub const NOT_ONE_WINNER: u64 = 21;
+
 pub const BAD_ENTRY: u64 = 22;
+
 pub const LEAVES_SET: u64 = 23;
+
 pub const LOSING_CYCLE: u64 = 24;
+
 pub const NO_STRATEGY: u64 = 25;
+
 pub const BAD_TEXT: u64 = 30;
+
 pub const BAD_IDENTIFIER: u64 = 31;
+
 pub const BEYOND_LIMIT: u64 = 32;
+
 pub const NO_VERTEX: u64 = 33;
+
 pub const SHORT_TEXT: u64 = 34;
+
 pub const SHORT_OUTPUT: u64 = 35;
 
 pub enum Answer {

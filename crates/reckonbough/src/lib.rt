@@ -9,3 +9,4 @@ mod reading;
 mod recursion;
 mod solitaire;
 mod tables;
+mod writing;
