@@ -45,29 +45,29 @@ abbrev between : tie.After-solve-priority-promotion → Lent
 between c =
     let after = c .solve-priority-promotion .last in
     record {
-      even = after .1 .1 .1 .1 .1 .1 .0;
-      odd = after .1 .1 .1 .1 .1 .1 .1 .0;
-      strategy = after .1 .1 .1 .1 .1 .1 .1 .1 .0;
-      work = after .1 .1 .1 .1 .1 .1 .1 .1 .1 .0;
+      even = after .1 .1 .1 .1 .1 .0;
+      odd = after .1 .1 .1 .1 .1 .1 .0;
+      strategy = after .1 .1 .1 .1 .1 .1 .1 .0;
+      work = after .1 .1 .1 .1 .1 .1 .1 .1 .0;
     }
 
 abbrev odd-after : tie.After-solve-zielonka → List ℕ
-odd-after c = c .solve-zielonka .last .1 .1 .1 .1 .1 .1 .1 .0
+odd-after c = c .solve-zielonka .last .1 .1 .1 .1 .1 .1 .0
 
 even-same : (c : tie.After-solve-priority-promotion) → length (between c .even) ≡ length (start c .args .even .now)
-even-same c = c .solve-priority-promotion .kept .1 .1 .1 .1 .1 .1 .0
+even-same c = c .solve-priority-promotion .kept .1 .1 .1 .1 .1 .0
 
 odd-same : (c : tie.After-solve-priority-promotion) → length (between c .odd) ≡ length (start c .args .odd .now)
-odd-same c = c .solve-priority-promotion .kept .1 .1 .1 .1 .1 .1 .1 .0
+odd-same c = c .solve-priority-promotion .kept .1 .1 .1 .1 .1 .1 .0
 
 strategy-same : (c : tie.After-solve-priority-promotion) → length (between c .strategy) ≡ length (start c .args .strategy .now)
-strategy-same c = c .solve-priority-promotion .kept .1 .1 .1 .1 .1 .1 .1 .1 .0
+strategy-same c = c .solve-priority-promotion .kept .1 .1 .1 .1 .1 .1 .1 .0
 
 work-same : (c : tie.After-solve-priority-promotion) → length (between c .work) ≡ length (start c .args .work .now)
-work-same c = c .solve-priority-promotion .kept .1 .1 .1 .1 .1 .1 .1 .1 .1 .0
+work-same c = c .solve-priority-promotion .kept .1 .1 .1 .1 .1 .1 .1 .1 .0
 
 odd-again : (c : tie.After-solve-zielonka) → length (odd-after c) ≡ length (between (promotion c) .odd)
-odd-again c = c .solve-zielonka .kept .1 .1 .1 .1 .1 .1 .1 .0
+odd-again c = c .solve-zielonka .kept .1 .1 .1 .1 .1 .1 .0
 
 -- Zielonka's rooms have the sizes that promotion's had
 again : (c : tie.After-solve-priority-promotion) → Ready (tables (start c)) (between c) (start c .args .out .now)
