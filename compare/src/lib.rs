@@ -18,3 +18,5 @@ pub mod reference;
 pub mod slip;
 #[cfg(feature = "port")]
 pub mod texts;
+#[cfg(feature = "port")]
+pub mod trips;

@@ -11,6 +11,10 @@ use compare::{definition, generate, list, probe, slip};
 /// Differences printed in full; the rest is counted.
 const SHOWN: u64 = 10;
 
+/// How many games are written and read again.
+#[cfg(feature = "port")]
+const TRIPS: u64 = 20_000;
+
 /// How many damaged exports are mended.
 #[cfg(feature = "port")]
 const DAMAGED: u64 = 20_000;
@@ -143,7 +147,7 @@ fn finish(families: &[Family], allowed: u64) -> i32 {
     failed as i32
 }
 
-/// Random texts, read by the port and by the plain reader.
+/// Random texts, read by the port and by the plain reader; then games written and read again.
 #[cfg(feature = "port")]
 fn texts(count: u64) -> i32 {
     let (start, mut tally, mut differ) = (Instant::now(), compare::texts::Tally::new(), 0);
@@ -156,7 +160,11 @@ fn texts(count: u64) -> i32 {
         }
     }
     println!("{count} texts, {differ} differ, {:.1} s; how often each number: {tally:?}", start.elapsed().as_secs_f64());
-    (differ > 0) as i32
+    let start = Instant::now();
+    let wrong: Vec<String> = (0..TRIPS).filter_map(|seed| compare::trips::compare(seed).err()).collect();
+    wrong.iter().take(SHOWN as usize).for_each(|what| println!("DIFFERENCE {what}"));
+    println!("{TRIPS} games written and read again, {} differ, {:.1} s", wrong.len(), start.elapsed().as_secs_f64());
+    (differ > 0 || !wrong.is_empty()) as i32
 }
 
 #[cfg(not(feature = "port"))]

@@ -193,3 +193,7 @@ pub fn mend(game: &Game, lent: &mut Outputs) -> Answer {
         lent.targets.as_mut_ptr() => *mut u16, lent.targets.len() => usize,
         lent.list.as_mut_ptr() => *mut u16, lent.list.len() => usize))
 }
+
+pub fn write(game: &Game, text: &mut [u8]) -> Answer {
+    door!(reckonbough_write(game, text.as_mut_ptr() => *mut u8, text.len() => usize))
+}
