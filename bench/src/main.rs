@@ -2,6 +2,7 @@
 
 mod families;
 mod plot;
+mod reading;
 mod timing;
 
 use compare::game::Game;
@@ -23,6 +24,7 @@ fn bench() {
         println!("The port was NOT timed: its library was not there.\n");
     }
     table();
+    reading::print();
     if let Some(path) = std::env::args().nth(1) {
         std::fs::write(&path, draw()).expect("the plot can be written");
         println!("\nplot: {path}");
