@@ -14,7 +14,7 @@ fn what_is_missing_is_dropped_and_a_dead_end_is_lost() {
     assert_eq!(game, Game::new(&[(Even, 6, &[1]), (Odd, 0, &[1]), (Even, 1, &[2])]).unwrap());
     assert_eq!(dropped, [0, 2, 3]);
     assert_eq!(altered, [(1, 3), (2, 2)]);
-    let solved = game.solve_zielonka(true, u64::MAX).unwrap();
+    let solved = game.solve_zielonka(u64::MAX).unwrap();
     assert_eq!([0, 1, 2].map(|v| solved.winner(v)), [Even, Even, Odd]);
     // mending what was mended changes nothing
     assert_eq!(Game::mend(game.tables()).unwrap(), Mended { game, dropped: vec![], altered: vec![] });
