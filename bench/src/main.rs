@@ -1,4 +1,4 @@
-//! bench SVG: prints the table, writes the plot.
+//! bench SVG: prints the tables, writes the plot. bench texts: the table of the reader and the writer alone.
 
 mod families;
 mod plot;
@@ -22,6 +22,9 @@ fn main() {
 fn bench() {
     if !cfg!(feature = "port") {
         println!("The port was NOT timed: its library was not there.\n");
+    }
+    if std::env::args().nth(1).as_deref() == Some("texts") {
+        return reading::print();
     }
     table();
     reading::print();
