@@ -15,3 +15,4 @@ pub mod OneReading
 pub mod WorkedText
 pub mod Waiting
 pub mod Decimals
+pub mod DecimalsBack
