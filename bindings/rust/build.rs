@@ -12,7 +12,7 @@ fn main() {
     let named = library.file_name().map_or(false, |name| name == "libreckonbough.a");
     if !named || !library.is_file() {
         eprintln!("there is no libreckonbough.a at {}", library.display());
-        eprintln!("make it by tools/host-library reckonbough, or name its path, absolute, by RECKONBOUGH_LIB");
+        eprintln!("make it by tools/host-library, or name its path, absolute, by RECKONBOUGH_LIB");
         std::process::exit(1);
     }
     let folder = library.parent().expect("a file lies in a folder");
