@@ -27,9 +27,9 @@ use Rattle.theory.specs.Tables.{accepted-total, accepted-priority}
 use Rattle.parity_game.specs.Laws.{accepted-sound, outcome-pass}
 use Rattle.parity_game.specs.Laws.{Numbered, numbered-givenAt}
 use Rattle.predecessors.specs.Whole.{accepted-edges}
-use Rattle.solver.specs.Checks.{checksBy, checks-passed}
+use Rattle.lent_checks.specs.Checks.{checksBy, checks-passed}
 use Rattle.depth_first.specs.Area.{behind, Cleared, marked}
-use Rattle.checker.specs.Sides.{Sets, Given, Sided, ownBy, sideOf, unchosen, entryNumber, wrongEntry, leavesSet, entry-is}
+use Rattle.checker_sides.specs.Sides.{Sets, Given, Sided, ownBy, sideOf, unchosen, entryNumber, wrongEntry, leavesSet, entry-is}
 use Rattle.checker.specs.Cycles.{losingAt, Scannable, MarksReady, CyclesMarked}
 
 pub record CyclesReady (t : Tables) (even strategy work : List ℕ) : Type 0 where

@@ -20,7 +20,7 @@ use Rattle.theory.specs.NothingChosen.{Unchosen, no-strategy-tells, no-strategy
 use Rattle.theory.specs.Tables.{accepted-total}
 use Rattle.parity_game.specs.Said.{refusal}
 use Rattle.parity_game.specs.Laws.{Numbered, numbered-givenAt, numbered-then, then-none, zero-none, outcome-pass}
-use Rattle.solver.specs.Checks.{checksBy, numbered-by, checks-passed}
+use Rattle.lent_checks.specs.Checks.{checksBy, numbered-by, checks-passed}
 use Rattle.checker.specs.Checks.{numbered21, numbered22}
 
 numbered-certificate : (g : Game) (even odd strategy : List ℕ) → Numbered (certificateChecks g even odd strategy)

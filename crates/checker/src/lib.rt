@@ -1,7 +1,6 @@
 // The certificate checker: two sets and a strategy, checked without trust in any solver. Yes, or the first of 21 to
 // 24 that applies, with 25 in the place of 22 where every entry is none.
 mod cycles;
-mod sides;
 
 use parity_game::Answer;
 ghost use Rattle.parity_game.specs.Said.{said};
@@ -27,15 +26,15 @@ fn certify(
         (now (targets .entry))) (now (even .entry)) (now (odd .entry))
         (now (strategy .entry)) (now (work .entry)) (now (work .exit)) (said r) ⌝ }
 {
-    let split = sides::check_partition(owners.len(), even, odd);
+    let split = checker_sides::sides::check_partition(owners.len(), even, odd);
     if split.number() != 0 {
         return split;
     }
-    let entries = sides::check_entries(owners, offsets, targets, even, strategy);
+    let entries = checker_sides::sides::check_entries(owners, offsets, targets, even, strategy);
     if entries.number() != 0 {
         return entries;
     }
-    let stays = sides::check_sides(owners, offsets, targets, even, strategy);
+    let stays = checker_sides::sides::check_sides(owners, offsets, targets, even, strategy);
     if stays.number() != 0 {
         return stays;
     }
@@ -58,7 +57,7 @@ pub fn check(
         (now (targets .entry))) (now (even .entry)) (now (odd .entry))
         (now (strategy .entry)) (now (work .entry)) (now (work .exit)) (said r) ⌝ }
 {
-    let r = solver::check_all(
+    let r = lent_checks::checks::check_all(
         owners,
         priorities,
         offsets,

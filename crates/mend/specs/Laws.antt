@@ -19,8 +19,8 @@ use Rattle.parity_game.specs.Laws.{numbered-check6, zero-none}
 use Rattle.theory.specs.Basics.{or-false-both, count-le}
 use Rattle.theory.specs.Mending.{exportChecks, Shaped, mended-length, list-length}
 use Rattle.theory.specs.MendingAccepted.{mended-accepted}
-use Rattle.mend.specs.Bare.{bare, bared, bared-count, bared-dropped}
-use Rattle.mend.specs.Steps.{dropped-few}
+use Rattle.mend_counts.specs.Bare.{bare, bared, bared-count, bared-dropped}
+use Rattle.mend_counts.specs.Steps.{dropped-few}
 
 -- what is lent to write in
 abbrev pub lentOf : List ℕ → List ℕ → List ℕ → List ℕ → MendingLent

@@ -1,18 +1,14 @@
 // Mending an incomplete export: edges that lead to no vertex are dropped, and a vertex that is left without an edge gets a self
 // loop that its owner loses. What is needed of each output is counted first, so that a refusal writes nothing.
-mod counts;
-mod edges;
-mod list;
-mod priorities;
 
-use counts::altered_vertices;
-use counts::dropped_edges;
-use edges::write_edges;
-use list::write_list;
+use mend_counts::counts::altered_vertices;
+use mend_counts::counts::dropped_edges;
+use mend_counts::priorities::write_priorities;
+use mend_writes::edges::write_edges;
+use mend_writes::list::write_list;
 use parity_game::Answer;
 use parity_game::SHORT_OUTPUT;
 use parity_game::TOO_MANY_EDGES;
-use priorities::write_priorities;
 ghost use mathlib.Core.Path.{_≡_};
 ghost use Prim.Native.Nat.{_≤_};
 ghost use Rattle.rules.specs.Mending.{Mends};

@@ -15,8 +15,8 @@ use Rattle.rules.specs.Writing.{textOf, check33, check34, writingChecks, Writes
 use Rattle.parity_game.specs.Laws.{Numbered, numbered-then, numbered-given, numbered-tables, zero-none, then-none, given-none}
 use Rattle.writing.specs.Written.{Keeps, ReadAgain, written-reads}
 use Rattle.writing.specs.Lengths.{text-bounded}
-use Rattle.pgsolver_writer.specs.Written.{Written, above}
-use Rattle.pgsolver_writer.specs.Texts.{checks-pass}
+use Rattle.pgsolver_put.specs.Written.{Written, above}
+use Rattle.pgsolver_put.specs.Texts.{checks-pass}
 
 -- What writing gives and leaves is one thing: any two runs from the same entry agree.
 pub writes-unique :

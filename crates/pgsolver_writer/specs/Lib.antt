@@ -1,6 +1,2 @@
 -- What the writer's functions ask for and put, the laws that their proofs cite, and what callers go by.
-pub mod Written
-pub mod Targets
-pub mod Records
-pub mod Texts
 pub mod Laws

@@ -6,7 +6,7 @@ ghost use Rattle.rules.specs.Decimal.{decimal};
 ghost use Rattle.rules.specs.Tables.{tablesOf};
 ghost use Rattle.rules.specs.Writing.{textOf};
 ghost use Rattle.writing.specs.Lengths.{afterEach, recordBytes};
-ghost use Rattle.pgsolver_writer.specs.Written.{Written};
+ghost use Rattle.pgsolver_put.specs.Written.{Written};
 
 // The digits of a number.
 fn digits(value: u64) -> usize

@@ -1,13 +1,12 @@
 // Writes the tables of a game as PGSolver text, in the one form that reading undoes. The length needed is worked out by one
 // pass over the tables, before the first byte is written.
 mod length;
-mod put;
 
 use length::text_length;
 use parity_game::Answer;
 use parity_game::NO_VERTEX;
 use parity_game::SHORT_TEXT;
-use put::put_text;
+use pgsolver_put::put::put_text;
 ghost use Rattle.rules.specs.Tables.{tablesOf};
 ghost use Rattle.rules.specs.Writing.{Writes};
 ghost use Rattle.parity_game.specs.Said.{said};

@@ -1,9 +1,4 @@
 -- Where the promotion's tables stand in the work area, what each function asks for and leaves behind, and what a reader may conclude.
-pub mod Round
-pub mod Rounds
-pub mod Solve
-pub mod Counts
-pub mod Beginning
 pub mod Starting
 pub mod Running
 pub mod Promises

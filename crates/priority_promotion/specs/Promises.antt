@@ -27,8 +27,8 @@ use Rattle.theory.specs.Zielonka.{zielonka-wins}
 use Rattle.solver.specs.Promises.{setFor, gotBy, answer, answered-accepted, answered-within, answered-count, answered-holds, answered-winning}
 use Rattle.sets.specs.Same.{Narrow, holds-same}
 use Rattle.solver.specs.Promises.{answered-one, answered-certified, answers-within, holds-alike, Agree, results-agree}
-use Rattle.priority_promotion.specs.Round.{Shows}
-use Rattle.priority_promotion.specs.Rounds.{RoundDone}
+use Rattle.promotion_rounds.specs.Round.{Shows}
+use Rattle.promotion_rounds.specs.Rounds.{RoundDone}
 
 -- the contract of `solve_priority_promotion`
 abbrev pub Promise : ℕ → Tables → Lent → Lent → Outcome → Type 0

@@ -16,9 +16,9 @@ use Rattle.solver.specs.Preparing.{Preparable, Prepared}
 use Rattle.solver.specs.Outputs.{wonFrom, Found}
 use Rattle.promotion_region.specs.Layout.{evenAt, regionsAt, accepted-edges}
 use Rattle.promotion_region.specs.Dominion.{wonAt}
-use Rattle.priority_promotion.specs.Beginning.{Beginnable, Begun}
+use Rattle.promotion_rounds.specs.Beginning.{Beginnable, Begun}
 use Rattle.priority_promotion.specs.Starting.{tables-room, begin-ready, begun-reached}
-use Rattle.priority_promotion.specs.Solve.{Reached, Ended, none-left, ended-needed, ended-over}
+use Rattle.promotion_rounds.specs.Solve.{Reached, Ended, none-left, ended-needed, ended-over}
 
 -- the sets that the rules' rounds win under a budget
 abbrev pub wonIn : Tables → ℕ → Player → Set

@@ -25,8 +25,8 @@ use Rattle.promotion_region.specs.Regions.{regionAt}
 use Rattle.area.specs.SetsAt.{set-kept, set-zeros}
 use Rattle.promotion_region.specs.Layout.{evenAt, oddAt, regionsAt, tableAt, table-below, accepted-edges}
 use Rattle.promotion_region.specs.Dominion.{wonAt}
-use Rattle.priority_promotion.specs.Beginning.{Beginnable, Begun, BegunOf}
-use Rattle.priority_promotion.specs.Solve.{Reached}
+use Rattle.promotion_rounds.specs.Beginning.{Beginnable, Begun, BegunOf}
+use Rattle.promotion_rounds.specs.Solve.{Reached}
 
 -- all vertices are counted
 count-full : (n : ℕ) (S : Set) → ((v : ℕ) → v < n → S v ≡ true) → count n S ≡ n

@@ -1,8 +1,8 @@
 // The public solver, for every input: it checks all that it takes, works in the first W words of the work area, writes
 // only when it answers, and leaves those words 0.
-use crate::begin::begin;
-use crate::solve::solve;
 use parity_game::Answer;
+use promotion_rounds::begin::begin;
+use promotion_rounds::solve::solve;
 use solver::Ran;
 ghost use mathlib.Core.Path.{_≡_};
 ghost use lib.ListN.{length, replicate};
@@ -84,7 +84,7 @@ pub fn solve_priority_promotion(
         })
         (said r)) ⌝ }
 {
-    let r = solver::check_all(
+    let r = lent_checks::checks::check_all(
         owners,
         priorities,
         offsets,

@@ -1,5 +1,4 @@
 -- What the general solvers share: the checks, the work area at first, the strategy, a run under a budget, and what follows from a contract.
-pub mod Checks
 pub mod Preparing
 pub mod Entries
 pub mod Running

@@ -22,7 +22,7 @@ use Rattle.sets.specs.Same.{Narrow, holds-same}
 use Rattle.theory.specs.Checker.{winning-gets-yes}
 use Rattle.theory.specs.Tables.{accepted-total}
 use Rattle.theory.specs.Zielonka.{determinacy}
-use Rattle.solver.specs.Checks.{numbered-checks}
+use Rattle.lent_checks.specs.Checks.{numbered-checks}
 
 -- the words of a player's set
 abbrev pub setFor : Lent → Player → List ℕ

@@ -16,7 +16,7 @@ use Rattle.rules.specs.Winning.{WinningEntries}
 use Rattle.rules.specs.Words.{Holds}
 use Rattle.solver.specs.declared.ran.Ran.{Ran}
 use Rattle.solver.specs.declared.ran.Ran.the-variants.{Needed, OverBudget}
-use Rattle.solver.specs.Checks.{Passed}
+use Rattle.lent_checks.specs.Checks.{Passed}
 
 -- what `run` asks for: accepted tables, outputs of the right sizes, and W words
 pub record Runnable (t : Tables) (even odd strategy work : List ℕ) : Type 0 where

@@ -1,12 +1,10 @@
 // What the general solvers share: the checks 1 to 10 in order, the first tables in the work area, what a run under a
 // budget gives, and the strategy as it is written out.
-mod checks;
 mod entries;
 mod outputs;
 mod preparing;
 mod ran;
 
-pub use checks::check_all;
 pub use outputs::write_out;
 pub use preparing::prepare;
 pub use ran::Ran;

@@ -78,7 +78,7 @@ pub fn solve_zielonka(
         })
         (said r)) ⌝ }
 {
-    let r = solver::check_all(
+    let r = lent_checks::checks::check_all(
         owners,
         priorities,
         offsets,

@@ -4,7 +4,7 @@ use Rattle.rules.specs.Outcome.{Verdict, none, answered}
 use Rattle.rules.specs.Checker.{certificateChecks}
 use Rattle.rules.specs.Tables.{Tables, gameOf, tablesOf}
 use Rattle.parity_game.proofs.Matched.{went-on, stopped, refusal-not-zero}
-use Rattle.solver.specs.Checks.{numbered-by}
+use Rattle.lent_checks.specs.Checks.{numbered-by}
 use Rattle.checker.specs.Checks.{Certifiable, refusals, checks-refused, certify-given, work-fits, checks-done}
 use native.Mathlib.Omega.{arith}
 use borrow.Author.Needs.{needs}

@@ -12,7 +12,7 @@ use Rattle.rules.specs.Tables.{Tables, vertices}
 use Rattle.parity_game.proofs.Matched.{went-on, stopped, refusal-not-zero}
 use Rattle.parity_game.specs.Said.{said, refusal}
 use Rattle.theory.specs.Mending.{exportChecks, Mendable, export-mendable}
-use Rattle.mend.specs.Bare.{bared-shaped, bared-offsets, bared-targets}
+use Rattle.mend_counts.specs.Bare.{bared-shaped, bared-offsets, bared-targets}
 use Rattle.mend.specs.Laws.{lentOf, roomChecks, Sizes, sizes-told, lateChecks, mending-grouped, numbered-export, too-many}
 use Rattle.mend.specs.Laws.{rooms-left, Rooms, rooms-fit, numbered-rooms, refusal-same, mends-refused, mends-answered}
 use Rattle.mend.proofs.mend.Statement.{statement}

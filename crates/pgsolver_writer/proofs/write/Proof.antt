@@ -11,8 +11,8 @@ use Rattle.rules.specs.Writing.{textOf, check33, check34, Writes}
 use Rattle.parity_game.proofs.Matched.{went-on, stopped, refusal-not-zero}
 use Rattle.parity_game.specs.Laws.{numbered-tables}
 use Rattle.parity_game.specs.Said.{said}
-use Rattle.pgsolver_writer.specs.Written.{Written, above}
-use Rattle.pgsolver_writer.specs.Texts.{writes-refused, writes-empty, writes-short, writes-answered}
+use Rattle.pgsolver_put.specs.Written.{Written, above}
+use Rattle.pgsolver_put.specs.Texts.{writes-refused, writes-empty, writes-short, writes-answered}
 use Rattle.pgsolver_writer.proofs.write.Statement.{statement}
 use Rattle.pgsolver_writer.proofs.write.Tie as tie
 

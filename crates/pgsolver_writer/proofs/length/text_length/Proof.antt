@@ -7,7 +7,7 @@ use lib.ListN.{length}
 use Rattle.rules.specs.Tables.{Tables, tablesOf}
 use Rattle.rules.specs.Writing.{recordsText, headerText}
 use Rattle.writing.specs.Lengths.{header-length, text-length, text-bounded}
-use Rattle.pgsolver_writer.specs.Records.{Row, row, records-empty}
+use Rattle.pgsolver_put.specs.Records.{Row, row, records-empty}
 use Rattle.pgsolver_writer.proofs.length.text_length.Statement.{statement}
 use Rattle.pgsolver_writer.proofs.length.text_length.Tie as tie
 

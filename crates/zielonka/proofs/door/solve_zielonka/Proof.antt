@@ -14,7 +14,7 @@ use Rattle.rules.specs.Zielonka.{zielonka}
 use Rattle.theory.specs.Tables.{accepted-sound}
 use Rattle.parity_game.proofs.Matched.{went-on, refusal-not-zero}
 use Rattle.area.specs.Lent.{work-cleared}
-use Rattle.solver.specs.Checks.{numbered-checks, Passed, checks-passed}
+use Rattle.lent_checks.specs.Checks.{numbered-checks, Passed, checks-passed}
 use Rattle.solver.specs.declared.ran.Ran.{Ran}
 use Rattle.solver.specs.Running.{outputsOf, Runs, ranOutcome, run-ready, solves-refused, solves-ran}
 use borrow.Author.Needs.{needs}

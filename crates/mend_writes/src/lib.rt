@@ -1,0 +1,3 @@
+// What mending writes: the new edges, and the list of what was dropped and altered.
+pub mod edges;
+pub mod list;

@@ -1,0 +1,6 @@
+-- What a round, and the rounds under a budget, make of the work area.
+pub mod Round
+pub mod Rounds
+pub mod Solve
+pub mod Counts
+pub mod Beginning
