@@ -28,7 +28,7 @@
  *
  * The budget is the most calls of reckonbough_zielonka, or rounds of reckonbough_priority_promotion. Let d be the number of
  * different priorities. 2 * (C(n,0) + C(n,1) + ... + C(n,d)) - 1 calls and n * (n + 2)^d rounds are always enough; both are
- * proved. UINT64_MAX asks for an answer however long it takes.
+ * proved. Where that number is above UINT64_MAX, no budget is proved to be enough; UINT64_MAX then asks for as much as can be asked.
  *
  * Stack: reckonbough_zielonka nests at most n + 1 calls of itself, 384 bytes each on x86-64 and 336 on Arm; a thread with 2 MiB
  * of stack is enough for every game. Every other function needs less than 2 KiB.
