@@ -1,7 +1,7 @@
 -- `differs` meets its contract: it gives 0 only where it has passed every test.
 use borrow.Author.Needs.{needs}
-use Rattle.replay.proofs.solvers.differs.Statement.{statement}
-use Rattle.replay.proofs.solvers.differs.Tie as tie
+use Rattle.oracle.proofs.differs.Statement.{statement}
+use Rattle.oracle.proofs.differs.Tie as tie
 
 number-requires : tie.Need-number-requires
 number-requires c κs = search needs

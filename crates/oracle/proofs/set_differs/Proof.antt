@@ -2,8 +2,8 @@
 use mathlib.Core.Bool.{true≢false}
 use mathlib.Core.Path.{sym, _∙_}
 use borrow.Author.Needs.{needs}
-use Rattle.replay.proofs.solvers.set_differs.Statement.{statement}
-use Rattle.replay.proofs.solvers.set_differs.Tie as tie
+use Rattle.oracle.proofs.set_differs.Statement.{statement}
+use Rattle.oracle.proofs.set_differs.Tie as tie
 
 number-requires : tie.Need-number-requires
 number-requires c κs = search needs
