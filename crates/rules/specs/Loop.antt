@@ -13,10 +13,10 @@ use Rattle.rules.specs.Solitaire.{solitaire, soleOwner, check11}
 use Rattle.rules.specs.Solver.{cleared}
 use Rattle.rules.specs.Tables.{Tables, gameOf, vertices, edgesIn, tableChecks, check10}
 
--- the vertices of a path from one vertex to another: each has an edge to the next; it may be one vertex alone
-pub data Path (g : Game) : ℕ → ℕ → List ℕ → Type 0 where
-  alone : {v : ℕ} → Path g v v (v ∷ [])
-  next : {v w u : ℕ} {vs : List ℕ} → Edge g v w → Path g w u vs → Path g v u (v ∷ vs)
+-- the vertices of a path along R, from one vertex to another: each leads to the next; it may be one vertex alone
+pub data Path (R : ℕ → ℕ → Type 0) : ℕ → ℕ → List ℕ → Type 0 where
+  alone : {v : ℕ} → Path R v v (v ∷ [])
+  next : {v w u : ℕ} {vs : List ℕ} → R v w → Path R w u vs → Path R v u (v ∷ vs)
 
 -- the highest priority of the vertices of a list
 unfoldable pub highestOf : Game → List ℕ → ℕ
@@ -28,8 +28,8 @@ highestOf g (v ∷ vs) = max (g .priority v) (highestOf g vs)
 pub record Run (g : Game) (a : Player) (v : ℕ) (path cycle : List ℕ) : Type 0 where
   pub first : ℕ
   pub last : ℕ
-  pub leads : Path g v first path
-  pub round : Path g first last cycle
+  pub leads : Path (Edge g) v first path
+  pub round : Path (Edge g) first last cycle
   pub back : Edge g last first
   pub once : 2 ≤ length cycle → last ≡ first → ⊥
   pub parity-is : parity (highestOf g cycle) ≡ a

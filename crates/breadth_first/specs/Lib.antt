@@ -1,0 +1,3 @@
+-- What the search and the way that it leaves promise.
+pub mod Following
+pub mod Spreading
