@@ -62,7 +62,7 @@ pub kept-same : (G : Graph) (work : List ℕ) → Kept G work work
 kept-same G work = record { within = within-same _ _ work; grows = λ u p. p; begun = λ u l e. e }
 
 -- ways stay where words stay
-way-kept :
+pub way-kept :
     {G : Graph} {before after : List ℕ} {x : ℕ} {vs : List ℕ} →
     ((u : ℕ) → assigned G before u ≡ true → labelWord G after u ≡ labelWord G before u) →
     Way G before x vs →

@@ -3,7 +3,7 @@
 use mathlib.Core.Bool.{true, false}
 use mathlib.Core.List.{List, [], _∷_, _++_}
 use mathlib.Core.Logic.{_⊎_, inl, inr, ⊎-elim}
-use mathlib.Core.Path.{_≡_, refl, sym, ap, _∙_}
+use mathlib.Core.Path.{_≡_, refl, sym, ap, subst, _∙_}
 use Prim.Native.Nat.{ℕ, zero, suc, _+_, _*_, max, _≤_, _<_}
 use native.Mathlib.Nat.{le-refl, le-antisymm, le-max-left, max-le}
 use native.Mathlib.Omega.{arith}
@@ -13,11 +13,12 @@ use lib.ListN.{length, length-append}
 use Rattle.rules.specs.Counting.{Set, count}
 use Rattle.rules.specs.Game.{Player, Game, everywhere, Edge, Total, parity}
 use Rattle.rules.specs.Loop.{Path, alone, next, highestOf, Run}
-use Rattle.rules.specs.Solitaire.{Links, inside, reached, atMost, solitaire}
+use Rattle.rules.specs.Solitaire.{Links, inside, reached, atMost, onPart, solitaire}
 use Rattle.rules.specs.Winning.{Walk, one, more, Reach, here, step, Wins}
-use Rattle.theory.specs.Basics.{bool-cases, clash, not-true-is-false, count-strict, count-le, count-pos}
-use Rattle.theory.specs.Links.{Linked, reached-end, reach-reached, cycle-on-cycle, first-step, distance, towards, towards-nearer}
-use Rattle.theory.specs.Solitaire.{inside-elim, at-most-elim, solitaire-elim, solitaire-intro, solitaire-wins, wins-solitaire, wider}
+use Rattle.theory.specs.Basics.{bool-cases, and-intro, not-true-is-false, count-strict, count-le, count-pos}
+use Rattle.theory.specs.Links.{Linked, reached-end, reach-reached, together-refl, edge-reach-walk, cycle-on-cycle, good-part-intro}
+use Rattle.theory.specs.Links.{first-step, distance, towards, towards-nearer}
+use Rattle.theory.specs.Solitaire.{inside-elim, at-most-elim, on-part-cycle, solitaire-elim, solitaire-intro, solitaire-wins, wins-solitaire, wider}
 use Rattle.theory.specs.Walks.{Relation, Carries, reach-append, reach-map, reach-walk}
 
 pub path-map : {R Q : Relation} {v u : ℕ} {vs : List ℕ} → Carries R Q → Path R v u vs → Path Q v u vs
@@ -153,28 +154,52 @@ module _ (n : ℕ) (links : Links) (u : ℕ) where
       let most = count-le n (near v) in
       (vs, a, omega arith)
 
+-- the last edge of a walk, and how it is reached
+pub last-step : {priority : ℕ → ℕ} {R : Relation} {v u m : ℕ} → Walk priority R v u m → (z : ℕ) × Reach R v z × R z u
+last-step (one {v} e) = (v, here, e)
+last-step (more e c) = let (z, r, d) = last-step c in (z, step e r, d)
+
+-- a vertex of the solitaire set reaches one that is in a good part for its own priority, which is of a's parity
+pub solitaire-head :
+    (g : Game) (a : Player) (v : ℕ) → solitaire g a v ≡ true →
+    (u : ℕ) × (v < g .size) × (parity (g .priority u) ≡ a) × (onPart g (g .priority u) u ≡ true) ×
+    Reach (Linked (g .size) (inside g (everywhere g))) v u
+solitaire-head g a v q =
+    let n = g .size in
+    let (w, p, small, mine, r, c) = solitaire-elim g a v q in
+    let on = cycle-on-cycle c in
+    let u = on .vertex in
+    let links = inside g (atMost g p) in
+    let (m, k, from) = reach-walk (on .part .1) c in
+    let (x, e, rest) = first-step from in
+    let (h, round) = edge-reach-walk {priority = g .priority} e (reach-append rest (on .part .0)) in
+    let good = good-part-intro g links p u (record { highest = h; cycle = round; vertex = u; part = together-refl u; exactly = on .exactly }) in
+    let part : onPart g p u ≡ true = and-intro (inside-elim g (atMost g p) u x (e .edge) .0) good in
+    (
+      u,
+      small,
+      ap parity (on .exactly) ∙ mine,
+      subst (λ (k : ℕ). onPart g k u ≡ true) (sym (on .exactly)) part,
+      reach-append r (reach-map (wider g p) (on .part .0)),
+    )
+
 -- **And every vertex of the solitaire set has one.**
 pub solitaire-run :
     (g : Game) (a : Player) (v : ℕ) → solitaire g a v ≡ true → (path : List ℕ) × (cycle : List ℕ) × Run g a v path cycle
 solitaire-run g a v q =
     let n = g .size in
-    let (w, p, small, mine, r, c) = solitaire-elim g a v q in
-    let on = cycle-on-cycle c in
-    let u = on .vertex in
-    let (m, k, from) = reach-walk (on .part .1) c in
-    let (x, e, rest) = first-step from in
-    let wide : Carries (Linked n (inside g (atMost g p))) (Linked n (inside g (everywhere g))) = wider g p in
-    let back = reach-reached n (inside g (atMost g p)) (e .end) (reach-append rest (on .part .0)) in
-    let there = reach-reached n (inside g (everywhere g)) small (reach-append r (reach-map wide (on .part .0))) in
-    let (vs, a-path, short) = approach n (inside g (everywhere g)) u v there in
-    let (ws, a-round, short') = approach n (inside g (atMost g p)) u x back in
+    let (u, small, mine, on, r) = solitaire-head g a v q in
+    let p = g .priority u in
+    let (x, e, rest) = first-step (on-part-cycle g p u on) in
+    let (vs, a-path, short) = approach n (inside g (everywhere g)) u v (reach-reached n (inside g (everywhere g)) small r) in
+    let (ws, a-round, short') = approach n (inside g (atMost g p)) u x (reach-reached n (inside g (atMost g p)) (e .end) rest) in
     let (last, round, returns, o) = approach-round e a-round in
     let once : 2 ≤ length (u ∷ ws) → last ≡ u → ⊥ =
     λ two same. ⊎-elim (λ (is, none). let z = ap length none in omega arith) (λ h. h same) o in
     (
       vs ++ (u ∷ []),
       u ∷ ws,
-      run-of g a p mine (on .exactly) (approach-path a-path) round returns once (rw (length-append vs (u ∷ [])) (omega arith)) (omega arith),
+      run-of g a p mine refl (approach-path a-path) round returns once (rw (length-append vs (u ∷ [])) (omega arith)) (omega arith),
     )
 
 module _ (g : Game) (total : Total g) (a : Player) (one : (v : ℕ) → v < g .size → g .owner v ≡ a) where
