@@ -19,6 +19,7 @@ use Rattle.depth_first.specs.Graph.{Graph, size, edgeCount, priority, Leads, So
 use Rattle.depth_first.specs.Leading.{link}
 use Rattle.depth_first.specs.Walking.{Room}
 use Rattle.depth_first.specs.Seeking.{assigned, labelWord, queued, rowStart, Rows, rows-kept, Lookable, Looked}
+use Rattle.breadth_first.specs.Following as Words
 
 -- x leads to y, and its word says so
 pub record Onward (G : Graph) (work : List ℕ) (x y : ℕ) : Type 0 where
@@ -77,6 +78,28 @@ way-kept {G} {before} {after} old w =
   where
     same : (k u : ℕ) → u < size G → labelWord G before u ≡ k + 1 → labelWord G after u ≡ labelWord G before u
     same k u l e = old u (true-marked (size G) (labels (size G) (edgeCount G)) before u l (λ z. omega arith))
+
+-- the words alone show the way
+pub way-words :
+    {G : Graph} {work : List ℕ} {x : ℕ} {vs : List ℕ} → Way G work x vs → Words.Way (size G) (labels (size G) (edgeCount G)) work x vs
+way-words w =
+    record {
+      last = w .last;
+      path = path-map (λ x y e. record { start = e .leads .start; end = e .leads .end; word = e .word }) (w .path);
+      vertex = w .vertex;
+      ends = w .ends;
+    }
+
+-- a way of two vertices or more does not end where it starts
+pub way-once : {G : Graph} {work : List ℕ} {x : ℕ} {vs : List ℕ} (w : Way G work x vs) → 2 ≤ length vs → w .last ≡ x → ⊥
+way-once {G} {work} w two same = go (w .path) two same (w .ends)
+  where
+    go :
+        {x y : ℕ} {vs : List ℕ} → Path (Onward G work) x y vs → 2 ≤ length vs → y ≡ x → labelWord G work y ≡ size G + 1 → ⊥
+    go alone two same ends = omega arith
+    go (next e r) two same ends =
+        let word = ap (labelWord G work) same in
+        omega (arith, e .word, e .leads .end)
 
 module _ (G : Graph) (work : List ℕ) (head tail : ℕ) (s : Standing G work head tail) (more : head < tail) where
   abbrev w : ℕ
