@@ -35,7 +35,7 @@ use Rattle.parts.specs.Parity.{predecessor-rows, graph-sound, game-of}
 use Rattle.loop_search.specs.Finding.{Unled}
 use Rattle.solitaire_game.specs.Running.{rows-fit, sole-owner-small}
 use Rattle.show_loop.specs.Checks.{Passed}
-use Rattle.show_loop.specs.Writing.{Wrote, Goable, Went}
+use Rattle.show_loop.specs.Writing.{Wrote, Goable, Went, path-some}
 
 -- what `run` asks for: accepted tables of one owner, a vertex, lists with room, and W words
 pub record Runnable (t : Tables) (v : ℕ) (path cycle work : List ℕ) : Type 0 where
@@ -120,10 +120,10 @@ module _ (t : Tables) (accepted : Accepted t) where
         (v : ℕ) →
         ((j : ℕ) → j < 128 → Unled (t .priorities) (t .offsets) (t .targets) [] (2 * j + owner) v) →
         solitaire (gameOf t) (soleOwner t) v ≡ false
+    unfolding gameOf
     unled-outside v unled = not-true-is-false (solitaire (gameOf t) (soleOwner t) v) none-there
       where
         none-there : solitaire (gameOf t) (soleOwner t) v ≡ true → ⊥
-        unfolding gameOf
         none-there q =
             let (u, small, its, on, r) = solitaire-head (gameOf t) (soleOwner t) v q in
             let p = getD (t .priorities) u 0 in
@@ -167,6 +167,7 @@ module _ (t : Tables) (v : ℕ) (path cycle w₀ : List ℕ) (given : Runnable t
 
   module _ (w₁ : List ℕ) (built : Predecessors (vertices t) (t .offsets) (t .targets) w₀ w₁) where
     pub go-ready : Goable (t .priorities) (t .offsets) (t .targets) [] owner w₁ v path cycle
+    unfolding gameOf
     go-ready =
         let same = each t (given .accepted) in
         record {
@@ -231,12 +232,12 @@ pub shows-none :
     solitaire (gameOf t) (soleOwner t) v ≡ false →
     work′ ≡ cleared t work →
     ShowsLoop t v (lentOf path cycle work k) (lentOf path cycle work′ 0) (refusal 46 v)
+unfolding check46
 shows-none t v path cycle work work′ k passed outside is =
     let no-loop : check46 t v ≡ refused 46 v = refuses outside in
     rw (passed, no-loop) (refl, ap (λ (xs : List ℕ). lentOf path cycle xs 0) is)
   where
     refuses : solitaire (gameOf t) (soleOwner t) v ≡ false → check46 t v ≡ refused 46 v
-    unfolding check46
     refuses q = rw q
 
 -- an answer
@@ -247,6 +248,7 @@ pub shows-run :
     RunWritten t v path path′ cycle cycle′ on round →
     work′ ≡ cleared t work →
     ShowsLoop t v (lentOf path cycle work k) (lentOf path′ cycle′ work′ on) (answered (on + round))
+unfolding check46
 shows-run t v path cycle work path′ cycle′ work′ k on round accepted passed w is =
     let in-set = run-solitaire (gameOf t) (accepted-total t accepted) (soleOwner t) v (w .run) in
     rw (passed, admits in-set)
@@ -262,8 +264,41 @@ shows-run t v path cycle work path′ cycle′ work′ k on round accepted passe
     })
   where
     admits : solitaire (gameOf t) (soleOwner t) v ≡ true → check46 t v ≡ none
-    unfolding check46
     admits q = rw q
+
+-- what `run` gives, told: no path is 46, and a path an answer
+module _ (t : Tables) (v : ℕ) (path cycle work path′ cycle′ zeros before : List ℕ) (k on round : ℕ)
+    (accepted : Accepted t)
+    (passed : loopChecks t v (lentOf path cycle work k) ≡ none)
+    (r : Ran t v before zeros path path′ cycle cycle′ on round) where
+  some-path : RunWritten t v path path′ cycle cycle′ on round → 0 < on
+  some-path w = let some = path-some (w .run .leads) in omega (arith, w .path-length)
+
+  pub told-none :
+      (work′ : List ℕ) → work′ ≡ cleared t work → on ≡ 0 →
+      ShowsLoop t v (lentOf path cycle work k) (lentOf path′ cycle′ work′ 0) (refusal 46 v)
+  told-none work′ is z =
+      ⊎-elim
+      (λ (outside, p, c, zero). rw (p, c) (shows-none t v path cycle work work′ k passed outside is))
+      (λ w. absurd (let some = some-path w in omega arith))
+      (r .ran)
+
+  pub told-run :
+      (work′ : List ℕ) → work′ ≡ cleared t work → (on ≡ 0 → ⊥) →
+      ShowsLoop t v (lentOf path cycle work k) (lentOf path′ cycle′ work′ on) (answered (on + round))
+  told-run work′ is d =
+      ⊎-elim
+      (λ (outside, p, c, zero). absurd (d zero))
+      (λ w. shows-run t v path cycle work path′ cycle′ work′ k on round accepted passed w is)
+      (r .ran)
+
+  pub told-few : (on ≡ 0 → ⊥) → on + round ≤ 8192
+  unfolding gameOf
+  told-few d =
+      ⊎-elim
+      (λ (outside, p, c, zero). absurd (d zero))
+      (λ w. omega (arith, w .run .few, w .path-length, w .cycle-length, accepted-sound t accepted .few-vertices))
+      (r .ran)
 
 -- past the checks the first W words are what the run asks for
 pub run-ready :

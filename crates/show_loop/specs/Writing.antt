@@ -1,6 +1,6 @@
 -- From the way that the search left to the two lists.
 use mathlib.Core.Bool.{true}
-use mathlib.Core.List.{List}
+use mathlib.Core.List.{List, _∷_}
 use mathlib.Core.Logic.{_⊎_, inl, inr}
 use mathlib.Core.Path.{_≡_, refl, sym, ap, _∙_}
 use Prim.Native.Nat.{ℕ, suc, _+_, _-_, _*_, _%_, _≤_, _<_}
@@ -56,7 +56,7 @@ pub record Went (priorities offsets targets entries : List ℕ) (parity v : ℕ)
       (((j : ℕ) → j < 128 → Unled priorities offsets targets entries (2 * j + parity) v) × (path′ ≡ path) × (cycle′ ≡ cycle) × (on ≡ 0)) ⊎
       ((p : ℕ) × (p % 2 ≡ parity) × Wrote priorities offsets targets entries p v path path′ cycle cycle′ on round)
 
-path-some : {R : Relation} {v u : ℕ} {vs : List ℕ} → Path R v u vs → 0 < length vs
+pub path-some : {R : Relation} {v u : ℕ} {vs : List ℕ} → Path R v u vs → 0 < length vs
 path-some alone = omega arith
 path-some (next e r) = omega arith
 
@@ -65,8 +65,8 @@ path-last : {R : Relation} {v u : ℕ} {vs : List ℕ} → Path R v u vs → get
 path-last alone = refl
 path-last (next {v} {vs} e r) =
     let some = path-some r in
-    let is : length vs ≡ suc (length vs - 1) = omega arith in
-    rw is (path-last r)
+    let is : suc (length vs) - 1 ≡ suc (length vs - 1) = omega arith in
+    ap (λ (k : ℕ). getD (v ∷ vs) k 0) is ∙ path-last r
 
 module _ (priorities offsets targets entries : List ℕ) (p : ℕ) (w₀ : List ℕ) (v : ℕ) (path cycle : List ℕ)
     (given : Writable priorities offsets targets entries p w₀ v path cycle) where
@@ -176,7 +176,7 @@ module _ (priorities offsets targets entries : List ℕ) (parity : ℕ) (w₀ : 
       go :
           ((p ≡ 256) × ((j : ℕ) → j < 128 → Unled priorities offsets targets entries (2 * j + parity) v)) ⊎
           Met priorities offsets targets entries parity v w₁ p →
-          (((j : ℕ) → j < 128 → Unled priorities offsets targets entries (2 * j + parity) v) × (path ≡ path) × (cycle ≡ cycle) × (0 ≡ 0)) ⊎
+          (((j : ℕ) → j < 128 → Unled priorities offsets targets entries (2 * j + parity) v) × (path ≡ path) × (cycle ≡ cycle) × (_≡_ {A = ℕ} 0 0)) ⊎
           ((q : ℕ) × (q % 2 ≡ parity) × Wrote priorities offsets targets entries q v path path cycle cycle 0 0)
       go (inl (is, none)) = inl (none, refl, refl, refl)
       go (inr met) = absurd (omega (arith, met .low))
