@@ -116,8 +116,7 @@ module _ {n row : ℕ} {work : List ℕ} where
 
     pub follow-end : getD work (row + v) 0 ≡ n + 1 → (set after k v ≡ overwritten vs before) × (k + 1 ≡ length vs)
     follow-end stop =
-        let is = f .whole ∙ ap (λ (xs : List ℕ). f .done ++ xs) (path-stops (f .way .path) stop) in
-        (
+        let is = f .whole ∙ ap (λ (xs : List ℕ). f .done ++ xs) (path-stops (f .way .path) stop) in (
           wrote ∙ ap (λ (xs : List ℕ). overwritten xs before) (sym is),
           omega (arith, f .place, ap length is ∙ length-append (f .done) (v ∷ [])),
         )

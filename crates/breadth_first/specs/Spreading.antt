@@ -150,8 +150,7 @@ module _ (G : Graph) (work : List ℕ) (head tail : ℕ) (s : Standing G work he
         (vs : List ℕ) × Way G after u vs × (length vs ≤ k + 1)
     new-way k u above p q =
         let (vs, way, short) = s .ways head more in
-        let on = way-kept (looked .old) way in
-        (
+        let on = way-kept (looked .old) way in (
           u ∷ vs,
           record {
             last = on .last;

@@ -2,3 +2,4 @@
 pub mod Checks
 pub mod Writing
 pub mod Running
+pub mod Promises

@@ -1,11 +1,11 @@
 // The public function, for every input: it checks all that it takes, works in the first W words of the work area, and
 // leaves them 0.
 use crate::checks::check_all;
-use crate::lists::write_run;
 use crate::lists::Lengths;
+use crate::lists::write_run;
 use parity_game::Answer;
-use parity_game::VertexIndex;
 use parity_game::NO_LOOP;
+use parity_game::VertexIndex;
 use solitaire_game::sole_owner;
 ghost use Rattle.rules.specs.Loop.{ShowsLoop};
 ghost use Rattle.rules.specs.Tables.{tablesOf};
@@ -82,7 +82,16 @@ pub fn show_loop(
     }
     let w = parity_game::work_words(owners.len(), targets.len());
     let v = vertex as usize;
-    let found = run(owners, priorities, offsets, targets, v, path, cycle, &mut work[0..w]);
+    let found = run(
+        owners,
+        priorities,
+        offsets,
+        targets,
+        v,
+        path,
+        cycle,
+        &mut work[0..w],
+    );
     if found.path == 0 {
         return Answer::AtVertex(NO_LOOP, VertexIndex(v));
     }

@@ -65,5 +65,15 @@ pub fn write_run(
     if 255 < p {
         return Lengths { path: 0, cycle: 0 };
     }
-    write_lists(priorities, offsets, targets, entries, p, work, v, path, cycle)
+    write_lists(
+        priorities,
+        offsets,
+        targets,
+        entries,
+        p,
+        work,
+        v,
+        path,
+        cycle,
+    )
 }

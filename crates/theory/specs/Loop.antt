@@ -174,8 +174,7 @@ solitaire-head g a v q =
     let (x, e, rest) = first-step from in
     let (h, round) = edge-reach-walk {priority = g .priority} e (reach-append rest (on .part .0)) in
     let good = good-part-intro g links p u (record { highest = h; cycle = round; vertex = u; part = together-refl u; exactly = on .exactly }) in
-    let part : onPart g p u ≡ true = and-intro (inside-elim g (atMost g p) u x (e .edge) .0) good in
-    (
+    let part : onPart g p u ≡ true = and-intro (inside-elim g (atMost g p) u x (e .edge) .0) good in (
       u,
       small,
       ap parity (on .exactly) ∙ mine,
@@ -195,8 +194,7 @@ solitaire-run g a v q =
     let (ws, a-round, short') = approach n (inside g (atMost g p)) u x (reach-reached n (inside g (atMost g p)) (e .end) rest) in
     let (last, round, returns, o) = approach-round e a-round in
     let once : 2 ≤ length (u ∷ ws) → last ≡ u → ⊥ =
-    λ two same. ⊎-elim (λ (is, none). let z = ap length none in omega arith) (λ h. h same) o in
-    (
+    λ two same. ⊎-elim (λ (is, none). let z = ap length none in omega arith) (λ h. h same) o in (
       vs ++ (u ∷ []),
       u ∷ ws,
       run-of g a p mine refl (approach-path a-path) round returns once (rw (length-append vs (u ∷ [])) (omega arith)) (omega arith),

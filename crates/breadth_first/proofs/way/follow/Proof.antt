@@ -73,7 +73,7 @@ loop-less : tie.Need-loop-less Inv-loop μ-loop
 loop-less c = let (a, b, d) = numbers (c .before .before .before) in omega arith
 
 loop-again : tie.Need-loop-again Inv-loop μ-loop
-loop-again c = 
+loop-again c =
     let a = c .before .before .before in
     λ vs w fits. follow-on (a .loop .inv vs w fits) fits (c .before .if1 .taken)
 

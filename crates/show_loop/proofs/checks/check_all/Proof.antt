@@ -90,7 +90,7 @@ number-requires : tie.Need-number-requires
 number-requires c κs = search needs
 
 returns : tie.Need-returns
-returns c = 
+returns c =
     let g = at1 (c .before .before) in
     let called = c .before .before .check-tables in
     stopped (called .result) (tableChecks (tables g)) (left8 g) (answered 0) (c .if1 .taken) (c .before .number .ensures) (called .ensures)
@@ -102,7 +102,7 @@ number-requires-2 : tie.Need-number-requires-2
 number-requires-2 c κs = search needs
 
 returns-2 : tie.Need-returns-2
-returns-2 c = 
+returns-2 c =
     let g = past1 (c .before .before .before) in
     let called = c .before .before .check-work in
     stopped (called .result) (ten g) (left10 g) (answered 0) (c .if2 .taken) (c .before .number2 .ensures) (called .ensures) ∙
@@ -115,7 +115,7 @@ number-requires-3 : tie.Need-number-requires-3
 number-requires-3 c κs = search needs
 
 returns-3 : tie.Need-returns-3
-returns-3 c = 
+returns-3 c =
     let g = past2 (c .before .before .before) in
     let called = c .before .before .check-owners-equal in
     stopped (called .result) (eleven g) (asked g) (answered 0) (c .if3 .taken) (c .before .number3 .ensures) (called .ensures) ∙

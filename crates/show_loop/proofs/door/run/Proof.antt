@@ -28,7 +28,7 @@ sole-owner-requires : tie.Need-sole-owner-requires
 sole-owner-requires c κs = search needs
 
 build-requires : tie.Need-build-requires
-build-requires c κs = 
+build-requires c κs =
     let o = c .before in
     let g = start o in
     build-ready (tables g) (g .args .v) (g .args .path .now) (g .args .cycle .now) (g .args .work .now) (g .pre) (o .sole-owner .result) (o .sole-owner .ensures)
@@ -46,7 +46,7 @@ cast-write-run : tie.Need-cast-write-run
 cast-write-run c = search needs
 
 write-run-requires : tie.Need-write-run-requires
-write-run-requires c κs = 
+write-run-requires c κs =
     let b = c .before .before .before .before .before .before in
     let o = owned b in
     let g = start o in
@@ -66,7 +66,7 @@ same-length-3 : tie.Need-same-length-3
 same-length-3 c = search needs
 
 returns : tie.Need-returns
-returns c = 
+returns c =
     let d = c .before .before in
     let w = went d in
     let b = built w in

@@ -52,7 +52,7 @@ number-requires : tie.Need-number-requires
 number-requires c κs = search needs
 
 returns : tie.Need-returns
-returns c = 
+returns c =
     let g = c .before .before .before .before .before .before .before .before .before .before in
     let called = c .before .before .check-all in
     shows-refused (tables g) (g .args .vertex) (g .args .path .now) (g .args .cycle .now) (g .args .work .now) (g .args .path-length .now) _
@@ -71,7 +71,7 @@ part-run-end : tie.Need-part-run-end
 part-run-end c = omega (arith, passed (c .before .before .before) .work-size, c .before .before .work-words .ensures)
 
 run-requires : tie.Need-run-requires
-run-requires c κs = 
+run-requires c κs =
     let w = c .before .before .before in
     let e = w .before in
     let g = start e in
@@ -88,7 +88,7 @@ same-length-3 : tie.Need-same-length-3
 same-length-3 c = search needs
 
 returns-2 : tie.Need-returns-2
-returns-2 c = 
+returns-2 c =
     let r = c .before .before .before .before .before .before .before .before in
     let f = r .run in
     let e = began r in
@@ -100,7 +100,7 @@ returns-2 c =
     _ (work-cleared (tables g) (w .result) (g .args .work .now) _ (w .ensures) (passed e .work-size) (f .ensures .zeros)) (c .if2 .taken)
 
 add-t28 : tie.Need-add-t28
-add-t28 c = 
+add-t28 c =
     let r = c .before .before .before .before .before .before .before .before in
     let f = r .run in
     let e = began r in
@@ -108,8 +108,8 @@ add-t28 c =
     omega (
       arith,
       told-few (tables g) (g .args .vertex) (g .args .path .now) (g .args .cycle .now) (g .args .work .now) (f .last .1 .1 .1 .1 .1 .0)
-    (f .last .1 .1 .1 .1 .1 .1 .0) (f .last .1 .1 .1 .1 .1 .1 .1 .0) _ (g .args .path-length .now) (f .result .path) (f .result .cycle)
-    (passed e .accepted) (no-refusal e) (f .ensures) (c .if2 .left),
+          (f .last .1 .1 .1 .1 .1 .1 .0) (f .last .1 .1 .1 .1 .1 .1 .1 .0) _ (g .args .path-length .now) (f .result .path) (f .result .cycle)
+          (passed e .accepted) (no-refusal e) (f .ensures) (c .if2 .left),
     )
 
 same-length-4 : tie.Need-same-length-4
@@ -122,7 +122,7 @@ same-length-6 : tie.Need-same-length-6
 same-length-6 c = search needs
 
 returns-3 : tie.Need-returns-3
-returns-3 c = 
+returns-3 c =
     let r = c .before .before .before .before .before .before .before .before in
     let f = r .run in
     let e = began r in

@@ -33,13 +33,13 @@ add-labels-5 : tie.Need-add-labels-5
 add-labels-5 c = search needs
 
 follow-requires : tie.Need-follow-requires
-follow-requires c κs = 
+follow-requires c κs =
     let s = c .before .before .before .before .before .before .before .before .before in
     path-followable (s .args .priorities .now) (s .args .offsets .now) (s .args .targets .now) (s .args .entries .now) (s .args .p) (s .args .work .now) (s .args .v)
     (s .args .path .now) (s .args .cycle .now) (s .pre)
 
 sub-u : tie.Need-sub-u
-sub-u c = 
+sub-u c =
     let f = c .before .before in
     let s = start f in
     let (some, room) =
@@ -49,7 +49,7 @@ sub-u c =
     omega arith
 
 mul-u : tie.Need-mul-u
-mul-u c = 
+mul-u c =
     let f = c .before .before in
     let s = start f in
     let (some, room) =
@@ -59,7 +59,7 @@ mul-u c =
     omega arith
 
 slice-read-u : tie.Need-slice-read-u
-slice-read-u c = 
+slice-read-u c =
     let f = c .before .before .before in
     let s = start f in
     let (some, room) =
@@ -72,7 +72,7 @@ cast-u : tie.Need-cast-u
 cast-u c = let f = c .before .before .before in omega (arith, c .slice-known5 .given (f .follow .result - 1))
 
 spread-round-requires : tie.Need-spread-round-requires
-spread-round-requires c κs = 
+spread-round-requires c κs =
     let f = c .before .before .before .before in
     let s = start f in
     round-roundable (s .args .priorities .now) (s .args .offsets .now) (s .args .targets .now) (s .args .entries .now) (s .args .p) (s .args .work .now) (s .args .v)
@@ -80,7 +80,7 @@ spread-round-requires c κs =
     (f .follow .last .1 .1 .1 .1 .0) (f .follow .result) (f .follow .ensures) _ refl
 
 follow-requires-2 : tie.Need-follow-requires-2
-follow-requires-2 c κs = 
+follow-requires-2 c κs =
     let r = c .before .before .before .before in
     let f = followed r in
     let s = start f in
@@ -98,14 +98,14 @@ same-length-3 : tie.Need-same-length-3
 same-length-3 c = search needs
 
 returns : tie.Need-returns
-returns c = 
+returns c =
     let g = c .before .before in
     let r = rounded g in
     let f = followed r in
     let s = start f in (
       r .spread-round .ensures .within .long,
       wrote (s .args .priorities .now) (s .args .offsets .now) (s .args .targets .now) (s .args .entries .now) (s .args .p) (s .args .work .now) (s .args .v)
-    (s .args .path .now) (s .args .cycle .now) (s .pre)
+          (s .args .path .now) (s .args .cycle .now) (s .pre)
           (f .follow .last .1 .1 .1 .1 .0) (f .follow .result) (f .follow .ensures) _ refl (r .spread-round .last .1 .1 .1 .1 .1 .0) (r .spread-round .ensures)
           (g .follow2 .last .1 .1 .1 .1 .0) (g .follow2 .result) (g .follow2 .ensures),
     )

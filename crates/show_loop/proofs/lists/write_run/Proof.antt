@@ -19,7 +19,7 @@ same-length : tie.Need-same-length
 same-length c = search needs
 
 returns : tie.Need-returns
-returns c = 
+returns c =
     let f = c .before .before .before in
     let s = start f in
     went-none (s .args .priorities .now) (s .args .offsets .now) (s .args .targets .now) (s .args .entries .now) (s .args .parity) (s .args .work .now) (s .args .v)
@@ -27,7 +27,7 @@ returns c =
     (c .if1 .taken)
 
 write-lists-requires : tie.Need-write-lists-requires
-write-lists-requires c κs = 
+write-lists-requires c κs =
     let e = c .before .before .before in
     let f = sought e in
     let s = start f in
@@ -45,7 +45,7 @@ same-length-4 : tie.Need-same-length-4
 same-length-4 c = search needs
 
 returns-2 : tie.Need-returns-2
-returns-2 c = 
+returns-2 c =
     let g = c .before .before .before .before .before .before in
     let e = g .before .before .before .before in
     let f = sought e in
