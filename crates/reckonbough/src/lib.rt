@@ -3,6 +3,7 @@
 mod answer;
 mod attraction;
 mod certificate;
+mod looping;
 mod mending;
 mod promotion;
 mod reading;
