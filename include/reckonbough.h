@@ -67,7 +67,7 @@
 #define RECKONBOUGH_DEAD_END 8          /* a vertex without an edge; place: lowest vertex */
 #define RECKONBOUGH_BAD_SIZE 9          /* a set not s words, a strategy or a table of new priorities not n entries long */
 #define RECKONBOUGH_SHORT_WORK 10       /* a work area shorter than W */
-#define RECKONBOUGH_OWNERS_DIFFER 11    /* solitaire: two owners differ */
+#define RECKONBOUGH_OWNERS_DIFFER 11    /* solitaire, show_loop: two owners differ */
 #define RECKONBOUGH_STRAY_BIT 12        /* attractor: a bit at n or above, or a bit of target that is not in within;
                                            place: lowest such bit */
 #define RECKONBOUGH_OVER_BUDGET 13      /* more calls or rounds are needed than the budget */
@@ -88,6 +88,9 @@
 #define RECKONBOUGH_NO_VERTEX 33        /* write: n is 0 */
 #define RECKONBOUGH_SHORT_TEXT 34       /* write: a text shorter than needed; place: the length needed */
 #define RECKONBOUGH_SHORT_OUTPUT 35     /* mend: an output or the list is shorter than needed */
+#define RECKONBOUGH_NO_SUCH_VERTEX 44   /* show_loop: the vertex is not below n; place: its number */
+#define RECKONBOUGH_SHORT_LIST 45       /* show_loop: a list shorter than 2 * n entries */
+#define RECKONBOUGH_NO_LOOP 46          /* show_loop: no cycle of the owner's parity can be reached; place: the vertex */
 
 #ifdef __cplusplus
 extern "C" {
@@ -185,6 +188,30 @@ uint64_t reckonbough_solitaire(
     const uint16_t *targets, size_t targets_length,
     uint64_t *set, size_t set_length,
     uint64_t *work, size_t work_length,
+    uint64_t *place, uint64_t *count);
+
+/*
+ * Shows the run: in a game in which one player owns every vertex, a path from the vertex to a cycle whose highest priority has
+ * the owner's parity, and the cycle.
+ * Writes the front of path and of cycle, 2 * n entries or more each; the rest of both stays. The path begins at the vertex
+ * and ends with the cycle's first vertex; it may be that one vertex alone. The cycle's last vertex has an edge to its first,
+ * which is not repeated at the end. *path_length is the path's length, and 0 on every refusal; the cycle's is the count less
+ * that. Path and cycle together have at most 2 * n vertices, the shared one counted in both. Any such run will do; this one
+ * goes to the nearest vertex that can be the highest of a cycle of the lowest such priority, and round from there by the
+ * fewest edges. Works in work, W words or more; the first W words are zero after 46 too.
+ * Gives 0, 1 to 8, 10, 11, 44, 45 or 46, in this order. It gives 46 exactly where reckonbough_solitaire's set lacks the
+ * vertex. The count is both lengths together.
+ */
+uint64_t reckonbough_show_loop(
+    const uint8_t *owners, size_t owners_length,
+    const uint16_t *priorities, size_t priorities_length,
+    const uint16_t *offsets, size_t offsets_length,
+    const uint16_t *targets, size_t targets_length,
+    uint64_t vertex,
+    uint16_t *path, size_t path_room,
+    uint16_t *cycle, size_t cycle_room,
+    uint64_t *work, size_t work_length,
+    uint64_t *path_length,
     uint64_t *place, uint64_t *count);
 
 /*

@@ -46,6 +46,9 @@ static void names(void)
         RECKONBOUGH_NO_VERTEX,
         RECKONBOUGH_SHORT_TEXT,
         RECKONBOUGH_SHORT_OUTPUT,
+        RECKONBOUGH_NO_SUCH_VERTEX,
+        RECKONBOUGH_SHORT_LIST,
+        RECKONBOUGH_NO_LOOP,
     };
     printf("numbers:");
     for (size_t i = 0; i < sizeof numbers / sizeof *numbers; i++)
@@ -71,12 +74,42 @@ static void no_vertices(void)
     print("priority_promotion of C1, budget 0",
           reckonbough_priority_promotion(C1, 0, NULL, 0, NULL, 0, NULL, 0, work, w, &place, &count));
     print("solitaire of C1", reckonbough_solitaire(C1, NULL, 0, work, w, &place, &count));
+    uint64_t length = 7;
+    print("show_loop of C1", reckonbough_show_loop(C1, 0, NULL, 0, NULL, 0, work, w, &length, &place, &count));
+    printf("  path %" PRIu64 "\n", length);
     print("check of C1", reckonbough_check(C1, NULL, 0, NULL, 0, NULL, 0, work, w, &place, &count));
     print("compact of C1", reckonbough_compact(C1, NULL, 0, &place, &count));
     print("write of C1", reckonbough_write(C1, NULL, 0, &place, &count));
     uint16_t new_offset = 7;
     print("mend of C1", reckonbough_mend(C1, NULL, 0, &new_offset, 1, NULL, 0, NULL, 0, &place, &count));
     print("mend of C1, no offsets", reckonbough_mend(C1, NULL, 0, NULL, 0, NULL, 0, NULL, 0, &place, &count));
+}
+
+/* C8's run from each vertex and beyond, and what is lent too short. */
+static const uint8_t c8_owners[] = {0, 0, 0, 0};
+static const uint16_t c8_priorities[] = {1, 2, 1, 3}, c8_offsets[] = {0, 1, 2, 3, 4}, c8_targets[] = {1, 2, 1, 3};
+#define C8 c8_owners, 4, c8_priorities, 4, c8_offsets, 5, c8_targets, 4
+
+static void loops(void)
+{
+    uint16_t path[9], cycle[9];
+    uint64_t length;
+    const size_t w = reckonbough_work_words(4, 4);
+    for (uint64_t v = 0; v < 5; v++) {
+        for (size_t i = 0; i < 9; i++)
+            path[i] = cycle[i] = 77;
+        print("show_loop of C8", reckonbough_show_loop(C8, v, path, 9, cycle, 9, work, w, &length, &place, &count));
+        printf("  path %" PRIu64 ":", length);
+        for (size_t i = 0; i < 9; i++)
+            printf(" %u", (unsigned)path[i]);
+        printf("; cycle:");
+        for (size_t i = 0; i < 9; i++)
+            printf(" %u", (unsigned)cycle[i]);
+        printf("\n");
+    }
+    print("show_loop, short path", reckonbough_show_loop(C8, 0, path, 7, cycle, 9, work, w, &length, &place, &count));
+    print("show_loop, short cycle", reckonbough_show_loop(C8, 0, path, 8, cycle, 7, work, w, &length, &place, &count));
+    print("show_loop, short work", reckonbough_show_loop(C8, 9, path, 8, cycle, 8, work, w - 1, &length, &place, &count));
 }
 
 static const uint8_t c7_owners[] = {0, 1};
@@ -202,6 +235,7 @@ int main(void)
     without_strategy();
     mending();
     as_text();
+    loops();
     most_vertices();
     return 0;
 }

@@ -79,6 +79,36 @@ pub fn solitaire(game: &Game, lent: &mut Lent) -> Answer {
         lent.work.as_mut_ptr() => *mut u64, lent.work.len() => usize))
 }
 
+/// What is lent to [`show_loop`] to write into.
+#[derive(Clone, Debug, PartialEq, Eq)]
+pub struct Lists {
+    pub path: Vec<u16>,
+    pub cycle: Vec<u16>,
+    pub work: Vec<u64>,
+    pub path_length: u64,
+}
+
+impl Lists {
+    /// Lists of two entries more than needed, and three words of work area more, with junk in them.
+    pub fn junk(game: &Game) -> Lists {
+        Lists { work: vec![0xfeed_feed_feed_feed; work_words(game.n(), game.m()) + 3], ..Lists::junk_lists(game) }
+    }
+
+    /// The same without a work area.
+    pub fn junk_lists(game: &Game) -> Lists {
+        let room = 2 * game.n() + 2;
+        Lists { path: vec![0x7777; room], cycle: vec![0x5a5a; room], work: Vec::new(), path_length: u64::MAX }
+    }
+}
+
+pub fn show_loop(game: &Game, vertex: u64, lists: &mut Lists) -> Answer {
+    door!(reckonbough_show_loop(game, vertex => u64,
+        lists.path.as_mut_ptr() => *mut u16, lists.path.len() => usize,
+        lists.cycle.as_mut_ptr() => *mut u16, lists.cycle.len() => usize,
+        lists.work.as_mut_ptr() => *mut u64, lists.work.len() => usize,
+        &mut lists.path_length => *mut u64))
+}
+
 /// The result is lent as `even`.
 pub fn attractor(game: &Game, player: u8, within: &[u64], target: &[u64], lent: &mut Lent) -> Answer {
     door!(reckonbough_attractor(game, player => u8,

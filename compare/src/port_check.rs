@@ -1,6 +1,7 @@
 //! The port against the rules: number, place, count, and every lent word afterwards.
 
 mod claims;
+mod loops;
 pub mod mending;
 mod refusals;
 
@@ -22,6 +23,7 @@ pub fn compare(game: &Game, want: &Want) -> Result<u64, String> {
     let zielonka = solver("port: zielonka", port::zielonka, game, winners, want.calls)?;
     let promotion = solver("port: priority_promotion", port::priority_promotion, game, winners, want.rounds)?;
     solitaire(game, want)?;
+    loops::compare(game, want.solitaire.as_deref())?;
     compact(game)?;
     let mut numbers = Numbers::new(game.targets.iter().fold(game.n() as u64, |sum, w| sum.wrapping_mul(31) + *w as u64));
     for player in [0, 1] {

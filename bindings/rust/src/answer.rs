@@ -67,6 +67,12 @@ pub enum Refusal {
     NoStrategy(usize),
     /// 35: an output or a list shorter than needed.
     ShortOutput,
+    /// 44: a vertex that is not below n.
+    NoSuchVertex(usize),
+    /// 45: a list shorter than 2·n entries.
+    ShortList,
+    /// 46: a vertex from which no cycle of the owner's parity can be reached.
+    NoLoop(usize),
     /// A number that this crate does not know. The library that it is made for gives none.
     Unknown {
         /// The number.
@@ -104,6 +110,9 @@ impl Refusal {
             Refusal::ShortText(length) => (34, length),
             Refusal::NoStrategy(vertex) => (25, vertex),
             Refusal::ShortOutput => (35, 0),
+            Refusal::NoSuchVertex(vertex) => (44, vertex),
+            Refusal::ShortList => (45, 0),
+            Refusal::NoLoop(vertex) => (46, vertex),
             Refusal::Unknown { number, place } => (number, place),
         }
     }
@@ -139,6 +148,9 @@ impl Answer {
             34 => Refusal::ShortText(place),
             25 => Refusal::NoStrategy(place),
             35 => Refusal::ShortOutput,
+            44 => Refusal::NoSuchVertex(place),
+            45 => Refusal::ShortList,
+            46 => Refusal::NoLoop(place),
             number => Refusal::Unknown { number, place },
         })
     }
@@ -172,6 +184,9 @@ impl fmt::Display for Refusal {
             Refusal::ShortText(_) => (Some("length"), "the text is shorter than needed"),
             Refusal::NoStrategy(_) => (Some("vertex"), "an entry is needed, and the strategy has none at all"),
             Refusal::ShortOutput => (None, "an output or the list is too short"),
+            Refusal::NoSuchVertex(_) => (Some("vertex"), "there is no such vertex"),
+            Refusal::ShortList => (None, "a list is shorter than twice the vertices"),
+            Refusal::NoLoop(_) => (Some("vertex"), "no cycle that the owner wins can be reached"),
             Refusal::Unknown { .. } => (Some("place"), "a number that this crate does not know"),
         };
         let (number, place) = self.number_and_place();

@@ -78,6 +78,18 @@ extern "C" {
         work: *mut u64, work_length: usize,
         place: *mut u64, count: *mut u64,
     ) -> u64;
+    fn reckonbough_show_loop(
+        owners: *const u8, owners_length: usize,
+        priorities: *const u16, priorities_length: usize,
+        offsets: *const u16, offsets_length: usize,
+        targets: *const u16, targets_length: usize,
+        vertex: u64,
+        path: *mut u16, path_room: usize,
+        cycle: *mut u16, cycle_room: usize,
+        work: *mut u64, work_length: usize,
+        path_length: *mut u64,
+        place: *mut u64, count: *mut u64,
+    ) -> u64;
     fn reckonbough_check(
         owners: *const u8, owners_length: usize,
         priorities: *const u16, priorities_length: usize,
@@ -215,6 +227,18 @@ pub fn priority_promotion(
 /// Solves a game with one owner, whose winning set is written: 0 or 1 to 11; the count is 0.
 pub fn solitaire(tables: Tables<'_>, set: &mut [u64], work: &mut [u64]) -> Answer {
     call!(reckonbough_solitaire, tables, set.as_mut_ptr(), set.len(), work.as_mut_ptr(), work.len())
+}
+
+/// Writes a run from a vertex of a game with one owner, a path to a cycle and the cycle, at the front of two lists of 2·n entries
+/// or more; what is behind stays: 0, 1 to 8, 10, 11, 44, 45 or 46; the count is both lengths together, and the path's comes with
+/// the answer.
+pub fn show_loop(tables: Tables<'_>, vertex: u64, path: &mut [u16], cycle: &mut [u16], work: &mut [u64]) -> (Answer, usize) {
+    let mut path_length = 0;
+    let answer = call! {
+        reckonbough_show_loop, tables, vertex,
+        path.as_mut_ptr(), path.len(), cycle.as_mut_ptr(), cycle.len(), work.as_mut_ptr(), work.len(), &mut path_length
+    };
+    (answer, path_length as usize)
 }
 
 /// Checks a claim of winning sets and strategy: 0 for yes, 1 to 10 or 21 to 25; the count is 0.

@@ -87,6 +87,15 @@ pub struct Attracted {
     pub looks: u64,
 }
 
+/// A run in a game that one player owns: how to come to a cycle that the player wins, and the cycle.
+#[derive(Clone, Debug, PartialEq, Eq)]
+pub struct Run {
+    /// From the vertex asked for to the cycle's first vertex; it may be that one vertex alone.
+    pub path: Vec<usize>,
+    /// Its vertices in order, each once: from the last an edge leads back to the first.
+    pub cycle: Vec<usize>,
+}
+
 /// A mended export: the game, and what was done to get it.
 #[derive(Clone, Debug, PartialEq, Eq)]
 pub struct Mended {
@@ -272,6 +281,27 @@ impl Game {
         let mut set = self.set();
         doors::solitaire(self.tables(), &mut set, &mut self.work()).result()?;
         Ok(self.members(&set))
+    }
+
+    /// A run from the vertex in a game that one player owns: a path to a cycle whose highest priority is of the owner's parity, and
+    /// the cycle. There is one exactly where [`solve_solitaire_game`](Game::solve_solitaire_game) says that the owner wins.
+    ///
+    /// Refuses by [`Refusal::OwnersDiffer`], by [`Refusal::NoSuchVertex`], and by [`Refusal::NoLoop`] where the owner does not win.
+    ///
+    /// ```
+    /// # use reckonbough::{Game, Player::*, Refusal};
+    /// let game = Game::new(&[(Even, 1, &[1]), (Even, 2, &[2, 2]), (Even, 1, &[1]), (Even, 3, &[3])])?;
+    /// let run = game.show_loop(0)?;
+    /// assert_eq!((run.path, run.cycle), (vec![0, 1], vec![1, 2]));
+    /// assert_eq!(game.show_loop(3), Err(Refusal::NoLoop(3)));
+    /// # Ok::<(), reckonbough::Refusal>(())
+    /// ```
+    pub fn show_loop(&self, vertex: usize) -> Result<Run, Refusal> {
+        let (mut path, mut cycle) = (vec![0; 2 * self.vertices()], vec![0; 2 * self.vertices()]);
+        let (answer, length) = doors::show_loop(self.tables(), vertex as u64, &mut path, &mut cycle, &mut self.work());
+        let both = answer.result()? as usize;
+        let listed = |list: &[u16]| list.iter().map(|v| usize::from(*v)).collect();
+        Ok(Run { path: listed(&path[..length]), cycle: listed(&cycle[..both - length]) })
     }
 
     /// The attractor of `target` in `within` for the player.

@@ -185,7 +185,7 @@ module _
         room = s .room;
         rows = s .rows;
         vertex = w-below;
-        root = below;
+        root = omega (arith, below);
         few = s .few;
         rising = s .rows .rising w w-below;
         top = s .rows .top w w-below;

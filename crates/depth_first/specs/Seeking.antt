@@ -62,7 +62,7 @@ pub record Lookable (G : Graph) (work : List ℕ) (w r tail : ℕ) : Type 0 wher
   pub room : Room G work
   pub rows : Rows G work
   pub vertex : w < size G
-  pub root : r < size G
+  pub root : r ≤ size G
   pub few : tail ≤ count (size G) (assigned G work)
   pub rising : rowStart work w ≤ rowStart work (w + 1)
   pub top : rowStart work (w + 1) ≤ edgeCount G

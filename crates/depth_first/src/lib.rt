@@ -6,4 +6,6 @@ mod second;
 
 pub use first::first_pass;
 pub use links::keeps;
+pub use second::look_back;
+pub use second::put;
 pub use second::second_pass;

@@ -8,7 +8,7 @@ ghost use Rattle.depth_first.specs.Graph.{graph};
 ghost use Rattle.depth_first.specs.Seeking.{Putable, putting, Lookable, Looked, Findable, Found, Labelling, Labelled};
 
 // x gets a word in a row of words, and stands at a place of the queue.
-fn put(work: &mut [u64], row: usize, x: usize, word: u64, queue: usize, at: usize)
+pub fn put(work: &mut [u64], row: usize, x: usize, word: u64, queue: usize, at: usize)
     requires { ⌜ Putable row x queue at (now work) ⌝ }
     ensures { λ _. ⌜ now (work .exit) ≡ putting row x word queue at (now (work .entry)) ⌝ }
 {
@@ -18,7 +18,7 @@ fn put(work: &mut [u64], row: usize, x: usize, word: u64, queue: usize, at: usiz
 
 // Each vertex without a label that leads to w gets the label of r, and goes to the end of the queue. Gives the
 // queue's new end.
-fn look_back(
+pub fn look_back(
     priorities: &[u16],
     offsets: &[u16],
     targets: &[u16],

@@ -52,6 +52,12 @@ pub const SHORT_TEXT: u64 = 34;
 
 pub const SHORT_OUTPUT: u64 = 35;
 
+pub const NO_SUCH_VERTEX: u64 = 44;
+
+pub const SHORT_LIST: u64 = 45;
+
+pub const NO_LOOP: u64 = 46;
+
 pub enum Answer {
     // Calls, rounds, looks, a length, or 0 where nothing is counted.
     Answered(u64),

@@ -70,7 +70,7 @@ marked-unused G base work none =
         clash (and-right (samePart (size G) (linksIn G) v u) _ met) (some-false (size G) _ none u l))
 
 -- the table depends on its own words alone
-rows-alike :
+pub rows-alike :
     (G : Graph) (before after : List ℕ) →
     ((i : ℕ) → i < marks (size G) (edgeCount G) → getD after i 0 ≡ getD before i 0) →
     Rows G before →

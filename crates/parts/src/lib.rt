@@ -6,6 +6,7 @@ mod parity;
 
 pub use collect::clear;
 pub use parity::mark_parity;
+pub use parity::mark_used;
 ghost use Rattle.depth_first.specs.Graph.{graph};
 ghost use Rattle.parts.specs.Whole.{Markable, Marked};
 

@@ -20,7 +20,7 @@ fn occurs(priorities: &[u16], p: u16) -> bool
 }
 
 // A priority that no vertex has has no part, and no search.
-fn mark_used(
+pub fn mark_used(
     priorities: &[u16],
     offsets: &[u16],
     targets: &[u16],

@@ -45,7 +45,7 @@ abbrev pub baseOf : Tables → ℕ
 baseOf t = rowOf t + vertices t
 
 -- W words have room for them
-rows-fit : (n m : ℕ) → behind n m + n + words n + words n ≤ workWords n m
+pub rows-fit : (n m : ℕ) → behind n m + n + words n + words n ≤ workWords n m
 unfolding workWords words
 rows-fit zero m = omega arith
 rows-fit (suc n) m = go ((suc n + 63) / 64) (omega arith)
@@ -55,6 +55,14 @@ rows-fit (suc n) m = go ((suc n + 63) / 64) (omega arith)
     go (suc s) l =
         let wide : 2 * s ≤ 8 * (suc n + 2) * s = mul-le-mul-right s (omega arith) in
         rw (mul-suc (8 * (suc n + 2)) s) (omega arith)
+
+-- the owner of all is 0 or 1
+pub sole-owner-small : (t : Tables) → Accepted t → (owner : ℕ) → owner ≡ getD (t .owners) 0 0 → owner ≤ 1
+sole-owner-small t accepted owner is =
+    ⊎-elim
+    (λ (l : 0 < vertices t). omega (arith, accepted-sound t accepted .owner-small 0 l))
+    (λ (h : vertices t ≤ 0). omega (arith, List·getD-eq-default (t .owners) 0 {n = 0} h))
+    (lt-or-ge 0 (vertices t))
 
 module _ (t : Tables) (set w₀ : List ℕ) (given : Runnable t set w₀) (owner : ℕ) (is : owner ≡ getD (t .owners) 0 0) where
   abbrev n : ℕ
@@ -67,18 +75,11 @@ module _ (t : Tables) (set w₀ : List ℕ) (given : Runnable t set w₀) (owner
   player : playerOf owner ≡ soleOwner t
   player = ap playerOf is
 
-  owner-small : owner ≤ 1
-  owner-small =
-      ⊎-elim
-      (λ (l : 0 < n). omega (arith, accepted-sound t (given .accepted) .owner-small 0 l))
-      (λ (h : n ≤ 0). omega (arith, List·getD-eq-default (t .owners) 0 {n = 0} h))
-      (lt-or-ge 0 n)
-
   fits : baseOf t + s + s ≤ length w₀
   fits = omega (arith, rows-fit n (edgesIn t), given .room, given .set-size)
 
   pub mark-ready : Markable t owner w₀ (rowOf t)
-  mark-ready = record { accepted = given .accepted; side = owner-small; low = omega arith; high = omega (arith, fits) }
+  mark-ready = record { accepted = given .accepted; side = sole-owner-small t (given .accepted) owner is; low = omega arith; high = omega (arith, fits) }
 
   module _ (w₁ : List ℕ) (marks : Marked t (playerOf owner) (rowOf t) w₀ w₁) where
     pub place-ready : Placeable n s (rowOf t) (baseOf t) w₁
@@ -104,7 +105,7 @@ module _ (t : Tables) (set w₀ : List ℕ) (given : Runnable t set w₀) (owner
             edges = edges-sound t (given .accepted);
             listed =
                 listed-kept n (t .offsets) (t .targets) w₁ w₂ (placed .long) (λ i l. placed .front i (omega arith)) (marks .listed);
-            side = owner-small;
+            side = sole-owner-small t (given .accepted) owner is;
           }
 
       module _ (looks : ℕ) (w₃ : List ℕ) (drawn : Attracted t (playerOf owner) (baseOf t) (baseOf t + s) w₂ w₃ looks) where

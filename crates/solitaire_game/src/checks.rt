@@ -20,7 +20,7 @@ pub fn sole_owner(owners: &[u8]) -> u8
 }
 
 // 11: all owners are the first.
-fn check_owners_equal(owners: &[u8]) -> Answer
+pub fn check_owners_equal(owners: &[u8]) -> Answer
     ensures { λ r. ⌜ said r ≡ outcome (check11 (length (now (owners .entry))) (now (owners .entry))) (answered 0) ⌝ }
 {
     let first = sole_owner(owners);

@@ -4,4 +4,6 @@ mod checks;
 mod door;
 mod marking;
 
+pub use checks::check_owners_equal;
+pub use checks::sole_owner;
 pub use door::solve_solitaire_game;

@@ -29,6 +29,7 @@ pub mod NothingChosen
 pub mod Certified
 pub mod Chosen
 pub mod SolitaireAttractor
+pub mod Loop
 pub mod DepthFirst
 pub mod Kosaraju
 pub mod PromotionBasics

@@ -187,7 +187,7 @@ returning g p u x v =
     (towards (g .size) (inside g (everywhere g)) u v)
 
 -- links at priorities of at most p are links
-wider : (g : Game) (p s t : ℕ) → Linked (g .size) (inside g (atMost g p)) s t → Linked (g .size) (inside g (everywhere g)) s t
+pub wider : (g : Game) (p s t : ℕ) → Linked (g .size) (inside g (atMost g p)) s t → Linked (g .size) (inside g (everywhere g)) s t
 wider g p s t e =
     record {
       edge =

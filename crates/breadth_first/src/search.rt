@@ -1,0 +1,32 @@
+// The search itself.
+use depth_first::look_back;
+ghost use Rattle.depth_first.specs.Graph.{graph};
+ghost use Rattle.breadth_first.specs.Spreading.{Standing, Spread};
+
+// Each vertex that leads to one in the queue gets that one plus 1 as its word, unless it has a word, and goes to the end
+// of the queue; those that the search begins at stand there already, with the word n + 1.
+pub fn spread(
+    priorities: &[u16],
+    offsets: &[u16],
+    targets: &[u16],
+    entries: &[u16],
+    p: u16,
+    work: &mut [u64],
+    begun: usize,
+)
+    requires { ⌜ Standing (graph (now priorities) (now offsets) (now targets) (now entries) p) (now work) 0 begun ⌝ }
+    ensures { λ _.
+        ⌜ Spread (graph (now (priorities .entry)) (now (offsets .entry)) (now (targets .entry))
+        (now (entries .entry)) p)
+        (now (work .entry)) (now (work .exit)) ⌝ }
+{
+    let n = priorities.len();
+    let queue = n + 1 + targets.len() + n + n;
+    let mut head = 0;
+    let mut tail = begun;
+    while head < tail {
+        let w = work[queue + head] as usize;
+        tail = look_back(priorities, offsets, targets, entries, p, work, w, w, tail);
+        head += 1;
+    }
+}

@@ -1,0 +1,54 @@
+// One priority after another.
+use crate::heads::spread_heads;
+ghost use Prim.Native.Nat.{_<_};
+ghost use lib.ListN.{length};
+ghost use Rattle.loop_search.specs.Finding.{Ready, Found, Seekable, Sought};
+
+// After this a vertex has a word exactly when it reaches a vertex of p in a good part for p, and its way leads to one.
+fn find(
+    priorities: &[u16],
+    offsets: &[u16],
+    targets: &[u16],
+    entries: &[u16],
+    p: u16,
+    work: &mut [u64],
+)
+    requires { ⌜ Ready (now priorities) (now offsets) (now targets) (now entries) (now work) ⌝ }
+    ensures { λ _.
+        ⌜ Found (now (priorities .entry)) (now (offsets .entry)) (now (targets .entry)) (now (entries .entry)) p
+        (now (work .entry)) (now (work .exit)) ⌝ }
+{
+    let n = priorities.len();
+    let labels = n + 1 + targets.len() + n + n + n;
+    let row = labels + n + n + n;
+    parts::clear(work, row, row + n);
+    parts::mark_used(priorities, offsets, targets, entries, p, work, row);
+    parts::clear(work, labels, labels + n);
+    spread_heads(priorities, offsets, targets, entries, p, work, row);
+}
+
+// The lowest such priority of the parity for v, or 256 where there is none; v's way is then shown by the words.
+pub fn seek(
+    priorities: &[u16],
+    offsets: &[u16],
+    targets: &[u16],
+    entries: &[u16],
+    parity: u16,
+    work: &mut [u64],
+    v: usize,
+) -> u16
+    requires { ⌜ Seekable (now priorities) (now offsets) (now targets) (now entries) parity (now work) v ⌝ }
+    ensures { λ p.
+        ⌜ Sought (now (priorities .entry)) (now (offsets .entry)) (now (targets .entry)) (now (entries .entry)) parity v
+        (now (work .entry)) (now (work .exit)) p ⌝ }
+{
+    let n = priorities.len();
+    let labels = n + 1 + targets.len() + n + n + n;
+    for k in 0..128u16 {
+        find(priorities, offsets, targets, entries, 2 * k + parity, work);
+        if work[labels + v] != 0 {
+            return 2 * k + parity;
+        }
+    }
+    256
+}

@@ -1,0 +1,100 @@
+// The public function, for every input: it checks all that it takes, works in the first W words of the work area, and
+// leaves them 0.
+use crate::checks::check_all;
+use crate::lists::Lengths;
+use crate::lists::write_run;
+use parity_game::Answer;
+use parity_game::NO_LOOP;
+use parity_game::VertexIndex;
+use solitaire_game::sole_owner;
+ghost use Rattle.rules.specs.Loop.{ShowsLoop};
+ghost use Rattle.rules.specs.Tables.{tablesOf};
+ghost use Rattle.parity_game.specs.Said.{said};
+ghost use Rattle.show_loop.specs.Running.{Runnable, Ran, lentOf};
+
+// The work itself, in W words, which are left 0.
+fn run(
+    owners: &[u8],
+    priorities: &[u16],
+    offsets: &[u16],
+    targets: &[u16],
+    v: usize,
+    path: &mut [u16],
+    cycle: &mut [u16],
+    work: &mut [u64],
+) -> Lengths
+    requires { ⌜ Runnable (tablesOf (now owners) (now priorities) (now offsets) (now targets)) v (now path) (now cycle)
+        (now work) ⌝ }
+    ensures { λ r.
+        ⌜ Ran (tablesOf (now (owners .entry)) (now (priorities .entry)) (now (offsets .entry)) (now (targets .entry))) v
+        (now (work .entry)) (now (work .exit)) (now (path .entry)) (now (path .exit))
+        (now (cycle .entry)) (now (cycle .exit)) (r .path) (r .cycle) ⌝ }
+{
+    let owner = sole_owner(owners);
+    predecessors::build(offsets, targets, owners.len(), work);
+    let r = write_run(
+        priorities,
+        offsets,
+        targets,
+        &targets[0..0],
+        owner as u16,
+        work,
+        v,
+        path,
+        cycle,
+    );
+    sets::clear(work, 0, work.len());
+    r
+}
+
+pub fn show_loop(
+    owners: &[u8],
+    priorities: &[u16],
+    offsets: &[u16],
+    targets: &[u16],
+    vertex: u64,
+    path: &mut [u16],
+    cycle: &mut [u16],
+    work: &mut [u64],
+    path_length: &mut u64,
+) -> Answer
+    ensures { λ r.
+        ⌜ ShowsLoop
+        (tablesOf (now (owners .entry)) (now (priorities .entry)) (now (offsets .entry)) (now (targets .entry)))
+        vertex
+        (lentOf (now (path .entry)) (now (cycle .entry)) (now (work .entry)) (now («path_length» .entry)))
+        (lentOf (now (path .exit)) (now (cycle .exit)) (now (work .exit)) (now («path_length» .exit)))
+        (said r) ⌝ }
+{
+    *path_length = 0;
+    let r = check_all(
+        owners,
+        priorities,
+        offsets,
+        targets,
+        vertex,
+        path.len(),
+        cycle.len(),
+        work.len(),
+    );
+    if r.number() != 0 {
+        return r;
+    }
+    let w = parity_game::work_words(owners.len(), targets.len());
+    let v = vertex as usize;
+    let found = run(
+        owners,
+        priorities,
+        offsets,
+        targets,
+        v,
+        path,
+        cycle,
+        &mut work[0..w],
+    );
+    if found.path == 0 {
+        return Answer::AtVertex(NO_LOOP, VertexIndex(v));
+    }
+    *path_length = found.path as u64;
+    Answer::Answered(found.path as u64 + found.cycle as u64)
+}
