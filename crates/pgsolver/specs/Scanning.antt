@@ -16,16 +16,16 @@ use Rattle.grammar.specs.Machine.{Machine, Run, live, ended, runFrom, endOf, re
 use Rattle.grammar.specs.Machine.{targetsRead}
 use Rattle.grammar.specs.Waiting.{Waits, inText}
 use Rattle.theory.specs.Basics.{clash}
-use Rattle.pgsolver_step.specs.declared.state.Phase.{Phase}
-use Rattle.pgsolver_step.specs.declared.state.Phase.the-variants.{AtStart, InWord, PastWord, InHighest, PastHighest}
-use Rattle.pgsolver_step.specs.declared.state.Phase.the-variants.{BetweenRecords}
-use Rattle.pgsolver_step.specs.declared.state.Phase.the-variants.{InIdentifier, PastIdentifier, InPriority, PastPriority}
-use Rattle.pgsolver_step.specs.declared.state.Phase.the-variants.{InOwner, PastOwner, InTarget, PastTarget, PastComma, InName}
-use Rattle.pgsolver_step.specs.declared.state.Phase.the-variants.{PastName}
-use Rattle.pgsolver_step.specs.declared.state.State.{State}
+use Rattle.pgsolver_moves.specs.declared.state.Phase.{Phase}
+use Rattle.pgsolver_moves.specs.declared.state.Phase.the-variants.{AtStart, InWord, PastWord, InHighest, PastHighest}
+use Rattle.pgsolver_moves.specs.declared.state.Phase.the-variants.{BetweenRecords}
+use Rattle.pgsolver_moves.specs.declared.state.Phase.the-variants.{InIdentifier, PastIdentifier, InPriority, PastPriority}
+use Rattle.pgsolver_moves.specs.declared.state.Phase.the-variants.{InOwner, PastOwner, InTarget, PastTarget, PastComma, InName}
+use Rattle.pgsolver_moves.specs.declared.state.Phase.the-variants.{PastName}
+use Rattle.pgsolver_moves.specs.declared.state.State.{State}
 use Rattle.pgsolver_step.specs.declared.portion.Portion.{Portion}
 use Rattle.pgsolver_step.specs.declared.portion.Portion.the-variants.{Reading, Stuck, Beyond}
-use Rattle.pgsolver_step.specs.Shown.{phaseOf, stateOf, isSaid, saidOf}
+use Rattle.pgsolver_moves.specs.Shown.{phaseOf, stateOf, isSaid, saidOf}
 use Rattle.pgsolver_step.specs.Follows.{Standing}
 use Rattle.pgsolver_step.specs.Steps.{Holds, Fitting}
 use Rattle.pgsolver_step.specs.Portions.{Remains, Ends, limitsIn, Portions}

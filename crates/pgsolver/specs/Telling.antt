@@ -14,8 +14,8 @@ use Rattle.arrange.specs.Laws.{roomsOf, Alike, alike-holding, seen-checks, chec
 use Rattle.arrange.specs.Once.{Once}
 use Rattle.arrange.specs.Promises.{Ready, Ordered, CanOrder, Orders}
 use Rattle.arrange.specs.Said.{headerFrom, seenChecks, identifiersSaid}
-use Rattle.pgsolver_step.specs.declared.state.State.{State}
-use Rattle.pgsolver_step.specs.Shown.{isSaid, saidOf}
+use Rattle.pgsolver_moves.specs.declared.state.State.{State}
+use Rattle.pgsolver_moves.specs.Shown.{isSaid, saidOf}
 use Rattle.pgsolver_step.specs.Portions.{limitsIn}
 use Rattle.pgsolver.specs.declared.tell.Told.{Told}
 use Rattle.pgsolver.specs.declared.tell.Told.the-variants.{Whole, Refused}

@@ -1,13 +1,13 @@
 // The whole text as one portion, and whether it may end there.
 use pgsolver_step::portion::Portion;
 use pgsolver_step::portion::read_portion;
-use pgsolver_step::state::Phase;
-use pgsolver_step::state::State;
+use pgsolver_moves::state::Phase;
+use pgsolver_moves::state::State;
 ghost use mathlib.Core.List.{[]};
 ghost use mathlib.Core.Path.{_≡_};
 ghost use Rattle.grammar.specs.Machine.{atFirst};
 ghost use Rattle.grammar.specs.Waiting.{Waits};
-ghost use Rattle.pgsolver_step.specs.Shown.{stateOf};
+ghost use Rattle.pgsolver_moves.specs.Shown.{stateOf};
 ghost use Rattle.pgsolver.specs.Scanning.{mayEndOn, Scanned};
 
 pub enum Scan {

@@ -1,5 +1,5 @@
 // A portion of a text, byte by byte.
-use crate::state::State;
+use pgsolver_moves::state::State;
 use crate::step::Step;
 use crate::step::read_byte;
 ghost use mathlib.Core.Path.{_≡_};
