@@ -2,10 +2,10 @@
 use mathlib.Core.Path.{sym, _∙_}
 use Rattle.parity_game.specs.Said.{said}
 use Rattle.arrange.specs.Laws.{roomsOf}
-use Rattle.pgsolver.specs.Finishing.{asksIn, writtenOf, finish-refused, finish-passed}
+use Rattle.pgsolver_finish.specs.Finishing.{asksIn, writtenOf, finish-refused, finish-passed}
 use borrow.Author.Needs.{needs}
-use Rattle.pgsolver.proofs.finish.finish.Statement.{statement}
-use Rattle.pgsolver.proofs.finish.finish.Tie as tie
+use Rattle.pgsolver_finish.proofs.finish.finish.Statement.{statement}
+use Rattle.pgsolver_finish.proofs.finish.finish.Tie as tie
 
 ask-requires : tie.Need-ask-requires
 ask-requires c κs = search needs

@@ -11,8 +11,8 @@ use Rattle.rules.specs.Tables.{Tables, tablesOf, tableChecks}
 use Rattle.parity_game.specs.Laws.{Numbered, numbered-tables, zero-none}
 use Rattle.arrange.specs.Cleared.{AllZero, all-zero-holding}
 use Rattle.arrange.specs.Laws.{roomsOf}
-use Rattle.pgsolver.specs.declared.finish.Asks.{Asks}
-use Rattle.pgsolver.specs.declared.finish.Asks.the-variants.{Text, Game}
+use Rattle.pgsolver_finish.specs.declared.finish.Asks.{Asks}
+use Rattle.pgsolver_finish.specs.declared.finish.Asks.the-variants.{Text, Game}
 
 abbrev pub asksIn : Asks → Reading.Asks
 asksIn Text = Reading.text

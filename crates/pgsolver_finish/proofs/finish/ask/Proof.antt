@@ -5,11 +5,11 @@ use lib.ListN.{take}
 use Rattle.rules.specs.Outcome.{outcome, answered}
 use Rattle.rules.specs.Reading.{listAsked}
 use Rattle.rules.specs.Tables.{Tables, tablesOf, tableChecks}
-use Rattle.pgsolver.specs.declared.finish.Asks.{Asks}
-use Rattle.pgsolver.specs.Finishing.{asksIn, part-fronts}
+use Rattle.pgsolver_finish.specs.declared.finish.Asks.{Asks}
+use Rattle.pgsolver_finish.specs.Finishing.{asksIn, part-fronts}
 use borrow.Author.Needs.{needs}
-use Rattle.pgsolver.proofs.finish.ask.Statement.{statement}
-use Rattle.pgsolver.proofs.finish.ask.Tie as tie
+use Rattle.pgsolver_finish.proofs.finish.ask.Statement.{statement}
+use Rattle.pgsolver_finish.proofs.finish.ask.Tie as tie
 
 enum-told : tie.Need-enum-told
 enum-told c = search needs

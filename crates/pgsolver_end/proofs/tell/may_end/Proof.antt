@@ -12,10 +12,10 @@ use Rattle.pgsolver_moves.specs.declared.state.Phase.the-variants.{InIdentifier
 use Rattle.pgsolver_moves.specs.declared.state.Phase.the-variants.{InOwner, PastOwner, InTarget, PastTarget, PastComma, InName}
 use Rattle.pgsolver_moves.specs.declared.state.Phase.the-variants.{PastName}
 use Rattle.pgsolver_moves.proofs.state.Phase.{the-type}
-use Rattle.pgsolver.specs.Scanning.{mayEndOn}
+use Rattle.pgsolver_end.specs.Ending.{mayEndOn}
 use borrow.Author.Needs.{needs}
-use Rattle.pgsolver.proofs.scan.may_end.Statement.{statement}
-use Rattle.pgsolver.proofs.scan.may_end.Tie as tie
+use Rattle.pgsolver_end.proofs.tell.may_end.Statement.{statement}
+use Rattle.pgsolver_end.proofs.tell.may_end.Tie as tie
 
 -- every phase but `BetweenRecords`
 abbrev others : List ℕ

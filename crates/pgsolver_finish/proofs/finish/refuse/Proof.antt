@@ -1,9 +1,9 @@
 -- `refuse` meets its contract: cleared rooms and no sizes.
 use Rattle.arrange.specs.Laws.{roomsOf}
-use Rattle.pgsolver.specs.Finishing.{wiped}
+use Rattle.pgsolver_finish.specs.Finishing.{wiped}
 use borrow.Author.Needs.{needs}
-use Rattle.pgsolver.proofs.finish.refuse.Statement.{statement}
-use Rattle.pgsolver.proofs.finish.refuse.Tie as tie
+use Rattle.pgsolver_finish.proofs.finish.refuse.Statement.{statement}
+use Rattle.pgsolver_finish.proofs.finish.refuse.Tie as tie
 
 add-clear-rooms : tie.Need-add-clear-rooms
 add-clear-rooms c = search needs

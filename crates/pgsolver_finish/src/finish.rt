@@ -1,4 +1,4 @@
-// The end of a reading: document 01's list where it is asked for, and what a refusal leaves.
+// Document 01's list where it is asked for, and what a refusal leaves.
 use arrange::clear_rooms;
 use parity_game::Answer;
 ghost use mathlib.Core.Path.{_≡_};
@@ -9,7 +9,7 @@ ghost use Rattle.rules.specs.Reading.{listAsked};
 ghost use Rattle.rules.specs.Tables.{tablesOf};
 ghost use Rattle.parity_game.specs.Said.{said};
 ghost use Rattle.arrange.specs.Laws.{roomsOf};
-ghost use Rattle.pgsolver.specs.Finishing.{asksIn, Askable, Finishable, Area, Wiped, Finishes, writtenOf};
+ghost use Rattle.pgsolver_finish.specs.Finishing.{asksIn, Askable, Finishable, Area, Wiped, Finishes, writtenOf};
 
 // Whether document 01's list is asked too, or the text alone is read.
 pub enum Asks {
