@@ -35,18 +35,23 @@ run-ends :
     runFrom l k (live s) bs ≡ ended v →
     EndsAt k (length bs) v
 unfolding runFrom next
-run-ends l k s [] v e = absurd (subst (λ (r : Run). elim r [ live t ↦ Unit {0} | ended u ↦ ⊥ ]) e tt)
-run-ends l k s (b ∷ bs) v e = go (stepAt l k s b) e
+run-ends l k s [] v e = absurd (subst Goes e tt)
+  where
+    Goes : Run → Type 0
+    Goes (live t) = Unit {0}
+    Goes (ended u) = ⊥
+run-ends l k s (b ∷ bs) v e = go (λ t h. run-ends l (suc k) t bs v h) (stepAt l k s b) e
   where
     go :
+        ((t : Machine) → runFrom l (suc k) (live t) bs ≡ ended v → EndsAt (suc k) (length bs) v) →
         (w : Went) →
         runFrom l (suc k) (elim w [ on t ↦ live t | off ↦ ended (refused 30 k) | over ↦ ended (refused 32 k) ]) bs ≡ ended v →
         EndsAt k (suc (length bs)) v
-    go (on t) h = ends-later k (length bs) v (run-ends l (suc k) t bs v h)
-    go off h =
+    go ih (on t) h = ends-later k (length bs) v (ih t h)
+    go ih off h =
         subst (EndsAt k (suc (length bs))) (ended-same (sym (run-ended l (suc k) (refused 30 k) bs) ∙ h))
         (ends 30 k (omega arith))
-    go over h =
+    go ih over h =
         subst (EndsAt k (suc (length bs))) (ended-same (sym (run-ended l (suc k) (refused 32 k) bs) ∙ h))
         (ends 32 k (omega arith))
 
@@ -57,7 +62,7 @@ verdictOf (ended v) = v
 
 stops :
     (l : Limits) (bytes : List ℕ) (v : Verdict) → EndsAt 0 (length bytes) v → Reads l bytes v unsaid [] → SoFar l bytes v
-stops l bytes _ (ends j q h) r = SoFar.stopped (omega (arith, h)) r
+stops l bytes _ (ends j q h) r = SoFar.stopped {p = q} (omega (arith, h)) r
 
 -- ---- where it did not
 
@@ -83,8 +88,8 @@ unfolding numberOf placeOf
 may-follow true (Reads.beyond o n m) e = absurd (omega (arith, ap numberOf e))
 may-follow false (Reads.beyond o n m) e = absurd (omega (arith, ap numberOf e))
 may-follow true (Reads.stuck s q) e = absurd (omega (arith, ap numberOf e))
-may-follow false (Reads.stuck {k = k} s q) e =
-    let at : k ≡ length _ = ap placeOf e in
+may-follow {bytes = bytes} false (Reads.stuck {k = k} s q) e =
+    let at : k ≡ length bytes = ap placeOf e in
     SoFar.onward (stuck-viable s at) (λ j o. q j (omega (arith, o .there, at)) o)
 may-follow b (Reads.whole t q) e = SoFar.onward (text-viable t) q
 
@@ -118,34 +123,34 @@ run-so-far l bytes small (live s) e = go (mayEnd (s .phase) (s .entries)) refl
 
 -- ---- a refused byte stays refused
 
-module _ {l : Limits} (a b : List ℕ) where
+module _ (a b : List ℕ) where
   front : (j : ℕ) → j ≤ length a → take j (a ++ b) ≡ take j a
   front j h = take-append-le j a b h
 
-  over-longer : {j : ℕ} → Over l a j → Over l (a ++ b) j
-  over-longer {j} o =
+  over-longer : {l : Limits} {j : ℕ} → Over l a j → Over l (a ++ b) j
+  over-longer {l} {j} o =
       record {
         there = omega (arith, o .there, length-append a b);
         limit = ⊎-elim (λ h. inl h) (λ c. inr (subst (Beyond l) (sym (front (suc j) (o .there))) c)) (o .limit);
       }
 
-  over-shorter : {j : ℕ} → j < length a → Over l (a ++ b) j → Over l a j
-  over-shorter {j} h o =
+  over-shorter : {l : Limits} {j : ℕ} → j < length a → Over l (a ++ b) j → Over l a j
+  over-shorter {l} {j} h o =
       record { there = h; limit = ⊎-elim (λ g. inl g) (λ c. inr (subst (Beyond l) (front (suc j) h) c)) (o .limit) }
 
   stuck-shorter : {j : ℕ} → j < length a → Stuck (a ++ b) j → Stuck a j
-  stuck-shorter {j} h (Stuck.byte j g v n) =
+  stuck-shorter h (Stuck.byte j g v n) =
       Stuck.byte j h (subst Viable (front j (omega arith)) v) (λ w. n (subst Viable (sym (front (suc j) h)) w))
   stuck-shorter h (Stuck.end v n) = absurd (omega (arith, length-append a b))
 
   stuck-longer : {j : ℕ} → j < length a → Stuck a j → Stuck (a ++ b) j
-  stuck-longer {j} h (Stuck.byte j g v n) =
+  stuck-longer h (Stuck.byte j g v n) =
       Stuck.byte j (omega (arith, length-append a b)) (subst Viable (sym (front j (omega arith))) v)
       (λ w. n (subst Viable (front (suc j) h) w))
   stuck-longer h (Stuck.end v n) = absurd (omega arith)
 
   reads-longer :
-      {v : Verdict} {h : Header} {es : List Entry} (k p : ℕ) →
+      {l : Limits} {v : Verdict} {h : Header} {es : List Entry} (k p : ℕ) →
       v ≡ refused k p →
       p < length a →
       Reads l a v h es →
@@ -158,7 +163,12 @@ module _ {l : Limits} (a b : List ℕ) where
       let at : q ≡ p = ap placeOf e in
       Reads.stuck (stuck-longer (omega arith) s) (λ j g x. n j g (over-shorter (omega arith) x))
   reads-longer k p e in-it (Reads.whole t n) =
-      absurd (subst (λ (v : Verdict). elim v [ none ↦ Unit {0} | refused j q ↦ ⊥ ]) e tt)
+      absurd (subst Nothing e tt)
+    where
+      Nothing : Verdict → Type 0
+      Nothing none = Unit {0}
+      Nothing (refused j q) = ⊥
 
-  pub so-far-longer : {k p : ℕ} → SoFar l a (refused k p) → Reads l (a ++ b) (refused k p) unsaid [] × (p < length (a ++ b))
-  so-far-longer (SoFar.stopped {k = k} {p = p} h r) = (reads-longer k p refl h r, omega (arith, length-append a b))
+  pub so-far-longer : {l : Limits} {k p : ℕ} → SoFar l a (refused k p) → SoFar l (a ++ b) (refused k p)
+  so-far-longer (SoFar.stopped {k = k} {p = p} h r) =
+      SoFar.stopped {p = p} (omega (arith, length-append a b)) (reads-longer k p refl h r)
