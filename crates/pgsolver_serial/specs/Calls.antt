@@ -1,6 +1,5 @@
 -- 9 and 10 before all else: what the check of the rooms says is what the rules ask of a call.
 use mathlib.Core.Bool.{Bool, true, false, not, _||_}
-use mathlib.Core.List.{List}
 use mathlib.Core.Path.{_≡_, refl, sym, ap, subst, _∙_}
 use Prim.Native.Nat.{ℕ, _+_, _≤_, _<_}
 use native.Mathlib.Omega.{arith}
@@ -8,8 +7,7 @@ use borrow.Author.Tests.{eqb-true, ltb-true, ltb-false, lt-ltb, le-ltb, not-fals
 use lib.Dec.{eqb, ltb}
 use lib.ListN.{length}
 use Rattle.rules.specs.Outcome.{Outcome, Verdict, none, refused, given, _then_}
-use Rattle.rules.specs.Reading.{roomChecks}
-use Rattle.rules.specs.Portions.{Lent, roomsWith, lentChecks, endChecks, Unless}
+use Rattle.rules.specs.Portions.{Lent, lentChecks, Unless}
 use Rattle.theory.specs.Basics.{bool-cases, or-false-both}
 use Rattle.theory.specs.Tables.{then-none, given-none}
 use Rattle.arrange.specs.Said.{sizeChecks}
@@ -57,26 +55,6 @@ fit-lent r passes =
           };
       long = ltb-false (length (r .state)) 32 (given-none 10 0 (ltb (length (r .state)) 32) (both .1));
     }
-
--- at the end
-pub end-unfit :
-    (r : Lent) (w : List ℕ) (k p : ℕ) → roomChecks (roomsWith r w) ≡ refused k p → endChecks r w ≡ refused k p
-unfolding endChecks
-end-unfit r w k p e = ap (λ (v : Verdict). v then given 10 0 (ltb (length (r .state)) 32)) e
-
-pub end-short :
-    (r : Lent) (w : List ℕ) → roomChecks (roomsWith r w) ≡ none → length (r .state) < 32 → endChecks r w ≡ refused 10 0
-unfolding endChecks
-end-short r w e short =
-    ap (λ (v : Verdict). v then given 10 0 (ltb (length (r .state)) 32)) e ∙
-    ap (λ (b : Bool). given 10 0 b) (lt-ltb (length (r .state)) 32 short)
-
-pub end-fit :
-    (r : Lent) (w : List ℕ) → roomChecks (roomsWith r w) ≡ none → 32 ≤ length (r .state) → endChecks r w ≡ none
-unfolding endChecks
-end-fit r w e long =
-    ap (λ (v : Verdict). v then given 10 0 (ltb (length (r .state)) 32)) e ∙
-    ap (λ (b : Bool). given 10 0 b) (le-ltb (length (r .state)) 32 long)
 
 -- nothing is written, or the call is made
 pub unless-unfit :

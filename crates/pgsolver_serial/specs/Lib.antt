@@ -1,5 +1,3 @@
--- What the words of a state and the tables stand for, what each call makes of that, and that cutting a text anywhere changes
--- nothing.
+-- What the words of a state and the tables stand for, and what start and a portion make of that.
 pub mod Stands
 pub mod Calls
-pub mod Cut

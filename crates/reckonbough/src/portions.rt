@@ -1,7 +1,8 @@
 // PGSolver texts that come in portions.
 use crate::answer::tell;
 ghost use Rattle.rules.specs.Portions.{StartsText, ReadsPortion, EndsReading};
-ghost use Rattle.pgsolver_serial.specs.Stands.{lentOf, closingOf, Stands};
+ghost use Rattle.pgsolver_serial.specs.Stands.{lentOf, Stands};
+ghost use Rattle.pgsolver_close.specs.Ending.{closingOf};
 ghost use Rattle.reckonbough.specs.Doors.{told};
 
 // A fresh start.
@@ -81,7 +82,7 @@ pub extern "C" fn reckonbough_read_end(
         (told number (now (place .exit)) (now (count .exit))) ⌝ }
 {
     tell(
-        pgsolver_serial::read_end(
+        pgsolver_close::read_end(
             state,
             owners,
             priorities,

@@ -20,7 +20,8 @@ use Rattle.arrange.specs.Cleared.{all-zero-holding}
 use Rattle.arrange.specs.Laws.{Alike}
 use Rattle.parity_game.specs.Said.{refusal}
 use Rattle.pgsolver_end.specs.Told.{told-alike}
-use Rattle.pgsolver_serial.specs.Calls.{fit-lent, end-unfit, end-fit}
+use Rattle.pgsolver_serial.specs.Calls.{fit-lent}
+use Rattle.pgsolver_close.specs.Checks.{end-unfit, end-fit}
 
 -- ---- lengths decide
 

@@ -1,9 +1,9 @@
 -- `end_fitting` meets its contract: the outcome is there, or the text ends.
 use Rattle.parity_game.specs.Said.{said}
-use Rattle.pgsolver_serial.specs.Stands.{closingOf, closed-again, closed-on}
+use Rattle.pgsolver_close.specs.Ending.{closingOf, closed-again, closed-on}
 use borrow.Author.Needs.{needs}
-use Rattle.pgsolver_serial.proofs.ending.end_fitting.Statement.{statement}
-use Rattle.pgsolver_serial.proofs.ending.end_fitting.Tie as tie
+use Rattle.pgsolver_close.proofs.ending.end_fitting.Statement.{statement}
+use Rattle.pgsolver_close.proofs.ending.end_fitting.Tie as tie
 
 slice-read-if1 : tie.Need-slice-read-if1
 slice-read-if1 c = search needs

@@ -9,10 +9,11 @@ use Rattle.pgsolver_moves.specs.declared.state.State.{State}
 use Rattle.pgsolver_finish.specs.Finishing.{writtenOf}
 use Rattle.pgsolver_end.specs.Told.{EndsText}
 use Rattle.pgsolver_words.specs.Words.{stateIn, placeIn, Gives}
-use Rattle.pgsolver_serial.specs.Stands.{SameLengths, ends-on}
+use Rattle.pgsolver_serial.specs.Stands.{SameLengths}
+use Rattle.pgsolver_close.specs.Ending.{ends-on}
 use borrow.Author.Needs.{needs}
-use Rattle.pgsolver_serial.proofs.ending.end_on.Statement.{statement}
-use Rattle.pgsolver_serial.proofs.ending.end_on.Tie as tie
+use Rattle.pgsolver_close.proofs.ending.end_on.Statement.{statement}
+use Rattle.pgsolver_close.proofs.ending.end_on.Tie as tie
 
 abbrev start : tie.After-end-text → tie.Start
 start c = c .before .before .before .before .before .before .before .before .before .before .before .before .before .before .before .before .before .before

@@ -15,7 +15,8 @@ ghost use Prim.Native.Nat.{_+_, _≤_};
 ghost use lib.ListN.{length};
 ghost use Rattle.rules.specs.Portions.{EndsReading, Closed};
 ghost use Rattle.parity_game.specs.Said.{said};
-ghost use Rattle.pgsolver_serial.specs.Stands.{lentOf, closingOf, Stands, FitClosing, EndsOn, Again};
+ghost use Rattle.pgsolver_serial.specs.Stands.{Stands};
+ghost use Rattle.pgsolver_close.specs.Ending.{closingOf, FitClosing, EndsOn, Again};
 
 // Where a reading is found in the words: what the text gets, and the outcome is there from now on.
 fn end_on(

@@ -7,11 +7,13 @@ use Rattle.arrange.specs.declared.checks.Fits.{Fits}
 use Rattle.arrange.specs.declared.checks.Fits.the-variants.{Fit, Sizes, Work}
 use Rattle.arrange.specs.Said.{fitsSaid, size-checks}
 use Rattle.pgsolver_end.specs.Told.{fitted}
-use Rattle.pgsolver_serial.specs.Stands.{closingOf, Stands}
-use Rattle.pgsolver_serial.specs.Calls.{end-unfit, end-short, end-fit, unless-unfit, unless-fit}
+use Rattle.pgsolver_serial.specs.Stands.{Stands}
+use Rattle.pgsolver_serial.specs.Calls.{unless-unfit, unless-fit}
+use Rattle.pgsolver_close.specs.Checks.{end-unfit, end-short, end-fit}
+use Rattle.pgsolver_close.specs.Ending.{closingOf}
 use borrow.Author.Needs.{needs}
-use Rattle.pgsolver_serial.proofs.ending.read_end.Statement.{statement}
-use Rattle.pgsolver_serial.proofs.ending.read_end.Tie as tie
+use Rattle.pgsolver_close.proofs.ending.read_end.Statement.{statement}
+use Rattle.pgsolver_close.proofs.ending.read_end.Tie as tie
 
 abbrev start : tie.After-check-rooms → tie.Start
 start c = c .before .before .before .before .before .before .before
