@@ -158,7 +158,8 @@ module _ (a b : List ℕ) where
   unfolding placeOf numberOf
   reads-longer k p e in-it (Reads.beyond {k = q} o n m) =
       let at : q ≡ p = ap placeOf e in
-      Reads.beyond (over-longer o) (λ j g x. n j g (over-shorter (omega arith) x)) (λ j g x. m j g (stuck-shorter (omega arith) x))
+      Reads.beyond (over-longer o) (λ j g x. n j g (over-shorter (omega arith) x)) (λ j g x. m j g (stuck-shorter (omega
+      arith) x))
   reads-longer k p e in-it (Reads.stuck {k = q} s n) =
       let at : q ≡ p = ap placeOf e in
       Reads.stuck (stuck-longer (omega arith) s) (λ j g x. n j g (over-shorter (omega arith) x))

@@ -46,7 +46,11 @@ module _ (asks : Rules.Asks) (mostBytes : ℕ) (text o p f t w : List ℕ) (x : 
   alike : Alike taken before
   alike =
       record {
-        owners = same .owners; priorities = same .priorities; offsets = same .offsets; targets = same .targets; work = refl;
+        owners = same .owners;
+        priorities = same .priorities;
+        offsets = same .offsets;
+        targets = same .targets;
+        work = refl;
       }
 
   pub taken-fitted : Fitted taken

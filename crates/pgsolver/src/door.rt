@@ -36,16 +36,7 @@ fn take_whole(
         (now (priorities .exit)) (now (offsets .exit)) (now (targets .exit)) ⌝ }
 {
     let s = begin(owners, priorities, offsets, targets);
-    take_portion(
-        text,
-        0,
-        most_bytes,
-        s,
-        owners,
-        priorities,
-        offsets,
-        targets,
-    )
+    take_portion(text, 0, most_bytes, s, owners, priorities, offsets, targets)
 }
 
 // Where the rooms fit: the text, and then the end.

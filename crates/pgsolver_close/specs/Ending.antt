@@ -106,5 +106,8 @@ module _ (s o p f t w : List ℕ) (n₀ m₀ : ℕ) where
       Closed Stands start after u
   closed-on after u not ends =
       record {
-        ends = ends .ends; again = λ g n m h. absurd (not (h .kind)); kept = ends .kept; behind = ends .behind;
+        ends = ends .ends;
+        again = λ g n m h. absurd (not (h .kind));
+        kept = ends .kept;
+        behind = ends .behind;
       }

@@ -146,7 +146,8 @@ module _ (s : State) (place room : ℕ) (f t w : List ℕ) where
       (ends : m ≡ min (s .edges) (length t)) where
     -- the identifiers are not right
     pub tells-wrong :
-        (k : ℕ) → refused 31 k ≡ seenChecks n (headerFrom (s .said) (s .highest)) f → Tells s place room f t w (Refused 31 k) f t w
+        (k : ℕ) → refused 31 k ≡ seenChecks n (headerFrom (s .said) (s .highest)) f → Tells s place room f t w (Refused 31 k)
+        f t w
     tells-wrong k e =
         record {
           says =
@@ -173,7 +174,8 @@ module _ (s : State) (place room : ℕ) (f t w : List ℕ) where
         record {
           says =
               λ mostBytes bytes o p long read.
-              found-in-order (limitsIn mostBytes o t) bytes s o p f t (ends-whole mostBytes bytes place s o p f t read may) w n m
+              found-in-order (limitsIn mostBytes o t) bytes s o p f t (ends-whole mostBytes bytes place s o p f t read may) w
+              n m
               room
               long
               counts

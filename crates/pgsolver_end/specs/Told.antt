@@ -48,7 +48,8 @@ fitted r passes =
             as-many = eqb-true (length (r .priorities)) (length (r .owners)) (not-false _ (fit .0));
             one-more = eqb-true (length (r .offsets)) (length (r .owners) + 1) (not-false _ (fit .1));
           };
-      area = ltb-false (length (r .work)) (readingWords r) (given-none 10 0 (ltb (length (r .work)) (readingWords r)) (both .1));
+      area = ltb-false (length (r .work)) (readingWords r) (given-none 10 0 (ltb (length (r .work)) (readingWords r)) (both
+          .1));
     }
 
 -- whatever bytes the state and the tables stand for, what the rules say of these; and always words that are not used stay
@@ -138,7 +139,8 @@ module _ (asks : Rules.Asks) (s : State) (place : ℕ) (o p f t w : List ℕ) (x
   -- what a step on the told rooms leaves behind the used words
   onward : (after : Rooms) → drop (readingWords told) (after .work) ≡ drop (readingWords told) w' →
       drop (readingWords before) (after .work) ≡ drop (readingWords before) w
-  onward after e = ap (λ (k : ℕ). drop k (after .work)) (sym used-same) ∙ e ∙ ap (λ (k : ℕ). drop k w') used-same ∙ tells .behind
+  onward after e = ap (λ (k : ℕ). drop k (after .work)) (sym used-same) ∙ e ∙ ap (λ (k : ℕ). drop k w') used-same ∙ tells
+      .behind
 
   said : (y : Told) → x ≡ y → Tells s place (length o) f t w y f' t' w'
   said y is = subst (λ (z : Told). Tells s place (length o) f t w z f' t' w') is tells
@@ -289,7 +291,8 @@ stopped-told asks mostBytes bytes r after k q stopped wiped =
       verdict = refused k q;
       header = unsaid;
       entries = [];
-      reads = subst (λ (x : Read). Reads l bytes (x .verdict) (x .header) (x .entries)) read (machine-reads l bytes (stopped .small));
+      reads = subst (λ (x : Read). Reads l bytes (x .verdict) (x .header) (x .entries)) read (machine-reads l bytes (stopped
+          .small));
       gives = refl;
       leaves = wiped;
     }

@@ -188,7 +188,8 @@ module _ (mostBytes place : ℕ) (s : State) (text o p f t : List ℕ) (r : Port
       record {
         small = small-append bytes text (h .small) small;
         runs =
-            subst (λ (l : Limits). runFrom l 0 (live atFirst) (bytes ++ text) ≡ ended (refused k q)) (limits-kept mostBytes o' t' o'' t'' eo et)
+            subst (λ (l : Limits). runFrom l 0 (live atFirst) (bytes ++ text) ≡ ended (refused k q)) (limits-kept mostBytes
+            o' t' o'' t'' eo et)
             runs;
       }
 
@@ -231,11 +232,15 @@ module _ (mostBytes place : ℕ) (s : State) (text o p f t : List ℕ) (r : Port
     pub takes-stuck : (k : ℕ) → r ≡ Stuck k → Takes mostBytes place s text o p f t (Refused 30 k) o'' p'' f'' t''
     takes-stuck k is =
         record {
-          more = λ bytes h. stops bytes o'' t'' 30 k eo et h (ends bytes h (Stuck k) is); fits = λ h. tt; clear = cleared;
+          more = λ bytes h. stops bytes o'' t'' 30 k eo et h (ends bytes h (Stuck k) is);
+          fits = λ h. tt;
+          clear = cleared;
         }
 
     pub takes-beyond : (k : ℕ) → r ≡ Beyond k → Takes mostBytes place s text o p f t (Refused 32 k) o'' p'' f'' t''
     takes-beyond k is =
         record {
-          more = λ bytes h. stops bytes o'' t'' 32 k eo et h (ends bytes h (Beyond k) is); fits = λ h. tt; clear = cleared;
+          more = λ bytes h. stops bytes o'' t'' 32 k eo et h (ends bytes h (Beyond k) is);
+          fits = λ h. tt;
+          clear = cleared;
         }

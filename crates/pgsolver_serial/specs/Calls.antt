@@ -58,7 +58,8 @@ fit-lent r passes =
 
 -- nothing is written, or the call is made
 pub unless-unfit :
-    {A : Type 0} (v : Verdict) (k : ℕ) (before : A) (Else : Type 0) → v ≡ refused k 0 → Unless v (refusal k 0) before before Else
+    {A : Type 0} (v : Verdict) (k : ℕ) (before : A) (Else : Type 0) → v ≡ refused k 0 → Unless v (refusal k 0) before before
+    Else
 unless-unfit v k before Else e = subst (λ (x : Verdict). Unless x (refusal k 0) before before Else) (sym e) (refl, refl)
 
 pub unless-fit :

@@ -194,7 +194,10 @@ module _ (portion s o p f t : List ℕ) (x : Taken) (o' p' f' t' s' : List ℕ) 
               goes = (
                 refl,
                 record {
-                  owners = zero .owners; priorities = zero .priorities; offsets = zero .offsets; targets = zero .targets;
+                  owners = zero .owners;
+                  priorities = zero .priorities;
+                  offsets = zero .offsets;
+                  targets = zero .targets;
                 },
                 record {
                   kind = gives .kind;

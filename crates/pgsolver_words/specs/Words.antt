@@ -40,8 +40,24 @@ phaseIn w =
 
 pub letters-again : (k : ℕ) → k < 256 → phaseIn (256 + k) ≡ InWord k
 letters-again k few =
-    simp
-    (ne-eqb (256 + k) 0 (λ e. omega arith), ne-eqb (256 + k) 1 (λ e. omega arith), ne-eqb (256 + k) 2 (λ e. omega arith), ne-eqb (256 + k) 3 (λ e. omega arith), ne-eqb (256 + k) 4 (λ e. omega arith), ne-eqb (256 + k) 5 (λ e. omega arith), ne-eqb (256 + k) 6 (λ e. omega arith), ne-eqb (256 + k) 7 (λ e. omega arith), ne-eqb (256 + k) 8 (λ e. omega arith), ne-eqb (256 + k) 9 (λ e. omega arith), ne-eqb (256 + k) 10 (λ e. omega arith), ne-eqb (256 + k) 11 (λ e. omega arith), ne-eqb (256 + k) 12 (λ e. omega arith), ne-eqb (256 + k) 13 (λ e. omega arith), ne-eqb (256 + k) 14 (λ e. omega arith), ne-eqb (256 + k) 15 (λ e. omega arith))
+    simp (
+      ne-eqb (256 + k) 0 (λ e. omega arith),
+      ne-eqb (256 + k) 1 (λ e. omega arith),
+      ne-eqb (256 + k) 2 (λ e. omega arith),
+      ne-eqb (256 + k) 3 (λ e. omega arith),
+      ne-eqb (256 + k) 4 (λ e. omega arith),
+      ne-eqb (256 + k) 5 (λ e. omega arith),
+      ne-eqb (256 + k) 6 (λ e. omega arith),
+      ne-eqb (256 + k) 7 (λ e. omega arith),
+      ne-eqb (256 + k) 8 (λ e. omega arith),
+      ne-eqb (256 + k) 9 (λ e. omega arith),
+      ne-eqb (256 + k) 10 (λ e. omega arith),
+      ne-eqb (256 + k) 11 (λ e. omega arith),
+      ne-eqb (256 + k) 12 (λ e. omega arith),
+      ne-eqb (256 + k) 13 (λ e. omega arith),
+      ne-eqb (256 + k) 14 (λ e. omega arith),
+      ne-eqb (256 + k) 15 (λ e. omega arith),
+    )
     (ap (λ (j : ℕ). InWord j) (let same : (256 + k) % 256 ≡ k = omega arith in same))
 
 -- ---- a reading

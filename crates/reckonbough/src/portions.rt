@@ -82,16 +82,7 @@ pub extern "C" fn reckonbough_read_end(
         (told number (now (place .exit)) (now (count .exit))) ⌝ }
 {
     tell(
-        pgsolver_close::read_end(
-            state,
-            owners,
-            priorities,
-            offsets,
-            targets,
-            work,
-            n,
-            m,
-        ),
+        pgsolver_close::read_end(state, owners, priorities, offsets, targets, work, n, m),
         place,
         count,
     )

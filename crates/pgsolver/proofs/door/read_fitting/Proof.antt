@@ -28,7 +28,8 @@ same-lengths :
     (c : tie.After-slice-known9) →
     let at = c .before .before .before .before .before .before .before .before in
     let args = start at .args in
-    SameLengths (args .owners .now) (args .priorities .now) (args .offsets .now) (args .targets .now) (owners at) (priorities at)
+    SameLengths (args .owners .now) (args .priorities .now) (args .offsets .now) (args .targets .now) (owners at) (priorities
+    at)
     (offsets at)
     (targets at)
 same-lengths c =
@@ -48,7 +49,8 @@ enum-known-next c = search needs
 
 end-text-requires : tie.Need-end-text-requires
 end-text-requires c κs =
-    let at = c .before .before .before .before .before .before .before .before .before .before .before .before .before .before .before .before .before .before in
+    let at = c .before .before .before .before .before .before .before .before .before .before .before .before .before
+    .before .before .before .before .before in
     let args = start at .args in
     taken-fitted (asksIn (args .asks)) (args .most-bytes) (args .text .now) (args .owners .now) (args .priorities .now)
     (args .offsets .now)
@@ -80,7 +82,9 @@ same-length-5 c = search needs
 
 returns : tie.Need-returns
 returns c =
-    let at = c .before .before .before .before .before .before .before .before .before .before .before .before .before .before .before .before .before .before .before .before .before .before .before .before .before .before .before .before .before in
+    let at = c .before .before .before .before .before .before .before .before .before .before .before .before .before
+    .before .before .before .before .before .before .before .before .before .before .before .before .before .before .before
+    .before in
     let end = c .before .before .before .before .before .before .before .before .before .before in
     let args = start at .args in
     read-refused (asksIn (args .asks)) (args .most-bytes) (args .text .now) (args .owners .now) (args .priorities .now)
@@ -93,13 +97,17 @@ returns c =
     (offsets at)
     (targets at)
     (start at .pre)
-    (same-lengths (c .before .before .before .before .before .before .before .before .before .before .before .before .before .before .before .before .before .before .before .before .before))
+    (same-lengths (c .before .before .before .before .before .before .before .before .before .before .before .before .before
+    .before .before .before .before .before .before .before .before))
     (at .take-whole .ensures)
-    (c .before .before .before .before .before .before .before .before .before .before .before .before .before .before .before .before .before .before .before .number .given .0 .0)
-    (c .before .before .before .before .before .before .before .before .before .before .before .before .before .before .before .before .before .before .before .number .given .0 .1 .0)
+    (c .before .before .before .before .before .before .before .before .before .before .before .before .before .before
+    .before .before .before .before .before .number .given .0 .0)
+    (c .before .before .before .before .before .before .before .before .before .before .before .before .before .before
+    .before .before .before .before .before .number .given .0 .1 .0)
     (writtenOf (end .refuse .last .0) (end .refuse .last .1 .0) (end .refuse .last .1 .1 .0) (end .refuse .last .1 .1 .1 .0)
     (end .refuse .last .1 .1 .1 .1 .0) (end .refuse .last .1 .1 .1 .1 .1 .0) (end .refuse .last .1 .1 .1 .1 .1 .1 .0))
-    (c .before .before .before .before .before .before .before .before .before .before .before .before .before .before .before .before .before .before .before .number .given .1)
+    (c .before .before .before .before .before .before .before .before .before .before .before .before .before .before
+    .before .before .before .before .before .number .given .1)
     (end .refuse .ensures)
 
 same-length-6 : tie.Need-same-length-6
@@ -119,7 +127,9 @@ same-length-10 c = search needs
 
 returns-2 : tie.Need-returns-2
 returns-2 c =
-    let at = c .before .before .before .before .before .before .before .before .before .before .before .before .before .before .before .before .before .before .before .before .before .before .before .before .before .before .before .before .before in
+    let at = c .before .before .before .before .before .before .before .before .before .before .before .before .before
+    .before .before .before .before .before .before .before .before .before .before .before .before .before .before .before
+    .before in
     let end = c .before .before .before .before .before .before .before .before .before .before in
     let args = start at .args in
     read-ended (asksIn (args .asks)) (args .most-bytes) (args .text .now) (args .owners .now) (args .priorities .now)
@@ -132,14 +142,17 @@ returns-2 c =
     (offsets at)
     (targets at)
     (start at .pre)
-    (same-lengths (c .before .before .before .before .before .before .before .before .before .before .before .before .before .before .before .before .before .before .before .before .before))
+    (same-lengths (c .before .before .before .before .before .before .before .before .before .before .before .before .before
+    .before .before .before .before .before .before .before .before))
     (at .take-whole .ensures)
-    (c .before .before .before .before .before .before .before .before .before .before .before .before .before .before .before .before .before .before .before .next .given .0 .0)
+    (c .before .before .before .before .before .before .before .before .before .before .before .before .before .before
+    .before .before .before .before .before .next .given .0 .0)
     (writtenOf (end .end-text .last .1 .1 .1 .0) (end .end-text .last .1 .1 .1 .1 .0) (end .end-text .last .1 .1 .1 .1 .1 .0)
     (end .end-text .last .1 .1 .1 .1 .1 .1 .0) (end .end-text .last .1 .1 .1 .1 .1 .1 .1 .0)
     (end .end-text .last .1 .1 .1 .1 .1 .1 .1 .1 .0) (end .end-text .last .1 .1 .1 .1 .1 .1 .1 .1 .1 .0))
     (Said.said (end .end-text .result))
-    (c .before .before .before .before .before .before .before .before .before .before .before .before .before .before .before .before .before .before .before .next .given .1)
+    (c .before .before .before .before .before .before .before .before .before .before .before .before .before .before
+    .before .before .before .before .before .next .given .1)
     (end .end-text .ensures)
 
 pub read-fitting-spec : {M : Type 1} → statement M

@@ -22,7 +22,8 @@ same-length-2 c = search needs
 
 returns : tie.Need-returns
 returns c =
-    let start = c .before .before .before .before .before .before .before .before .before .before .before .before .before .before .before in
+    let start = c .before .before .before .before .before .before .before .before .before .before .before .before .before
+    .before .before in
     let args = start .args in
     let end = c .before .before .end-again in
     closed-again (args .state .now) (args .owners .now) (args .priorities .now) (args .offsets .now) (args .targets .now)
@@ -60,7 +61,9 @@ same-length-8 c = search needs
 
 returns-2 : tie.Need-returns-2
 returns-2 c =
-    let args = c .before .before .before .before .before .before .before .before .before .before .before .before .before .before .before .before .before .before .before .before .before .before .before .before .before .before .before .before .before .args in
+    let args = c .before .before .before .before .before .before .before .before .before .before .before .before .before
+    .before .before .before .before .before .before .before .before .before .before .before .before .before .before .before
+    .before .args in
     let end = c .before .before .before .before .before .before .before .before .before .before .before .before .end-on in
     closed-on (args .state .now) (args .owners .now) (args .priorities .now) (args .offsets .now) (args .targets .now)
     (args .work .now)
@@ -69,7 +72,8 @@ returns-2 c =
     (closingOf (end .last .0) (end .last .1 .0) (end .last .1 .1 .0) (end .last .1 .1 .1 .0) (end .last .1 .1 .1 .1 .0)
     (end .last .1 .1 .1 .1 .1 .0) (end .last .1 .1 .1 .1 .1 .1 .0) (end .last .1 .1 .1 .1 .1 .1 .1 .0))
     (said (end .result))
-    (c .before .before .before .before .before .before .before .before .before .before .before .before .before .before .before .before .before .before .before .before .before .if1 .left)
+    (c .before .before .before .before .before .before .before .before .before .before .before .before .before .before
+    .before .before .before .before .before .before .before .if1 .left)
     (end .ensures)
 
 pub end-fitting-spec : {M : Type 1} → statement M

@@ -16,7 +16,8 @@ use Rattle.pgsolver_close.proofs.ending.end_on.Statement.{statement}
 use Rattle.pgsolver_close.proofs.ending.end_on.Tie as tie
 
 abbrev start : tie.After-end-text → tie.Start
-start c = c .before .before .before .before .before .before .before .before .before .before .before .before .before .before .before .before .before .before
+start c = c .before .before .before .before .before .before .before .before .before .before .before .before .before .before
+    .before .before .before .before
 
 same-lengths :
     (c : tie.After-slice-known11) →
@@ -46,7 +47,8 @@ place-requires : tie.Need-place-requires
 place-requires c κs = search needs
 
 give-requires : tie.Need-give-requires
-give-requires c κs = start (c .before .before .before .before .before .before .before .before .before .before .before .before .before .before .before) .pre .long
+give-requires c κs = start (c .before .before .before .before .before .before .before .before .before .before .before .before
+    .before .before .before) .pre .long
 
 same-length : tie.Need-same-length
 same-length c = search needs
@@ -68,7 +70,8 @@ same-length-6 c = search needs
 
 returns : tie.Need-returns
 returns c =
-    let at = c .before .before .before .before .before .before .before .before .before .before .before .before .before .before .before .before .before .before in
+    let at = c .before .before .before .before .before .before .before .before .before .before .before .before .before
+    .before .before .before .before .before in
     let args = start at .args in
     let s = args .state .now in
     let end = at .end-text in
@@ -76,7 +79,8 @@ returns c =
     let after = writtenOf (end .last .1 .1 .1 .0) (end .last .1 .1 .1 .1 .0) (end .last .1 .1 .1 .1 .1 .0)
     (end .last .1 .1 .1 .1 .1 .1 .0) (end .last .1 .1 .1 .1 .1 .1 .1 .0) (end .last .1 .1 .1 .1 .1 .1 .1 .1 .0)
     (end .last .1 .1 .1 .1 .1 .1 .1 .1 .1 .0) in
-    let rooms = roomsOf (args .owners .now) (args .priorities .now) (args .offsets .now) (args .targets .now) (args .work .now) in
+    let rooms = roomsOf (args .owners .now) (args .priorities .now) (args .offsets .now) (args .targets .now) (args .work
+    .now) in
     let long : length (c .before .before .give .last .0) ≡ length s = search needs in
     ends-on s (args .owners .now) (args .priorities .now) (args .offsets .now) (args .targets .now) (args .work .now)
     (args .n .now)
@@ -92,16 +96,21 @@ returns c =
     r
     (same-lengths (c .before .before .before .before .before .before .before .before))
     long
-    (subst (λ (x : State). EndsText Rules.game x (placeIn s) rooms after r) (at .before .before .before .before .before .before .before .before .found .ensures)
-    (subst (λ (k : ℕ). EndsText Rules.game (at .before .before .before .before .before .before .before .before .found .result) k rooms after r) (at .before .before .before .before .before .before .before .before .before .before .place-found .ensures)
+    (subst (λ (x : State). EndsText Rules.game x (placeIn s) rooms after r) (at .before .before .before .before .before
+    .before .before .before .found .ensures)
+    (subst (λ (k : ℕ). EndsText Rules.game (at .before .before .before .before .before .before .before .before .found
+    .result) k rooms after r) (at .before .before .before .before .before .before .before .before .before .before
+    .place-found .ensures)
     (end .ensures)))
     (subst
     (λ (k : ℕ).
-    Gives k (r .place) (end .last .1 .1 .1 .1 .1 .1 .1 .1 .0) (end .last .1 .1 .1 .1 .1 .1 .1 .1 .1 .0) s (c .before .before .give .last .0))
+    Gives k (r .place) (end .last .1 .1 .1 .1 .1 .1 .1 .1 .0) (end .last .1 .1 .1 .1 .1 .1 .1 .1 .1 .0) s (c .before .before
+    .give .last .0))
     (c .before .before .before .before .before .before .number .ensures)
     (subst
     (λ (k : ℕ).
-    Gives (c .before .before .before .before .before .before .number .result) k (end .last .1 .1 .1 .1 .1 .1 .1 .1 .0) (end .last .1 .1 .1 .1 .1 .1 .1 .1 .1 .0) s
+    Gives (c .before .before .before .before .before .before .number .result) k (end .last .1 .1 .1 .1 .1 .1 .1 .1 .0) (end
+    .last .1 .1 .1 .1 .1 .1 .1 .1 .1 .0) s
     (c .before .before .give .last .0))
     (c .before .before .before .before .before .place .ensures)
     (c .before .before .give .ensures)))

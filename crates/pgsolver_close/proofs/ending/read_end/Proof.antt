@@ -20,14 +20,16 @@ start c = c .before .before .before .before .before .before .before
 
 abbrev entry : tie.Start → Closing
 entry c =
-    closingOf (c .args .state .now) (c .args .owners .now) (c .args .priorities .now) (c .args .offsets .now) (c .args .targets .now)
+    closingOf (c .args .state .now) (c .args .owners .now) (c .args .priorities .now) (c .args .offsets .now) (c .args
+    .targets .now)
     (c .args .work .now)
     (c .args .n .now)
     (c .args .m .now)
 
 -- what the check of the rooms said
 checked :
-    (c : tie.After-check-rooms) (x : Fits) → c .check-rooms .result ≡ x → roomChecks (writtenIn (entry (start c)) .rooms) ≡ fitsSaid x
+    (c : tie.After-check-rooms) (x : Fits) → c .check-rooms .result ≡ x → roomChecks (writtenIn (entry (start c)) .rooms) ≡
+    fitsSaid x
 checked c x is = size-checks (writtenIn (entry (start c)) .rooms) ∙ sym (c .check-rooms .ensures) ∙ ap fitsSaid is
 
 check-rooms-requires : tie.Need-check-rooms-requires
@@ -53,20 +55,24 @@ end-fitting-requires : tie.Need-end-fitting-requires
 end-fitting-requires c κs =
     let at = c .before .before .before .before .before .before .before .before .before .before .before in
     record {
-      fitted = fitted (writtenIn (entry (start at)) .rooms) (checked at Fit (c .before .before .before .before .before .before .before .before .before .enum-told3 .given .1)); long = c .before .before .before .before .before .before .before .before .if1 .left;
+      fitted = fitted (writtenIn (entry (start at)) .rooms) (checked at Fit (c .before .before .before .before .before
+          .before .before .before .before .enum-told3 .given .1));
+      long = c .before .before .before .before .before .before .before .before .if1 .left;
     }
 
 returns-2 : tie.Need-returns-2
 returns-2 c =
     let at = c .before .before in
     let e = entry (start at) in
-    unless-unfit (endChecks (e .lent) (e .work)) 9 e _ (end-unfit (e .lent) (e .work) 9 0 (checked at Sizes (c .enum-told .given .1)))
+    unless-unfit (endChecks (e .lent) (e .work)) 9 e _ (end-unfit (e .lent) (e .work) 9 0 (checked at Sizes (c .enum-told
+    .given .1)))
 
 returns-3 : tie.Need-returns-3
 returns-3 c =
     let at = c .before .before in
     let e = entry (start at) in
-    unless-unfit (endChecks (e .lent) (e .work)) 10 e _ (end-unfit (e .lent) (e .work) 10 0 (checked at Work (c .enum-told2 .given .1)))
+    unless-unfit (endChecks (e .lent) (e .work)) 10 e _ (end-unfit (e .lent) (e .work) 10 0 (checked at Work (c .enum-told2
+    .given .1)))
 
 same-length : tie.Need-same-length
 same-length c = search needs
@@ -88,13 +94,18 @@ same-length-6 c = search needs
 
 returns-4 : tie.Need-returns-4
 returns-4 c =
-    let at = c .before .before .before .before .before .before .before .before .before .before .before .before .before .before .before .before .before .before .before .before .before .before .before .before in
+    let at = c .before .before .before .before .before .before .before .before .before .before .before .before .before
+    .before .before .before .before .before .before .before .before .before .before .before in
     let e = entry (start at) in
     let end = c .before .before .before .before .before .before .before .before .before .before .before .before .end-fitting in
-    let after = closingOf (end .last .0) (end .last .1 .0) (end .last .1 .1 .0) (end .last .1 .1 .1 .0) (end .last .1 .1 .1 .1 .0)
+    let after = closingOf (end .last .0) (end .last .1 .0) (end .last .1 .1 .0) (end .last .1 .1 .1 .0) (end .last .1 .1 .1
+    .1 .0)
     (end .last .1 .1 .1 .1 .1 .0) (end .last .1 .1 .1 .1 .1 .1 .0) (end .last .1 .1 .1 .1 .1 .1 .1 .0) in
     unless-fit (endChecks (e .lent) (e .work)) (said (end .result)) e after (Closed Stands e after (said (end .result)))
-    (end-fit (e .lent) (e .work) (checked at Fit (c .before .before .before .before .before .before .before .before .before .before .before .before .before .before .before .before .before .before .before .before .before .before .enum-told3 .given .1)) (c .before .before .before .before .before .before .before .before .before .before .before .before .before .before .before .before .before .before .before .before .before .if1 .left))
+    (end-fit (e .lent) (e .work) (checked at Fit (c .before .before .before .before .before .before .before .before .before
+    .before .before .before .before .before .before .before .before .before .before .before .before .before .enum-told3
+    .given .1)) (c .before .before .before .before .before .before .before .before .before .before .before .before .before
+    .before .before .before .before .before .before .before .before .if1 .left))
     (end .ensures)
 
 pub read-end-spec : {M : Type 1} → statement M

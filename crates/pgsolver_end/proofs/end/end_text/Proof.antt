@@ -24,9 +24,12 @@ work c = c .tell .last .1 .1 .1 .1 .1 .0
 
 -- the tables keep their lengths
 pub record SameLengths (c : tie.After-slice-known8) : Type 0 where
-  pub offsets : length (offsets (c .before .before .before .before .before .before)) ≡ length (start (c .before .before .before .before .before .before) .args .offsets .now)
-  pub targets : length (targets (c .before .before .before .before .before .before)) ≡ length (start (c .before .before .before .before .before .before) .args .targets .now)
-  pub work : length (work (c .before .before .before .before .before .before)) ≡ length (start (c .before .before .before .before .before .before) .args .work .now)
+  pub offsets : length (offsets (c .before .before .before .before .before .before)) ≡ length (start (c .before .before
+      .before .before .before .before) .args .offsets .now)
+  pub targets : length (targets (c .before .before .before .before .before .before)) ≡ length (start (c .before .before
+      .before .before .before .before) .args .targets .now)
+  pub work : length (work (c .before .before .before .before .before .before)) ≡ length (start (c .before .before .before
+      .before .before .before) .args .work .now)
 
 same-lengths : (c : tie.After-slice-known8) → SameLengths c
 same-lengths c = record { offsets = search needs; targets = search needs; work = search needs }
@@ -39,7 +42,8 @@ enum-known-number c = search needs
 
 refuse-requires : tie.Need-refuse-requires
 refuse-requires c κs =
-    let at = c .before .before .before .before .before .before .before .before .before .before .before .before .before .before .before .before in
+    let at = c .before .before .before .before .before .before .before .before .before .before .before .before .before
+    .before .before .before in
     let same = same-lengths (c .before .before .before .before .before .before .before .before .before .before) in
     let args = start at .args in
     told-area (asksIn (args .asks)) (args .state) (args .place) (args .owners .now) (args .priorities .now)
@@ -61,7 +65,8 @@ enum-known-records c = search needs
 
 finish-requires : tie.Need-finish-requires
 finish-requires c κs =
-    let at = c .before .before .before .before .before .before .before .before .before .before .before .before .before .before .before .before in
+    let at = c .before .before .before .before .before .before .before .before .before .before .before .before .before
+    .before .before .before in
     let same = same-lengths (c .before .before .before .before .before .before .before .before .before .before) in
     let args = start at .args in
     ends-finishable (asksIn (args .asks)) (args .state) (args .place) (args .owners .now) (args .priorities .now)
@@ -98,8 +103,10 @@ same-length-5 c = search needs
 
 returns : tie.Need-returns
 returns c =
-    let at = c .before .before .before .before .before .before .before .before .before .before .before .before .before .before .before .before .before .before .before .before .before .before .before .before .before .before .before in
-    let same = same-lengths (c .before .before .before .before .before .before .before .before .before .before .before .before .before .before .before .before .before .before .before .before .before) in
+    let at = c .before .before .before .before .before .before .before .before .before .before .before .before .before
+    .before .before .before .before .before .before .before .before .before .before .before .before .before .before in
+    let same = same-lengths (c .before .before .before .before .before .before .before .before .before .before .before
+    .before .before .before .before .before .before .before .before .before .before) in
     let end = c .before .before .before .before .before .before .before .before .before .before in
     let args = start at .args in
     ends-refused (asksIn (args .asks)) (args .state) (args .place) (args .owners .now) (args .priorities .now)
@@ -115,11 +122,14 @@ returns c =
     (same .targets)
     (same .work)
     (at .tell .ensures)
-    (c .before .before .before .before .before .before .before .before .before .before .before .before .before .before .before .before .before .before .before .number .given .0 .0)
-    (c .before .before .before .before .before .before .before .before .before .before .before .before .before .before .before .before .before .before .before .number .given .0 .1 .0)
+    (c .before .before .before .before .before .before .before .before .before .before .before .before .before .before
+    .before .before .before .before .before .number .given .0 .0)
+    (c .before .before .before .before .before .before .before .before .before .before .before .before .before .before
+    .before .before .before .before .before .number .given .0 .1 .0)
     (writtenOf (end .refuse .last .0) (end .refuse .last .1 .0) (end .refuse .last .1 .1 .0) (end .refuse .last .1 .1 .1 .0)
     (end .refuse .last .1 .1 .1 .1 .0) (end .refuse .last .1 .1 .1 .1 .1 .0) (end .refuse .last .1 .1 .1 .1 .1 .1 .0))
-    (c .before .before .before .before .before .before .before .before .before .before .before .before .before .before .before .before .before .before .before .number .given .1)
+    (c .before .before .before .before .before .before .before .before .before .before .before .before .before .before
+    .before .before .before .before .before .number .given .1)
     (end .refuse .ensures)
 
 same-length-6 : tie.Need-same-length-6
@@ -139,8 +149,10 @@ same-length-10 c = search needs
 
 returns-2 : tie.Need-returns-2
 returns-2 c =
-    let at = c .before .before .before .before .before .before .before .before .before .before .before .before .before .before .before .before .before .before .before .before .before .before .before .before .before .before .before in
-    let same = same-lengths (c .before .before .before .before .before .before .before .before .before .before .before .before .before .before .before .before .before .before .before .before .before) in
+    let at = c .before .before .before .before .before .before .before .before .before .before .before .before .before
+    .before .before .before .before .before .before .before .before .before .before .before .before .before .before in
+    let same = same-lengths (c .before .before .before .before .before .before .before .before .before .before .before
+    .before .before .before .before .before .before .before .before .before .before) in
     let end = c .before .before .before .before .before .before .before .before .before .before in
     let args = start at .args in
     ends-finished (asksIn (args .asks)) (args .state) (args .place) (args .owners .now) (args .priorities .now)
@@ -156,9 +168,12 @@ returns-2 c =
     (same .targets)
     (same .work)
     (at .tell .ensures)
-    (c .before .before .before .before .before .before .before .before .before .before .before .before .before .before .before .before .before .before .before .records .given .0 .0)
-    (c .before .before .before .before .before .before .before .before .before .before .before .before .before .before .before .before .before .before .before .records .given .0 .1 .0)
-    (c .before .before .before .before .before .before .before .before .before .before .before .before .before .before .before .before .before .before .before .records .given .1)
+    (c .before .before .before .before .before .before .before .before .before .before .before .before .before .before
+    .before .before .before .before .before .records .given .0 .0)
+    (c .before .before .before .before .before .before .before .before .before .before .before .before .before .before
+    .before .before .before .before .before .records .given .0 .1 .0)
+    (c .before .before .before .before .before .before .before .before .before .before .before .before .before .before
+    .before .before .before .before .before .records .given .1)
     (writtenOf (end .finish .last .1 .1 .1 .0) (end .finish .last .1 .1 .1 .1 .0) (end .finish .last .1 .1 .1 .1 .1 .0)
     (end .finish .last .1 .1 .1 .1 .1 .1 .0) (end .finish .last .1 .1 .1 .1 .1 .1 .1 .0)
     (end .finish .last .1 .1 .1 .1 .1 .1 .1 .1 .0) (end .finish .last .1 .1 .1 .1 .1 .1 .1 .1 .1 .0))

@@ -41,7 +41,9 @@ returns-2 : tie.Need-returns-2
 returns-2 c =
     let args = c .before .before .before .before .before .before .before .before .before .before .before .before .args in
     tells-wrong (args .s) (args .place) (args .room) (args .offsets .now) (args .targets .now) (args .work .now)
-    (sym (c .before .before .before .before .before .before .before .before .may-end .ensures) ∙ not-false (c .before .before .before .before .before .before .before .before .may-end .result) (c .before .before .before .before .before .before .before .if1 .left))
+    (sym (c .before .before .before .before .before .before .before .before .may-end .ensures) ∙ not-false (c .before .before
+    .before .before .before .before .before .before .may-end .result) (c .before .before .before .before .before .before
+    .before .if1 .left))
     (c .before .before .before .before .before .before .least .result)
     (c .before .before .before .before .before .least2 .result)
     (c .before .before .before .before .before .before .least .ensures)
@@ -60,18 +62,28 @@ same-length-4 c = search needs
 
 returns-3 : tie.Need-returns-3
 returns-3 c =
-    let start = c .before .before .before .before .before .before .before .before .before .before .before .before .before .before .before .before .before .before .before .before .before in
+    let start = c .before .before .before .before .before .before .before .before .before .before .before .before .before
+    .before .before .before .before .before .before .before .before in
     let args = start .args in
     tells-whole (args .s) (args .place) (args .room) (args .offsets .now) (args .targets .now) (args .work .now)
-    (sym (c .before .before .before .before .before .before .before .before .before .before .before .before .before .before .before .before .before .may-end .ensures) ∙ not-false (c .before .before .before .before .before .before .before .before .before .before .before .before .before .before .before .before .before .may-end .result) (c .before .before .before .before .before .before .before .before .before .before .before .before .before .before .before .before .if1 .left))
-    (c .before .before .before .before .before .before .before .before .before .before .before .before .before .before .before .least .result)
-    (c .before .before .before .before .before .before .before .before .before .before .before .before .before .before .least2 .result)
-    (c .before .before .before .before .before .before .before .before .before .before .before .before .before .before .before .least .ensures)
-    (c .before .before .before .before .before .before .before .before .before .before .before .before .before .before .least2 .ensures)
+    (sym (c .before .before .before .before .before .before .before .before .before .before .before .before .before .before
+    .before .before .before .may-end .ensures) ∙ not-false (c .before .before .before .before .before .before .before .before
+    .before .before .before .before .before .before .before .before .before .may-end .result) (c .before .before .before
+    .before .before .before .before .before .before .before .before .before .before .before .before .before .if1 .left))
+    (c .before .before .before .before .before .before .before .before .before .before .before .before .before .before
+    .before .least .result)
+    (c .before .before .before .before .before .before .before .before .before .before .before .before .before .before
+    .least2 .result)
+    (c .before .before .before .before .before .before .before .before .before .before .before .before .before .before
+    .before .least .ensures)
+    (c .before .before .before .before .before .before .before .before .before .before .before .before .before .before
+    .least2 .ensures)
     (c .before .before .before .before .before .before .arrange .last .1 .1 .1 .0)
     (c .before .before .before .before .before .before .arrange .last .1 .1 .1 .1 .0)
     (c .before .before .before .before .before .before .arrange .last .1 .1 .1 .1 .1 .0)
-    (sym (ap identifiersSaid (c .before .before .before .before .before .before .before .before .before .before .enum-told .given .1)) ∙ c .before .before .before .before .before .before .before .before .before .before .before .before .check-identifiers .ensures)
+    (sym (ap identifiersSaid (c .before .before .before .before .before .before .before .before .before .before .enum-told
+    .given .1)) ∙ c .before .before .before .before .before .before .before .before .before .before .before .before
+    .check-identifiers .ensures)
     (start .pre .area)
     (c .before .before .before .before .before .before .arrange .ensures)
 

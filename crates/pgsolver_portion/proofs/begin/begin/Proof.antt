@@ -25,7 +25,8 @@ same-length-4 c = search needs
 returns : tie.Need-returns
 returns c =
     let at = c .before .before .before .before .before .before .before .before .before in
-    let start = c .before .before .before .before .before .before .before .before .before .before .before .before .before .before .before .before .before .before in
+    let start = c .before .before .before .before .before .before .before .before .before .before .before .before .before
+    .before .before .before .before .before in
     let args = start .args in
     begins (c .start .result) (args .owners .now) (args .priorities .now) (args .offsets .now) (args .targets .now)
     (at .clear-tables .last .0)

@@ -13,14 +13,22 @@ start c = c .before .before .before .before .before .before .before .before .bef
 
 -- each byte is below 256
 small : (c : tie.After-read-portion) (k : ℕ) → getD (start c .args .text .now) k 0 < 256
-small c k = omega (arith, c .before .before .before .before .before .before .before .before .before .shared-slice-known .given k)
+small c k = omega (
+  arith,
+  c .before .before .before .before .before .before .before .before .before .shared-slice-known
+      .given k,
+)
 
 -- the tables as the portion left them have the lengths that they had
 pub record SameLengths (c : tie.After-slice-known8) : Type 0 where
-  pub owners : length (c .before .before .before .before .before .before .before .before .read-portion .last .1 .1 .1 .1 .0) ≡ length (start (c .before .before .before .before .before .before .before .before) .args .owners .now)
-  pub priorities : length (c .before .before .before .before .before .before .before .before .read-portion .last .1 .1 .1 .1 .1 .0) ≡ length (start (c .before .before .before .before .before .before .before .before) .args .priorities .now)
-  pub offsets : length (c .before .before .before .before .before .before .before .before .read-portion .last .1 .1 .1 .1 .1 .1 .0) ≡ length (start (c .before .before .before .before .before .before .before .before) .args .offsets .now)
-  pub targets : length (c .before .before .before .before .before .before .before .before .read-portion .last .1 .1 .1 .1 .1 .1 .1 .0) ≡ length (start (c .before .before .before .before .before .before .before .before) .args .targets .now)
+  pub owners : length (c .before .before .before .before .before .before .before .before .read-portion .last .1 .1 .1 .1 .0)
+      ≡ length (start (c .before .before .before .before .before .before .before .before) .args .owners .now)
+  pub priorities : length (c .before .before .before .before .before .before .before .before .read-portion .last .1 .1 .1 .1
+      .1 .0) ≡ length (start (c .before .before .before .before .before .before .before .before) .args .priorities .now)
+  pub offsets : length (c .before .before .before .before .before .before .before .before .read-portion .last .1 .1 .1 .1 .1
+      .1 .0) ≡ length (start (c .before .before .before .before .before .before .before .before) .args .offsets .now)
+  pub targets : length (c .before .before .before .before .before .before .before .before .read-portion .last .1 .1 .1 .1 .1
+      .1 .1 .0) ≡ length (start (c .before .before .before .before .before .before .before .before) .args .targets .now)
 
 same-lengths : (c : tie.After-slice-known8) → SameLengths c
 same-lengths c =
@@ -91,9 +99,11 @@ same-length-8 c = search needs
 returns-2 : tie.Need-returns-2
 returns-2 c =
     let end = c .before .before .before .before .before .before .before .before in
-    let at = c .before .before .before .before .before .before .before .before .before .before .before .before .before .before .before .before .before .before .before .before .before .before .before .before in
+    let at = c .before .before .before .before .before .before .before .before .before .before .before .before .before
+    .before .before .before .before .before .before .before .before .before .before .before in
     let args = start at .args in
-    let same = same-lengths (c .before .before .before .before .before .before .before .before .before .before .before .before .before .before .before .before) in
+    let same = same-lengths (c .before .before .before .before .before .before .before .before .before .before .before
+    .before .before .before .before .before) in
     takes-stuck (args .most-bytes) (args .place) (args .state) (args .text .now) (args .owners .now) (args .priorities .now)
     (args .offsets .now)
     (args .targets .now)
@@ -113,8 +123,10 @@ returns-2 c =
     (same .priorities)
     (same .offsets)
     (end .clear-tables .ensures)
-    (c .before .before .before .before .before .before .before .before .before .before .before .before .before .before .k .given .0 .0)
-    (c .before .before .before .before .before .before .before .before .before .before .before .before .before .before .k .given .1)
+    (c .before .before .before .before .before .before .before .before .before .before .before .before .before .before .k
+    .given .0 .0)
+    (c .before .before .before .before .before .before .before .before .before .before .before .before .before .before .k
+    .given .1)
 
 same-length-9 : tie.Need-same-length-9
 same-length-9 c = search needs
@@ -131,9 +143,11 @@ same-length-12 c = search needs
 returns-3 : tie.Need-returns-3
 returns-3 c =
     let end = c .before .before .before .before .before .before .before .before in
-    let at = c .before .before .before .before .before .before .before .before .before .before .before .before .before .before .before .before .before .before .before .before .before .before .before .before in
+    let at = c .before .before .before .before .before .before .before .before .before .before .before .before .before
+    .before .before .before .before .before .before .before .before .before .before .before in
     let args = start at .args in
-    let same = same-lengths (c .before .before .before .before .before .before .before .before .before .before .before .before .before .before .before .before) in
+    let same = same-lengths (c .before .before .before .before .before .before .before .before .before .before .before
+    .before .before .before .before .before) in
     takes-beyond (args .most-bytes) (args .place) (args .state) (args .text .now) (args .owners .now) (args .priorities .now)
     (args .offsets .now)
     (args .targets .now)
@@ -153,8 +167,10 @@ returns-3 c =
     (same .priorities)
     (same .offsets)
     (end .clear-tables2 .ensures)
-    (c .before .before .before .before .before .before .before .before .before .before .before .before .before .before .k2 .given .0 .0)
-    (c .before .before .before .before .before .before .before .before .before .before .before .before .before .before .k2 .given .1)
+    (c .before .before .before .before .before .before .before .before .before .before .before .before .before .before .k2
+    .given .0 .0)
+    (c .before .before .before .before .before .before .before .before .before .before .before .before .before .before .k2
+    .given .1)
 
 pub take-portion-spec : {M : Type 1} → statement M
 take-portion-spec =

@@ -15,7 +15,8 @@ use Rattle.pgsolver_serial.proofs.portion.go_on.Statement.{statement}
 use Rattle.pgsolver_serial.proofs.portion.go_on.Tie as tie
 
 abbrev start : tie.After-take-portion → tie.Start
-start c = c .before .before .before .before .before .before .before .before .before .before .before .before .before .before .before .before
+start c = c .before .before .before .before .before .before .before .before .before .before .before .before .before .before
+    .before .before
 
 abbrev owners : tie.After-take-portion → List ℕ
 owners c = c .take-portion .last .1 .1 .1 .1 .0
@@ -33,7 +34,8 @@ same-lengths :
     (c : tie.After-slice-known10) →
     let at = c .before .before .before .before .before .before .before .before in
     let args = start at .args in
-    SameLengths (args .owners .now) (args .priorities .now) (args .offsets .now) (args .targets .now) (owners at) (priorities at)
+    SameLengths (args .owners .now) (args .priorities .now) (args .offsets .now) (args .targets .now) (owners at) (priorities
+    at)
     (offsets at)
     (targets at)
 same-lengths c =
@@ -44,7 +46,8 @@ takes :
     (c : tie.After-take-portion) →
     let args = start c .args in
     let s = args .state .now in
-    Takes (mostIn s) (placeIn s) (stateIn s) (args .portion .now) (args .owners .now) (args .priorities .now) (args .offsets .now)
+    Takes (mostIn s) (placeIn s) (stateIn s) (args .portion .now) (args .owners .now) (args .priorities .now) (args .offsets
+    .now)
     (args .targets .now)
     (c .take-portion .result)
     (owners c)
@@ -66,7 +69,8 @@ takes c =
     (c .before .before .before .before .before .found .ensures)
     (subst
     (λ (k : ℕ).
-    Takes (mostIn s) k (c .before .before .before .before .before .found .result) (args .portion .now) (args .owners .now) (args .priorities .now)
+    Takes (mostIn s) k (c .before .before .before .before .before .found .result) (args .portion .now) (args .owners .now)
+    (args .priorities .now)
     (args .offsets .now)
     (args .targets .now)
     (c .take-portion .result)
@@ -100,10 +104,19 @@ add-keep c =
     let read : placeIn s + length (args .portion .now) ≤ mostIn s =
     subst (λ (x : Taken). FitsAs (mostIn s) (placeIn s + length (args .portion .now)) x) (c .before .before .next .given .1)
     (takes at .fits (omega arith)) in
-    record { fits = omega (arith, read, at .before .before .before .before .before .before .before .place-found .ensures, at .before .before .before .before .before .before .before .before .before .slice-known6 .given 1) }
+    record {
+      fits = omega (
+        arith,
+        read,
+        at .before .before .before .before .before .before .before .place-found .ensures,
+        at
+            .before .before .before .before .before .before .before .before .before .slice-known6 .given 1,
+      );
+    }
 
 keep-requires : tie.Need-keep-requires
-keep-requires c κs = start (c .before .before .before .before .before .before .before .before .before .before .before .before) .pre .long
+keep-requires c κs = start (c .before .before .before .before .before .before .before .before .before .before .before
+    .before) .pre .long
 
 enum-known-number : tie.Need-enum-known-number
 enum-known-number c = search needs
@@ -128,7 +141,8 @@ same-length-5 c = search needs
 
 returns : tie.Need-returns
 returns c =
-    let at = c .before .before .before .before .before .before .before .before .before .before .before .before .before .before .before in
+    let at = c .before .before .before .before .before .before .before .before .before .before .before .before .before
+    .before .before in
     let args = start at .args in
     let s = args .state .now in
     let end = c .before .before .keep in
@@ -145,7 +159,8 @@ returns c =
     (takes at)
     (c .before .before .before .before .before .next .given .0 .0)
     (c .before .before .before .before .before .next .given .1)
-    (subst (λ (k : ℕ). Keeps (mostIn s) (k + length (args .portion .now)) (c .before .before .before .before .before .next .given .0 .0) s (end .last .0))
+    (subst (λ (k : ℕ). Keeps (mostIn s) (k + length (args .portion .now)) (c .before .before .before .before .before .next
+    .given .0 .0) s (end .last .0))
     (at .before .before .before .before .before .before .before .place-found .ensures)
     (end .ensures))
 
@@ -166,7 +181,8 @@ same-length-10 c = search needs
 
 returns-2 : tie.Need-returns-2
 returns-2 c =
-    let at = c .before .before .before .before .before .before .before .before .before .before .before .before .before .before .before in
+    let at = c .before .before .before .before .before .before .before .before .before .before .before .before .before
+    .before .before in
     let args = start at .args in
     let s = args .state .now in
     let end = c .before .before .give in

@@ -16,7 +16,8 @@ start c = c .before .before .before .before .before .before .before
 
 abbrev entry : tie.Start → Lent
 entry c =
-    lentOf (c .args .state .now) (c .args .owners .now) (c .args .priorities .now) (c .args .offsets .now) (c .args .targets .now)
+    lentOf (c .args .state .now) (c .args .owners .now) (c .args .priorities .now) (c .args .offsets .now) (c .args .targets
+    .now)
 
 -- what the check of the rooms said
 checked : (c : tie.After-check-rooms) (x : Fits) → c .check-rooms .result ≡ x → lentChecks (entry (start c)) ≡ fitsSaid x
@@ -69,13 +70,15 @@ same-length-5 c = search needs
 
 returns-3 : tie.Need-returns-3
 returns-3 c =
-    let at = c .before .before .before .before .before .before .before .before .before .before .before .before .before .before .before .before .before .before in
+    let at = c .before .before .before .before .before .before .before .before .before .before .before .before .before
+    .before .before .before .before .before in
     let end = c .before .before .before .before .before .before .before .before .before .before .portion-fitting in
     let after = lentOf (end .last .1 .0) (end .last .1 .1 .0) (end .last .1 .1 .1 .0) (end .last .1 .1 .1 .1 .0)
     (end .last .1 .1 .1 .1 .1 .0) in
     unless-fit (lentChecks (entry (start at))) (said (end .result)) (entry (start at)) after
     (Portioned Stands (start at .args .portion .now) (entry (start at)) after (said (end .result)))
-    (checked at Fit (c .before .before .before .before .before .before .before .before .before .before .before .before .before .before .before .before .enum-told3 .given .1))
+    (checked at Fit (c .before .before .before .before .before .before .before .before .before .before .before .before
+    .before .before .before .before .enum-told3 .given .1))
     (end .ensures)
 
 pub read-portion-spec : {M : Type 1} → statement M

@@ -16,7 +16,8 @@ start c = c .before .before .before .before .before .before
 
 abbrev entry : tie.Start → Lent
 entry c =
-    lentOf (c .args .state .now) (c .args .owners .now) (c .args .priorities .now) (c .args .offsets .now) (c .args .targets .now)
+    lentOf (c .args .state .now) (c .args .owners .now) (c .args .priorities .now) (c .args .offsets .now) (c .args .targets
+    .now)
 
 -- what the check of the rooms said
 checked : (c : tie.After-check-rooms) (x : Fits) → c .check-rooms .result ≡ x → lentChecks (entry (start c)) ≡ fitsSaid x
@@ -69,13 +70,15 @@ same-length-5 c = search needs
 
 returns-3 : tie.Need-returns-3
 returns-3 c =
-    let at = c .before .before .before .before .before .before .before .before .before .before .before .before .before .before .before .before .before .before in
+    let at = c .before .before .before .before .before .before .before .before .before .before .before .before .before
+    .before .before .before .before .before in
     let end = c .before .before .before .before .before .before .before .before .before .before .start-fitting in
     let after = lentOf (end .last .1 .0) (end .last .1 .1 .0) (end .last .1 .1 .1 .0) (end .last .1 .1 .1 .1 .0)
     (end .last .1 .1 .1 .1 .1 .0) in
     unless-fit (lentChecks (entry (start at))) (answered 0) (entry (start at)) after
     (Started Stands (start at .args .most-bytes) (entry (start at)) after (answered 0))
-    (checked at Fit (c .before .before .before .before .before .before .before .before .before .before .before .before .before .before .before .before .enum-told3 .given .1))
+    (checked at Fit (c .before .before .before .before .before .before .before .before .before .before .before .before
+    .before .before .before .before .enum-told3 .given .1))
     (record { gives = refl; stands = end .ensures .stands; kept = end .ensures .kept })
 
 pub read-start-spec : {M : Type 1} → statement M

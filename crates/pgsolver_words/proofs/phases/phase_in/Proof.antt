@@ -59,7 +59,33 @@ returns-16 c = ap phaseIn (sym (c .match .keys16))
 
 returns-17 : tie.Need-returns-17
 returns-17 c =
-    sym (simp (ne-eqb (c .before .args .word) 0 (c .match .rest .0 .0 .0 .0 .0 .0 .0 .0 .0 .0 .0 .0 .0 .0 .0 .1), ne-eqb (c .before .args .word) 1 (c .match .rest .0 .0 .0 .0 .0 .0 .0 .0 .0 .0 .0 .0 .0 .0 .1), ne-eqb (c .before .args .word) 2 (c .match .rest .0 .0 .0 .0 .0 .0 .0 .0 .0 .0 .0 .0 .0 .1), ne-eqb (c .before .args .word) 3 (c .match .rest .0 .0 .0 .0 .0 .0 .0 .0 .0 .0 .0 .0 .1), ne-eqb (c .before .args .word) 4 (c .match .rest .0 .0 .0 .0 .0 .0 .0 .0 .0 .0 .0 .1), ne-eqb (c .before .args .word) 5 (c .match .rest .0 .0 .0 .0 .0 .0 .0 .0 .0 .0 .1), ne-eqb (c .before .args .word) 6 (c .match .rest .0 .0 .0 .0 .0 .0 .0 .0 .0 .1), ne-eqb (c .before .args .word) 7 (c .match .rest .0 .0 .0 .0 .0 .0 .0 .0 .1), ne-eqb (c .before .args .word) 8 (c .match .rest .0 .0 .0 .0 .0 .0 .0 .1), ne-eqb (c .before .args .word) 9 (c .match .rest .0 .0 .0 .0 .0 .0 .1), ne-eqb (c .before .args .word) 10 (c .match .rest .0 .0 .0 .0 .0 .1), ne-eqb (c .before .args .word) 11 (c .match .rest .0 .0 .0 .0 .1), ne-eqb (c .before .args .word) 12 (c .match .rest .0 .0 .0 .1), ne-eqb (c .before .args .word) 13 (c .match .rest .0 .0 .1), ne-eqb (c .before .args .word) 14 (c .match .rest .0 .1), ne-eqb (c .before .args .word) 15 (c .match .rest .1)))
+    sym (simp (
+      ne-eqb (c .before .args .word) 0 (c .match .rest .0 .0 .0 .0 .0 .0 .0 .0 .0 .0 .0 .0 .0 .0 .0 .1),
+      ne-eqb (c
+          .before .args .word) 1 (c .match .rest .0 .0 .0 .0 .0 .0 .0 .0 .0 .0 .0 .0 .0 .0 .1),
+      ne-eqb (c .before .args .word) 2 (c
+          .match .rest .0 .0 .0 .0 .0 .0 .0 .0 .0 .0 .0 .0 .0 .1),
+      ne-eqb (c .before .args .word) 3 (c .match .rest .0 .0 .0 .0 .0
+          .0 .0 .0 .0 .0 .0 .0 .1),
+      ne-eqb (c .before .args .word) 4 (c .match .rest .0 .0 .0 .0 .0 .0 .0 .0 .0 .0 .0 .1),
+      ne-eqb
+          (c .before .args .word) 5 (c .match .rest .0 .0 .0 .0 .0 .0 .0 .0 .0 .0 .1),
+      ne-eqb (c .before .args .word) 6 (c .match
+          .rest .0 .0 .0 .0 .0 .0 .0 .0 .0 .1),
+      ne-eqb (c .before .args .word) 7 (c .match .rest .0 .0 .0 .0 .0 .0 .0 .0 .1),
+      ne-eqb (c .before .args .word) 8 (c .match .rest .0 .0 .0 .0 .0 .0 .0 .1),
+      ne-eqb (c .before .args .word) 9 (c .match
+          .rest .0 .0 .0 .0 .0 .0 .1),
+      ne-eqb (c .before .args .word) 10 (c .match .rest .0 .0 .0 .0 .0 .1),
+      ne-eqb (c .before
+          .args .word) 11 (c .match .rest .0 .0 .0 .0 .1),
+      ne-eqb (c .before .args .word) 12 (c .match .rest .0 .0 .0 .1),
+      ne-eqb
+          (c .before .args .word) 13 (c .match .rest .0 .0 .1),
+      ne-eqb (c .before .args .word) 14 (c .match .rest .0 .1),
+      ne-eqb (c
+          .before .args .word) 15 (c .match .rest .1),
+    ))
 
 pub phase-in-spec : {M : Type 1} → statement M
 phase-in-spec =

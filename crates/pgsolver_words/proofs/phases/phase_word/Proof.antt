@@ -66,7 +66,11 @@ returns : tie.Need-returns
 returns c = rw (c .enum-told .given .1)
 
 returns-2 : tie.Need-returns-2
-returns-2 c = rw (c .before .phase .given .1) (letters-again (c .before .phase .given .0 .0) (omega (arith, c .known-told .given)))
+returns-2 c = rw (c .before .phase .given .1) (letters-again (c .before .phase .given .0 .0) (omega (
+  arith,
+  c .known-told
+      .given,
+)))
 
 returns-3 : tie.Need-returns-3
 returns-3 c = rw (c .enum-told2 .given .1)

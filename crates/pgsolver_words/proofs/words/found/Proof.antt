@@ -66,10 +66,14 @@ returns : tie.Need-returns
 returns c =
     λ i.
     record {
-      phase = c .before .before .before .before .before .before .before .before .before .before .before .before .before .before .before .before .before .phase-in .ensures i;
-      said = eqb (getD (c .before .before .before .before .before .before .before .before .before .before .before .before .before .before .before .before .before .before .before .before .args .words .now) 4 0) 1;
-      highest = c .before .before .before .before .before .before .before .before .before .before .before .before .before .before .low .ensures i;
-      records = c .before .before .before .before .before .before .before .before .before .before .before .before .low2 .ensures i;
+      phase = c .before .before .before .before .before .before .before .before .before .before .before .before .before
+          .before .before .before .before .phase-in .ensures i;
+      said = eqb (getD (c .before .before .before .before .before .before .before .before .before .before .before .before
+          .before .before .before .before .before .before .before .before .args .words .now) 4 0) 1;
+      highest = c .before .before .before .before .before .before .before .before .before .before .before .before .before
+          .before .low .ensures i;
+      records = c .before .before .before .before .before .before .before .before .before .before .before .before .low2
+          .ensures i;
       edges = c .before .before .before .before .before .before .before .before .before .before .low3 .ensures i;
       identifier = c .before .before .before .before .before .before .before .before .low4 .ensures i;
       priority = c .before .before .before .before .before .before .low5 .ensures i;

@@ -29,7 +29,8 @@ same-length c = search needs
 returns : tie.Need-returns
 returns c =
     let args = c .before .before .before .before .before .before .args in
-    gives (args .number) (args .place) (args .n) (args .m) (args .words .now) _ (ap (λ (xs : List ℕ). xs ++ drop 13 (args .words .now)) (c .before .before .copy-from .ensures))
+    gives (args .number) (args .place) (args .n) (args .m) (args .words .now) _ (ap (λ (xs : List ℕ). xs ++ drop 13 (args
+    .words .now)) (c .before .before .copy-from .ensures))
 
 pub give-spec : {M : Type 1} → statement M
 give-spec =

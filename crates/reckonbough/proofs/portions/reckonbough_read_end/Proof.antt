@@ -29,7 +29,8 @@ same-length-6 c = search needs
 
 returns : tie.Need-returns
 returns c =
-    let called = c .before .before .before .before .before .before .before .before .before .before .before .before .before .before .before in
+    let called = c .before .before .before .before .before .before .before .before .before .before .before .before .before
+    .before .before in
     rw (← c .tell .ensures) (called .read-end .ensures)
 
 pub reckonbough-read-end-spec : {M : Type 1} → statement M
