@@ -286,6 +286,52 @@ uint64_t reckonbough_read_tables(
     uint64_t *place, uint64_t *count);
 
 /*
+ * A text that comes in portions, as over a serial line: one start, any number of portions, empty ones among them, and the end give
+ * the same number, place, tables and sizes as reckonbough_read of the whole text. The place is counted from the start of the text.
+ * state is 32 words or more, for the caller to keep between the calls with the four tables; what they hold until the end is free.
+ * Handed others than the last call left, a call still ends and stays inside them, and what it gives is free. Words of state beyond
+ * 32 stay.
+ *
+ * The start forgets whatever came before. Gives 9 (rooms that do not fit each other), 10 (a state shorter than 32 words); else 0.
+ * With 9 and 10 no function for portions writes anything but place and count, and the text can go on as if the call had not been.
+ */
+uint64_t reckonbough_read_start(
+    uint64_t most_bytes,
+    uint64_t *state, size_t state_length,
+    uint8_t *owners, size_t owners_length,
+    uint16_t *priorities, size_t priorities_length,
+    uint16_t *offsets, size_t offsets_length,
+    uint16_t *targets, size_t targets_length,
+    uint64_t *place, uint64_t *count);
+
+/*
+ * One portion more. Gives 9, 10, 30 or 32 where one of its bytes is refused, and then all four tables are zero at once; else 0. After
+ * a refusal or the end it changes nothing and gives that outcome again.
+ */
+uint64_t reckonbough_read_portion(
+    const uint8_t *portion, size_t portion_length,
+    uint64_t *state, size_t state_length,
+    uint8_t *owners, size_t owners_length,
+    uint16_t *priorities, size_t priorities_length,
+    uint16_t *offsets, size_t offsets_length,
+    uint16_t *targets, size_t targets_length,
+    uint64_t *place, uint64_t *count);
+
+/*
+ * The end of the text: gives and leaves what reckonbough_read does. Called again, or after a refusal, it gives the same and writes n
+ * and m again; state and tables stay. 10 is here a state or a work area that is too short.
+ */
+uint64_t reckonbough_read_end(
+    uint64_t *state, size_t state_length,
+    uint8_t *owners, size_t owners_length,
+    uint16_t *priorities, size_t priorities_length,
+    uint16_t *offsets, size_t offsets_length,
+    uint16_t *targets, size_t targets_length,
+    uint64_t *work, size_t work_length,
+    uint64_t *n, uint64_t *m,
+    uint64_t *place, uint64_t *count);
+
+/*
  * Mends an incomplete export, whose targets need not be below n and whose vertices need no edge: drops each edge whose target
  * is not below n, then gives every vertex that is left without an edge a self loop and, as its owner is stuck and loses there,
  * priority 1 if the owner is Even and 0 if Odd. All other vertices, edges and their order stay; so do the owners. The result

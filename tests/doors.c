@@ -194,6 +194,34 @@ static void as_text(void)
     print("read of no text", reckonbough_read_tables(NULL, 0, 0, ROOMS, &n, &m, &place, &count));
 }
 
+/* C7 over a serial line: cut in a number and with an empty portion; refused, and again; then a fresh start. */
+static void in_portions(void)
+{
+    static const uint8_t text[] = "parity 1; 0 22 0 1; 1 0 1 0,1;";
+    uint8_t owners[3];
+    uint16_t priorities[3], offsets[4], targets[4];
+    uint64_t n = 7, m = 7, state[33] = {0};
+#define LENT(words) state, words, owners, 3, priorities, 3, offsets, 4, targets, 4
+    state[32] = 99;
+    print("start, 31 words of state", reckonbough_read_start(16384, LENT(31), &place, &count));
+    print("start", reckonbough_read_start(16384, LENT(33), &place, &count));
+    print("13 bytes", reckonbough_read_portion(text, 13, LENT(33), &place, &count));
+    print("none", reckonbough_read_portion(NULL, 0, LENT(33), &place, &count));
+    print("17 bytes", reckonbough_read_portion(text + 13, 17, LENT(33), &place, &count));
+    print("end, 6 words of work", reckonbough_read_end(LENT(33), work, 6, &n, &m, &place, &count));
+    print("end", reckonbough_read_end(LENT(33), work, 7, &n, &m, &place, &count));
+    printf("  %u vertices, %u edges, priority %u, beyond the state %u\n", (unsigned)n, (unsigned)m, (unsigned)priorities[0],
+           (unsigned)state[32]);
+    print("5 bytes more", reckonbough_read_portion(text, 5, LENT(33), &place, &count));
+    print("end again", reckonbough_read_end(LENT(33), work, 7, &n, &m, &place, &count));
+    print("start again", reckonbough_read_start(16384, LENT(33), &place, &count));
+    print("20 bytes", reckonbough_read_portion(text, 20, LENT(33), &place, &count));
+    print("a letter", reckonbough_read_portion((const uint8_t *)"x", 1, LENT(33), &place, &count));
+    print("5 bytes more", reckonbough_read_portion(text, 5, LENT(33), &place, &count));
+    print("end", reckonbough_read_end(LENT(33), work, 7, &n, &m, &place, &count));
+    printf("  %u vertices, %u edges, priority %u\n", (unsigned)n, (unsigned)m, (unsigned)priorities[0]);
+}
+
 /*
  * The largest game, 2,048 pairs: E2 to the pair's other; E1 to itself and to the next pair. Zielonka's recursion nests 2,049
  * deep in it. One vertex more is refused.
@@ -236,6 +264,7 @@ int main(void)
     mending();
     as_text();
     loops();
+    in_portions();
     most_vertices();
     return 0;
 }

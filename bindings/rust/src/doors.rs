@@ -131,6 +131,34 @@ extern "C" {
         n: *mut u64, m: *mut u64,
         place: *mut u64, count: *mut u64,
     ) -> u64;
+    fn reckonbough_read_start(
+        most_bytes: u64,
+        state: *mut u64, state_length: usize,
+        owners: *mut u8, owners_length: usize,
+        priorities: *mut u16, priorities_length: usize,
+        offsets: *mut u16, offsets_length: usize,
+        targets: *mut u16, targets_length: usize,
+        place: *mut u64, count: *mut u64,
+    ) -> u64;
+    fn reckonbough_read_portion(
+        portion: *const u8, portion_length: usize,
+        state: *mut u64, state_length: usize,
+        owners: *mut u8, owners_length: usize,
+        priorities: *mut u16, priorities_length: usize,
+        offsets: *mut u16, offsets_length: usize,
+        targets: *mut u16, targets_length: usize,
+        place: *mut u64, count: *mut u64,
+    ) -> u64;
+    fn reckonbough_read_end(
+        state: *mut u64, state_length: usize,
+        owners: *mut u8, owners_length: usize,
+        priorities: *mut u16, priorities_length: usize,
+        offsets: *mut u16, offsets_length: usize,
+        targets: *mut u16, targets_length: usize,
+        work: *mut u64, work_length: usize,
+        n: *mut u64, m: *mut u64,
+        place: *mut u64, count: *mut u64,
+    ) -> u64;
     fn reckonbough_mend(
         owners: *const u8, owners_length: usize,
         priorities: *const u16, priorities_length: usize,
@@ -296,6 +324,58 @@ pub fn read(text: &[u8], most_bytes: u64, rooms: Rooms<'_>, work: &mut [u64]) ->
 /// Reads what a PGSolver text says, also where it is no game: as [`read`], but none of 1 to 8.
 pub fn read_tables(text: &[u8], most_bytes: u64, rooms: Rooms<'_>, work: &mut [u64]) -> (Answer, usize, usize) {
     read!(reckonbough_read_tables, text, most_bytes, rooms, work)
+}
+
+/// A fresh start of a text that comes in portions: 0, 9 or 10. `state` is 32 words or more, to be handed back with the rooms as
+/// the last call left them.
+pub fn read_start(most_bytes: u64, state: &mut [u64], rooms: Rooms<'_>) -> Answer {
+    let Rooms { owners, priorities, offsets, targets } = rooms;
+    let (mut place, mut count) = (0, 0);
+    // SAFETY: every pointer comes with the length of the slice it was taken from. What is written to was lent by &mut, so it
+    // overlaps nothing else. The function keeps no pointer and asks nothing of what the slices hold.
+    let number = unsafe {
+        reckonbough_read_start(
+            most_bytes, state.as_mut_ptr(), state.len(),
+            owners.as_mut_ptr(), owners.len(), priorities.as_mut_ptr(), priorities.len(),
+            offsets.as_mut_ptr(), offsets.len(), targets.as_mut_ptr(), targets.len(),
+            &mut place, &mut count,
+        )
+    };
+    Answer { number, place, count }
+}
+
+/// One portion more: 0, 9, 10, 30 or 32. After a refusal or the end it changes nothing and gives that outcome again.
+pub fn read_portion(portion: &[u8], state: &mut [u64], rooms: Rooms<'_>) -> Answer {
+    let Rooms { owners, priorities, offsets, targets } = rooms;
+    let (mut place, mut count) = (0, 0);
+    // SAFETY: every pointer comes with the length of the slice it was taken from. What is written to was lent by &mut, so it
+    // overlaps nothing else. The function keeps no pointer and asks nothing of what the slices hold.
+    let number = unsafe {
+        reckonbough_read_portion(
+            portion.as_ptr(), portion.len(), state.as_mut_ptr(), state.len(),
+            owners.as_mut_ptr(), owners.len(), priorities.as_mut_ptr(), priorities.len(),
+            offsets.as_mut_ptr(), offsets.len(), targets.as_mut_ptr(), targets.len(),
+            &mut place, &mut count,
+        )
+    };
+    Answer { number, place, count }
+}
+
+/// The end of the text: what [`read`] of the whole text gives and leaves; with n and m.
+pub fn read_end(state: &mut [u64], rooms: Rooms<'_>, work: &mut [u64]) -> (Answer, usize, usize) {
+    let Rooms { owners, priorities, offsets, targets } = rooms;
+    let (mut n, mut m, mut place, mut count) = (0, 0, 0, 0);
+    // SAFETY: every pointer comes with the length of the slice it was taken from. What is written to was lent by &mut, so it
+    // overlaps nothing else. The function keeps no pointer and asks nothing of what the slices hold.
+    let number = unsafe {
+        reckonbough_read_end(
+            state.as_mut_ptr(), state.len(),
+            owners.as_mut_ptr(), owners.len(), priorities.as_mut_ptr(), priorities.len(),
+            offsets.as_mut_ptr(), offsets.len(), targets.as_mut_ptr(), targets.len(),
+            work.as_mut_ptr(), work.len(), &mut n, &mut m, &mut place, &mut count,
+        )
+    };
+    (Answer { number, place, count }, n as usize, m as usize)
 }
 
 /// Writes the mended tables and the list of what was done: 0, 1 to 6, 3 too where the result has too many edges, or 35; the

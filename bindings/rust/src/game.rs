@@ -149,28 +149,41 @@ impl Game {
     /// # Ok::<(), Refusal>(())
     /// ```
     pub fn read(text: &[u8]) -> Result<Game, Refusal> {
+        let mut game = Game::with_room();
+        let mut work = vec![0; game.owners.len() + game.targets.len()];
+        let (answer, n, m) = doors::read(text, crate::MAX_READ, game.rooms(), &mut work);
+        answer.result()?;
+        Ok(game.cut_to(n, m))
+    }
+
+    /// Tables with room for the largest game.
+    fn with_room() -> Game {
         let (vertices, edges) = (crate::MAX_VERTICES, crate::MAX_EDGES);
-        let mut game = Game {
+        Game {
             owners: vec![0; vertices],
             priorities: vec![0; vertices],
             offsets: vec![0; vertices + 1],
             targets: vec![0; edges],
-        };
-        let rooms = doors::Rooms {
-            owners: &mut game.owners,
-            priorities: &mut game.priorities,
-            offsets: &mut game.offsets,
-            targets: &mut game.targets,
-        };
-        let (answer, n, m) = doors::read(text, crate::MAX_READ, rooms, &mut vec![0; vertices + edges]);
-        answer.result()?;
-        game.owners.truncate(n);
-        game.priorities.truncate(n);
-        game.offsets.truncate(n + 1);
-        game.targets.truncate(m);
-        Ok(game)
+        }
     }
 
+    fn rooms(&mut self) -> doors::Rooms<'_> {
+        doors::Rooms {
+            owners: &mut self.owners,
+            priorities: &mut self.priorities,
+            offsets: &mut self.offsets,
+            targets: &mut self.targets,
+        }
+    }
+
+    /// The tables of n vertices and m edges, without the room behind them.
+    fn cut_to(mut self, n: usize, m: usize) -> Game {
+        self.owners.truncate(n);
+        self.priorities.truncate(n);
+        self.offsets.truncate(n + 1);
+        self.targets.truncate(m);
+        self
+    }
 
     /// From the tables of an incomplete export: drops each edge that ends at no vertex, then gives every vertex without an edge a
     /// self loop and, as its owner is stuck and loses there, priority 1 if the owner is Even and 0 if Odd. All else stays. Tables
@@ -404,5 +417,57 @@ fn entry(choice: Option<usize>) -> u16 {
     match choice {
         None => NONE,
         Some(vertex) => vertex.min(usize::from(NONE) - 1) as u16,
+    }
+}
+
+/// Reads a game whose PGSolver text comes in portions, as over a serial line. It gives what [`Game::read`] of the whole text gives,
+/// with places counted from the start of the text.
+///
+/// ```
+/// use reckonbough::{Game, Reader, Refusal};
+/// let mut reader = Reader::new();
+/// reader.portion(b"parity 1; 0 2 0 1; 1 ")?;
+/// reader.portion(b"0 1 0,1;")?;
+/// assert_eq!(reader.end()?, Game::read(b"parity 1; 0 2 0 1; 1 0 1 0,1;")?);
+///
+/// let mut reader = Reader::new();
+/// reader.portion(b"0 2 0 1")?;
+/// assert_eq!(reader.portion(b"; x"), Err(Refusal::BadText(9)));
+/// assert_eq!(reader.portion(b"1 0 1 0;"), Err(Refusal::BadText(9)));
+/// assert_eq!(reader.end(), Err(Refusal::BadText(9)));
+/// # Ok::<(), Refusal>(())
+/// ```
+pub struct Reader {
+    state: [u64; 32],
+    game: Game,
+}
+
+impl Reader {
+    /// Before the first byte.
+    pub fn new() -> Reader {
+        let mut reader = Reader { state: [0; 32], game: Game::with_room() };
+        // these rooms and this state get neither 9 nor 10
+        let _ = doors::read_start(crate::MAX_READ, &mut reader.state, reader.game.rooms());
+        reader
+    }
+
+    /// One portion more. After a refusal every further portion gets that refusal again.
+    pub fn portion(&mut self, portion: &[u8]) -> Result<(), Refusal> {
+        doors::read_portion(portion, &mut self.state, self.game.rooms()).result()?;
+        Ok(())
+    }
+
+    /// The end of the text.
+    pub fn end(mut self) -> Result<Game, Refusal> {
+        let mut work = vec![0; self.game.owners.len() + self.game.targets.len()];
+        let (answer, n, m) = doors::read_end(&mut self.state, self.game.rooms(), &mut work);
+        answer.result()?;
+        Ok(self.game.cut_to(n, m))
+    }
+}
+
+impl Default for Reader {
+    fn default() -> Reader {
+        Reader::new()
     }
 }

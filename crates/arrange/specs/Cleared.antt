@@ -16,6 +16,13 @@ use Rattle.sets.specs.After.{Cleared}
 abbrev pub zeros : List ℕ → List ℕ
 zeros xs = replicate (length xs) 0
 
+-- every entry of the tables is 0
+pub record TablesZero (o p f t o' p' f' t' : List ℕ) : Type 0 where
+  pub owners : o' ≡ zeros o
+  pub priorities : p' ≡ zeros p
+  pub offsets : f' ≡ zeros f
+  pub targets : t' ≡ zeros t
+
 pub record AllZero (used : ℕ) (before after : Rooms) : Type 0 where
   pub owners : after .owners ≡ zeros (before .owners)
   pub priorities : after .priorities ≡ zeros (before .priorities)

@@ -3,7 +3,7 @@ ghost use mathlib.Core.List.{_++_};
 ghost use mathlib.Core.Path.{_≡_};
 ghost use Prim.Native.Nat.{_≤_};
 ghost use lib.ListN.{length, drop, replicate};
-ghost use Rattle.arrange.specs.Cleared.{AllZero, zeros};
+ghost use Rattle.arrange.specs.Cleared.{TablesZero, AllZero, zeros};
 
 fn clear_bytes(bytes: &mut [u8])
     ensures { λ _. ⌜ now (bytes .exit) ≡ zeros (now (bytes .entry)) ⌝ }
@@ -27,6 +27,23 @@ pub fn clear_work(work: &mut [u64], used: usize)
     ensures { λ _. ⌜ now (work .exit) ≡ replicate used 0 ++ drop used (now (work .entry)) ⌝ }
 {
     sets::clear(work, 0, used);
+}
+
+// Every entry of the tables becomes 0.
+pub fn clear_tables(
+    owners: &mut [u8],
+    priorities: &mut [u16],
+    offsets: &mut [u16],
+    targets: &mut [u16],
+)
+    ensures { λ _.
+        ⌜ TablesZero (now (owners .entry)) (now (priorities .entry)) (now (offsets .entry)) (now (targets .entry))
+        (now (owners .exit)) (now (priorities .exit)) (now (offsets .exit)) (now (targets .exit)) ⌝ }
+{
+    clear_bytes(owners);
+    clear_numbers(priorities);
+    clear_numbers(offsets);
+    clear_numbers(targets);
 }
 
 pub fn clear_rooms(
@@ -55,9 +72,6 @@ pub fn clear_rooms(
           work = now (work .exit);
         }) ⌝ }
 {
-    clear_bytes(owners);
-    clear_numbers(priorities);
-    clear_numbers(offsets);
-    clear_numbers(targets);
+    clear_tables(owners, priorities, offsets, targets);
     clear_work(work, used);
 }

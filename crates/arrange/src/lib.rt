@@ -9,4 +9,6 @@ pub use checks::Identifiers;
 pub use checks::check_identifiers;
 pub use checks::check_rooms;
 pub use clear::clear_rooms;
+pub use clear::clear_tables;
+pub use clear::clear_work;
 pub use order::arrange;

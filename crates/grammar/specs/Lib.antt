@@ -12,6 +12,7 @@ pub mod Limited
 pub mod Runs
 pub mod Correct
 pub mod OneReading
+pub mod SoFar
 pub mod WorkedText
 pub mod Waiting
 pub mod Decimals

@@ -1,5 +1,2 @@
--- What the steps of reading a whole text promise one another, and what follows from them.
-pub mod Scanning
-pub mod Telling
-pub mod Finishing
+-- A whole text is a start, one portion and the end.
 pub mod Reading

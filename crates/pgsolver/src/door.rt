@@ -1,24 +1,45 @@
 // The public functions: a text read into lent tables, for every input.
-use crate::finish::Asks;
-use crate::finish::finish;
-use crate::finish::refuse;
-use crate::tell::Told;
-use crate::tell::tell;
 use arrange::Fits;
 use arrange::check_rooms;
-use arrange::clear_rooms;
 use parity_game::Answer;
 use parity_game::BAD_SIZE;
 use parity_game::SHORT_WORK;
+use pgsolver_end::end::end_text;
+use pgsolver_finish::finish::Asks;
+use pgsolver_finish::finish::refuse;
+use pgsolver_portion::begin::begin;
+use pgsolver_portion::take::Taken;
+use pgsolver_portion::take::take_portion;
 ghost use mathlib.Core.Path.{_≡_};
+ghost use lib.ListN.{length};
 ghost use Rattle.rules.specs.Reading as Reading;
 ghost use Rattle.rules.specs.Reading.{ReadsText};
 ghost use Rattle.parity_game.specs.Said.{said};
 ghost use Rattle.arrange.specs.Laws.{roomsOf};
-ghost use Rattle.pgsolver.specs.Finishing.{asksIn, writtenOf};
-ghost use Rattle.pgsolver.specs.Reading.{Fitted};
+ghost use Rattle.pgsolver_finish.specs.Finishing.{asksIn, writtenOf};
+ghost use Rattle.pgsolver_step.specs.Steps.{Fitting};
+ghost use Rattle.pgsolver_portion.specs.Reached.{TakenAs};
+ghost use Rattle.pgsolver_end.specs.Told.{Fitted};
 
-// Where the rooms fit: what the text says, then the list.
+// A start, and the text as one portion.
+fn take_whole(
+    text: &[u8],
+    most_bytes: u64,
+    owners: &mut [u8],
+    priorities: &mut [u16],
+    offsets: &mut [u16],
+    targets: &mut [u16],
+) -> Taken
+    requires { ⌜ Fitting (now owners) (now priorities) (now offsets) ⌝ }
+    ensures { λ r.
+        ⌜ TakenAs «most_bytes» (now (text .entry)) (length (now (text .entry))) r (now (owners .exit))
+        (now (priorities .exit)) (now (offsets .exit)) (now (targets .exit)) ⌝ }
+{
+    let s = begin(owners, priorities, offsets, targets);
+    take_portion(text, 0, most_bytes, s, owners, priorities, offsets, targets)
+}
+
+// Where the rooms fit: the text, and then the end.
 fn read_fitting(
     asks: Asks,
     text: &[u8],
@@ -40,23 +61,15 @@ fn read_fitting(
         (now (work .exit)) (now (n .exit)) (now (m .exit)))
         (said r) ⌝ }
 {
-    clear_rooms(
-        owners,
-        priorities,
-        offsets,
-        targets,
-        work,
-        owners.len() + targets.len(),
-    );
-    match tell(text, most_bytes, owners, priorities, offsets, targets, work) {
-        Told::Refused(number, place) => {
+    match take_whole(text, most_bytes, owners, priorities, offsets, targets) {
+        Taken::Refused(number, place) => {
             refuse(owners, priorities, offsets, targets, work, n, m);
-            Answer::AtPlace(number, place)
+            Answer::AtPlace(number, place as usize)
         }
-        Told::Whole(records, edges) => finish(
+        Taken::On(next) => end_text(
             asks,
-            records,
-            edges,
+            next,
+            text.len() as u64,
             owners,
             priorities,
             offsets,

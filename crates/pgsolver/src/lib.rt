@@ -1,10 +1,6 @@
-// Reading a PGSolver text into lent tables, for every input: the rooms' checks, the text, its identifiers, then document
-// 01's list
-// where it is asked for.
+// Reading a whole PGSolver text into lent tables, for every input: the rooms' checks, then a start, one portion and the
+// end.
 mod door;
-mod finish;
-mod scan;
-mod tell;
 
 pub use door::read;
 pub use door::read_tables;

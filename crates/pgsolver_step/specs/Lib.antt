@@ -1,8 +1,4 @@
--- What the code's states mean in the words of the machine, and what its steps promise.
-pub mod Shown
-pub mod Acts
-pub mod Moves
-pub mod Classes
+-- What one byte and a portion of a text leave, in the words of the machine and of what waits in the tables.
 pub mod Follows
 pub mod Kept
 pub mod Waited

@@ -2,7 +2,7 @@
 use telling::tell;
 ghost use Rattle.rules.specs.Reading as Reading;
 ghost use Rattle.rules.specs.Reading.{ReadsText};
-ghost use Rattle.pgsolver.specs.Finishing.{writtenOf};
+ghost use Rattle.pgsolver_finish.specs.Finishing.{writtenOf};
 ghost use Rattle.telling.specs.Doors.{told};
 
 // A game.

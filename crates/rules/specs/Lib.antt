@@ -17,6 +17,7 @@ pub mod Checker
 pub mod Compaction
 pub mod Pgsolver
 pub mod Reading
+pub mod Portions
 pub mod Decimal
 pub mod Writing
 pub mod Printing

@@ -5,8 +5,9 @@ use Rattle.parity_game.specs.Said.{said}
 use Rattle.arrange.specs.declared.checks.Fits.{Fits}
 use Rattle.arrange.specs.declared.checks.Fits.the-variants.{Fit, Sizes, Work}
 use Rattle.arrange.specs.Said.{fitsSaid, size-checks}
-use Rattle.pgsolver.specs.Finishing.{asksIn, writtenOf}
-use Rattle.pgsolver.specs.Reading.{fitted, reads-unfit, reads-fit}
+use Rattle.pgsolver_finish.specs.Finishing.{asksIn, writtenOf}
+use Rattle.pgsolver_end.specs.Told.{fitted}
+use Rattle.pgsolver.specs.Reading.{reads-unfit, reads-fit}
 use borrow.Author.Needs.{needs}
 use Rattle.pgsolver.proofs.door.read_by.Statement.{statement}
 use Rattle.pgsolver.proofs.door.read_by.Tie as tie

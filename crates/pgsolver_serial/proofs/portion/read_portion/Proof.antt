@@ -1,0 +1,101 @@
+-- `read_portion` meets its contract: 9 and 10 write nothing, and else the words decide.
+use mathlib.Core.Path.{_≡_, sym, ap, _∙_}
+use Rattle.rules.specs.Portions.{Lent, lentChecks, Portioned}
+use Rattle.parity_game.specs.Said.{said}
+use Rattle.arrange.specs.declared.checks.Fits.{Fits}
+use Rattle.arrange.specs.declared.checks.Fits.the-variants.{Fit, Sizes, Work}
+use Rattle.arrange.specs.Said.{fitsSaid}
+use Rattle.pgsolver_serial.specs.Stands.{lentOf, Stands}
+use Rattle.pgsolver_serial.specs.Calls.{lent-checks, fit-lent, unless-unfit, unless-fit}
+use borrow.Author.Needs.{needs}
+use Rattle.pgsolver_serial.proofs.portion.read_portion.Statement.{statement}
+use Rattle.pgsolver_serial.proofs.portion.read_portion.Tie as tie
+
+abbrev start : tie.After-check-rooms → tie.Start
+start c = c .before .before .before .before .before .before .before
+
+abbrev entry : tie.Start → Lent
+entry c =
+    lentOf (c .args .state .now) (c .args .owners .now) (c .args .priorities .now) (c .args .offsets .now) (c .args .targets
+    .now)
+
+-- what the check of the rooms said
+checked : (c : tie.After-check-rooms) (x : Fits) → c .check-rooms .result ≡ x → lentChecks (entry (start c)) ≡ fitsSaid x
+checked c x is = lent-checks (entry (start c)) (fitsSaid x) (sym (ap fitsSaid is) ∙ c .check-rooms .ensures)
+
+add-check-rooms : tie.Need-add-check-rooms
+add-check-rooms c = search needs
+
+check-rooms-requires : tie.Need-check-rooms-requires
+check-rooms-requires c κs = search needs
+
+enum-told : tie.Need-enum-told
+enum-told c = search needs
+
+enum-told-2 : tie.Need-enum-told-2
+enum-told-2 c = search needs
+
+enum-told-3 : tie.Need-enum-told-3
+enum-told-3 c = search needs
+
+portion-fitting-requires : tie.Need-portion-fitting-requires
+portion-fitting-requires c κs =
+    let at = c .before .before .before .before .before .before .before in
+    fit-lent (entry (start at)) (checked at Fit (c .before .before .before .before .before .enum-told3 .given .1))
+
+returns : tie.Need-returns
+returns c =
+    let at = c .before .before in
+    unless-unfit (lentChecks (entry (start at))) 9 (entry (start at)) _ (checked at Sizes (c .enum-told .given .1))
+
+returns-2 : tie.Need-returns-2
+returns-2 c =
+    let at = c .before .before in
+    unless-unfit (lentChecks (entry (start at))) 10 (entry (start at)) _ (checked at Work (c .enum-told2 .given .1))
+
+same-length : tie.Need-same-length
+same-length c = search needs
+
+same-length-2 : tie.Need-same-length-2
+same-length-2 c = search needs
+
+same-length-3 : tie.Need-same-length-3
+same-length-3 c = search needs
+
+same-length-4 : tie.Need-same-length-4
+same-length-4 c = search needs
+
+same-length-5 : tie.Need-same-length-5
+same-length-5 c = search needs
+
+returns-3 : tie.Need-returns-3
+returns-3 c =
+    let at = c .before .before .before .before .before .before .before .before .before .before .before .before .before
+    .before .before .before .before .before in
+    let end = c .before .before .before .before .before .before .before .before .before .before .portion-fitting in
+    let after = lentOf (end .last .1 .0) (end .last .1 .1 .0) (end .last .1 .1 .1 .0) (end .last .1 .1 .1 .1 .0)
+    (end .last .1 .1 .1 .1 .1 .0) in
+    unless-fit (lentChecks (entry (start at))) (said (end .result)) (entry (start at)) after
+    (Portioned Stands (start at .args .portion .now) (entry (start at)) after (said (end .result)))
+    (checked at Fit (c .before .before .before .before .before .before .before .before .before .before .before .before
+    .before .before .before .before .enum-told3 .given .1))
+    (end .ensures)
+
+pub read-portion-spec : {M : Type 1} → statement M
+read-portion-spec =
+    tie.close
+    (tie.spec
+    add-check-rooms
+    check-rooms-requires
+    enum-told
+    enum-told-2
+    enum-told-3
+    portion-fitting-requires
+    returns
+    returns-2
+    same-length
+    same-length-2
+    same-length-3
+    same-length-4
+    same-length-5
+    returns-3)

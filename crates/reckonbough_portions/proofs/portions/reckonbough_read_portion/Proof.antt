@@ -1,0 +1,43 @@
+-- `reckonbough_read_portion` meets its contract: what is told and written is what `read_portion` answers and writes.
+use borrow.Author.Needs.{needs}
+use Rattle.reckonbough_portions.proofs.portions.reckonbough_read_portion.Statement.{statement}
+use Rattle.reckonbough_portions.proofs.portions.reckonbough_read_portion.Tie as tie
+
+read-portion-requires : tie.Need-read-portion-requires
+read-portion-requires c κs = search needs
+
+tell-requires : tie.Need-tell-requires
+tell-requires c κs = search needs
+
+same-length : tie.Need-same-length
+same-length c = search needs
+
+same-length-2 : tie.Need-same-length-2
+same-length-2 c = search needs
+
+same-length-3 : tie.Need-same-length-3
+same-length-3 c = search needs
+
+same-length-4 : tie.Need-same-length-4
+same-length-4 c = search needs
+
+same-length-5 : tie.Need-same-length-5
+same-length-5 c = search needs
+
+returns : tie.Need-returns
+returns c =
+    let called = c .before .before .before .before .before .before .before .before .before .before .before .before .before in
+    rw (← c .tell .ensures) (called .read-portion .ensures)
+
+pub reckonbough-read-portion-spec : {M : Type 1} → statement M
+reckonbough-read-portion-spec =
+    tie.close
+    (tie.spec
+    read-portion-requires
+    tell-requires
+    same-length
+    same-length-2
+    same-length-3
+    same-length-4
+    same-length-5
+    returns)
