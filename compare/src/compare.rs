@@ -209,7 +209,7 @@ fn answered<T>(name: &str, outcome: Outcome<T>, stopped: &mut bool) -> Result<Op
 }
 
 /// An error that names what differs.
-pub fn same<T: PartialEq + std::fmt::Debug>(what: &str, want: &T, got: &T) -> Result<(), String> {
+pub fn same<T: PartialEq + std::fmt::Debug + ?Sized>(what: &str, want: &T, got: &T) -> Result<(), String> {
     if want == got {
         Ok(())
     } else {

@@ -20,7 +20,7 @@ pub fn compare(game: &Game, set: Option<&[bool]>) -> Result<(), String> {
         match won {
             true => run(game, v, &got, &lists).map_err(|what| format!("{name}: {what}"))?,
             false => {
-                same(&name, &Answer::no(46, v as u64), &got)?;
+                same(&name, &Answer::no(46, v), &got)?;
                 same(&format!("{name}, lists kept"), &kept(&Lists::junk_lists(game)), &kept(&lists))?;
             }
         }
@@ -30,7 +30,7 @@ pub fn compare(game: &Game, set: Option<&[bool]>) -> Result<(), String> {
         work = lists.work;
     }
     for vertex in [game.n() as u64, u64::MAX] {
-        refused("no such vertex", game, vertex, Lists::junk(game), Answer::no(44, vertex))?;
+        refused("no such vertex", game, vertex, Lists::junk(game), Answer::no(44, vertex as usize))?;
     }
     if game.n() > 0 {
         let short = |list: Vec<u16>| list[..2 * game.n() - 1].to_vec();
