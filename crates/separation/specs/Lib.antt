@@ -2,5 +2,6 @@
 -- players, the stages of a solver, and the winning sets at full precision.
 pub mod Core
 pub mod Separates
+pub mod Passing
 pub mod Stages
 pub mod Opinion

@@ -1,407 +1,174 @@
--- The passes of a solver for a over a set that shrinks, by stages: passes at half the precision until one finds nothing, one pass at
--- full precision, and passes at half again until one finds nothing.
-use mathlib.Core.Bool.{Bool, true, false, _&&_, cond}
+-- The passes of a solver for a, by stages: passes at half the precision until one finds nothing, one pass at full precision, and
+-- passes at half again until one finds nothing. A pass that was sharper than it was asked to be can end them at once.
+use mathlib.Core.Bool.{Bool, true, false, _&&_, not, cond}
 use mathlib.Core.Logic.{_⊎_, inl, inr, ⊎-elim}
-use mathlib.Core.Path.{_≡_, refl, sym, ap, subst, fun-ext, _∙_}
-use Prim.Native.Nat.{ℕ, zero, suc, _+_, _*_, _/_, _≤_, _<_}
-use native.Mathlib.Nat.{le-refl, le-trans}
+use mathlib.Core.Path.{_≡_, refl, sym, subst}
+use Prim.Native.Nat.{ℕ, zero, suc, _+_, _≤_, _<_}
+use native.Mathlib.Nat.{le-trans}
 use native.Mathlib.Omega.{arith}
-use borrow.Author.Tests.{eqb-true, leb-true}
-use lib.Dec.{eqb, leb}
+use borrow.Author.Tests.{eqb-true, ne-eqb}
+use lib.Dec.{eqb}
 use Rattle.rules.specs.Counting.{Set, without, count}
-use Rattle.rules.specs.Game.{Player, opponent, Game, Edge, parity}
-use Rattle.rules.specs.Attractor.{IsAttractor, attractor}
-use Rattle.rules.specs.Zielonka.{withPriority}
-use Rattle.theory.specs.Basics.{bool-cases, clash, bool-ext, not-true-is-false, and-left, and-right, and-intro, lt-or-ge, Subset}
-use Rattle.theory.specs.Basics.{without-intro, without-left, without-right, opponent-differs, opponent-twice, other-player, count-some}
-use Rattle.theory.specs.Dominion.{Dominion, dominion-cong, dominion-without, held-narrower}
-use Rattle.theory.specs.Attractor.{Fits, attractor-is}
-use Rattle.theory.specs.AttractorComplement.{TotalIn, own-stays-out, rest-total, trap-missed}
-use Rattle.separation.specs.Core.{Core, core-of}
-use Rattle.separation.specs.Separates.{Small, Separates, fewer, small-none}
+use Rattle.rules.specs.Game.{Player, opponent, Game}
+use Rattle.rules.specs.Attractor.{attractor}
+use Rattle.theory.specs.Basics.{bool-cases, and-left, and-right, and-intro, Subset, without-left, count-le}
+use Rattle.theory.specs.AttractorComplement.{TotalIn}
+use Rattle.separation.specs.Separates.{Small, Separates, fewer, precision-cut}
+use Rattle.separation.specs.Passing.{both, Narrowed, narrowed-not, narrowed-then, Barren, Halved, Pass, left-small, barren-none}
+use Rattle.separation.specs.Passing.{pass-narrows, pass-barren, pass-halves, ends-full, ends-half}
 
--- the members of both
-abbrev pub both : Set → Set → Set
-both S T v = S v && T v
+-- a precision, raised to n where an answer is sharp: no dominion has more than n vertices, so it is about them all
+unfoldable pub raised : ℕ → Bool → ℕ → ℕ
+raised n sharp k = cond sharp n k
 
--- two parts of a set that share no vertex have no more vertices than the set
-count-parts :
-    (n : ℕ) (S T X : Set) →
-    Subset S X →
-    Subset T X →
-    ((v : ℕ) → S v ≡ true → T v ≡ false) →
-    count n S + count n T ≤ count n X
-unfolding count
-count-parts zero S T X s t apart = le-refl 0
-count-parts (suc n) S T X s t apart =
-    let rest = count-parts n S T X s t apart in
-    let here : cond (S n) 1 0 + cond (T n) 1 0 ≤ cond (X n) 1 0 = one in
-    omega arith
-  where
-    one : cond (S n) 1 0 + cond (T n) 1 0 ≤ cond (X n) 1 0
-    one =
-        ⊎-elim
-        (λ (p : S n ≡ true). rw (p, apart n p, s n p) (le-refl 1))
-        (λ (p : S n ≡ false).
-        ⊎-elim
-        (λ (q : T n ≡ true). rw (p, q, t n q) (le-refl 1))
-        (λ (q : T n ≡ false). rw (p, q) (omega arith))
-        (bool-cases (T n)))
-        (bool-cases (S n))
+pub raised-enough : (n : ℕ) (sharp : Bool) (k i : ℕ) → i ≤ n → i ≤ k → i ≤ raised n sharp k
+unfolding raised
+raised-enough n true k i l h = l
+raised-enough n false k i l h = h
 
--- V was narrowed from V₀: a's small dominions are kept, and what is left of one of the opponent's is one of what is left
-pub record Narrowed (g : Game) (a : Player) (own : ℕ) (V₀ V' : Set) : Type 0 where
-  pub inside : Subset V' V₀
-  pub keeps : (D : Set) → Small g a V₀ own D → Subset D V'
-  pub rests : (D : Set) (σ : ℕ → ℕ) → Dominion g (opponent a) V₀ D σ → Dominion g (opponent a) V' (both D V') σ
-  pub total : TotalIn g V'
+-- a sharp answer is one at the precision asked for
+pub separates-asked :
+    {g : Game} {a : Player} {V' R : Set} {own other : ℕ} (e f : Bool) →
+    Separates g a V' (raised (g .size) e own) (raised (g .size) f other) R →
+    Separates g a V' own other R
+separates-asked {g} {V' = V'} {own = own} {other = other} e f s =
+    precision-cut
+    (λ k l h. raised-enough (g .size) e own k (le-trans l (count-le (g .size) V')) h)
+    (λ k l h. raised-enough (g .size) f other k (le-trans l (count-le (g .size) V')) h)
+    s
 
--- at first
-pub narrowed-not : {g : Game} {a : Player} {own : ℕ} {V' : Set} → TotalIn g V' → Narrowed g a own V' V'
-narrowed-not {V' = V'} total =
-    record {
-      inside = λ v p. p;
-      keeps = λ D small. small .dominion .within;
-      rests =
-          λ D σ dom.
-          dominion-cong V' (both D V') σ (λ v. refl)
-          (λ v. bool-ext (D v) (both D V' v) (λ p. and-intro p (dom .within v p)) (and-left (D v) (V' v)))
-          (λ v p m. refl)
-          dom;
-      total = total;
-    }
+-- and where it is sharp at its own or the other precision alone
+other-asked :
+    {g : Game} {a : Player} {V' R : Set} {own other : ℕ} (f : Bool) →
+    Separates g a V' own (raised (g .size) f other) R →
+    Separates g a V' own other R
+other-asked {g} {V' = V'} {other = other} f s =
+    precision-cut (λ k l h. h) (λ k l h. raised-enough (g .size) f other k (le-trans l (count-le (g .size) V')) h) s
 
--- and on
-pub narrowed-then :
-    {g : Game} {a : Player} {own : ℕ} {V₀ V₁ V₂ : Set} →
-    Narrowed g a own V₀ V₁ → Narrowed g a own V₁ V₂ → Narrowed g a own V₀ V₂
-narrowed-then {g} {a} {own} {V₀} {V₁} {V₂} m n =
-    record {
-      inside = λ v p. m .inside v (n .inside v p);
-      keeps =
-          λ D small.
-          n .keeps D
-          (record {
-            choice = small .choice;
-            dominion = held-narrower V₁ (m .inside) (m .keeps D small) (small .dominion);
-            few = small .few;
-          });
-      rests =
-          λ D σ dom.
-          dominion-cong V₂ (both D V₂) σ (λ v. refl) (λ v. twice D v) (λ v p o. refl) (n .rests (both D V₁) σ (m .rests D σ dom));
-      total = n .total;
-    }
-  where
-    twice : (D : Set) (v : ℕ) → both (both D V₁) V₂ v ≡ both D V₂ v
-    twice D v =
-        bool-ext (both (both D V₁) V₂ v) (both D V₂ v)
-        (λ p. and-intro (and-left (D v) (V₁ v) (and-left _ (V₂ v) p)) (and-right (both D V₁ v) (V₂ v) p))
-        (λ p.
-        and-intro
-        (and-intro (and-left (D v) (V₂ v) p) (n .inside v (and-right (D v) (V₂ v) p)))
-        (and-right (D v) (V₂ v) p))
-
--- no dominion of the opponent's in V has a vertex and at most k of them
-abbrev pub Barren : Game → Player → Set → ℕ → Type 0
-Barren g a V' k = (D : Set) → Small g (opponent a) V' k D → (v : ℕ) → D v ≡ false
-
--- of each dominion of the opponent's in V₀ that has at most `full` vertices at most `half` are left in V
-abbrev pub Halved : Game → Player → ℕ → ℕ → Set → Set → Type 0
-Halved g a full half V₀ V' = (D : Set) → Small g (opponent a) V₀ full D → count (g .size) (both D V') ≤ half
-
--- what a pass at precision k knows: h is a's and the highest priority in V at most, and S is what the opponent's solver gave on what
--- a does not draw to h
-pub record Pass (g : Game) (a : Player) (own k : ℕ) (V' S : Set) : Type 0 where
-  pub top : ℕ
-  pub mine : parity top ≡ a
-  pub most : (v : ℕ) → V' v ≡ true → g .priority v ≤ top
-  pub below : (v : ℕ) → V' v ≡ true → v < g .size
-  pub total : TotalIn g V'
-  pub found : Separates g (opponent a) (without V' (attractor g a V' (withPriority g V' top))) k own S
-
-module _ {g : Game} {a : Player} {own k : ℕ} {V' S : Set} (pass : Pass g a own k V' S) where
-  abbrev A : Set
-  A = attractor g a V' (withPriority g V' (pass .top))
-
-  abbrev B : Set
-  B = attractor g (opponent a) V' S
-
-  fitsA : Fits g V' (withPriority g V' (pass .top))
-  fitsA = record { part = λ v p. and-left (V' v) _ p; below = pass .below }
-
-  -- what was found lies in V
-  pub found-inside : Subset S V'
-  found-inside v p = without-left V' A v (pass .found .inside v p)
-
-  fitsB : Fits g V' S
-  fitsB = record { part = found-inside; below = pass .below }
-
-  isB : IsAttractor g (opponent a) V' S B
-  isB = attractor-is g (opponent a) V' S fitsB
-
-  -- a small dominion of a's is missed by what was found
-  found-misses : (D : Set) → Small g a V' own D → (v : ℕ) → D v ≡ true → S v ≡ false
-  found-misses D small v p =
-      not-true-is-false (S v)
-      (λ q.
-      clash q
-      (pass .found .drops (without D A)
-      (subst (λ (c : Player). Small g c (without V' A) own (without D A)) (sym (opponent-twice a)) rest)
-      v
-      (without-intro D A v p (without-right V' A v (pass .found .inside v q)))))
-    where
-      rest : Small g a (without V' A) own (without D A)
-      rest =
-          record {
-            choice = small .choice;
-            dominion =
-                dominion-without A
-                (λ u r out m.
-                own-stays-out (attractor-is g a V' (withPriority g V' (pass .top)) fitsA .closed) u (small .choice u)
-                (small .dominion .within u r) out m (small .dominion .edge u r m))
-                (small .dominion);
-            few = le-trans (fewer g (without-left D A)) (small .few);
-          }
-
-  -- so by what is drawn to it
-  drawn-misses : (D : Set) → Small g a V' own D → (v : ℕ) → B v ≡ true → D v ≡ false
-  drawn-misses D small =
-      let dom = small .dominion in
-      trap-missed D isB fitsB (dom .within)
-      (λ v s. not-true-is-false (D v) (λ p. clash s (found-misses D small v p)))
-      (λ v w p o e q. dom .other v w p (λ m. theirs v o m) e q)
-      (λ v p o. let m = mine-else v o in (small .choice v, dom .edge v p m, dom .own v p m))
-    where
-      theirs : (v : ℕ) → g .owner v ≡ opponent a → g .owner v ≡ a → ⊥
-      theirs v o m = opponent-differs a (sym m ∙ o)
-
-      mine-else : (v : ℕ) → (g .owner v ≡ opponent a → ⊥) → g .owner v ≡ a
-      mine-else v o = other-player (opponent a) (g .owner v) o ∙ opponent-twice a
-
-  -- **A pass narrows V.**
-  pub pass-narrows : Narrowed g a own V' (without V' B)
-  pass-narrows =
-      record {
-        inside = without-left V' B;
-        keeps =
-            λ D small v p.
-            without-intro V' B v (small .dominion .within v p) (not-true-is-false (B v) (λ q. clash p (drawn-misses D small v q)));
-        rests =
-            λ D σ dom.
-            dominion-cong (without V' B) (both D (without V' B)) σ (λ v. refl)
-            (λ v.
-            bool-ext (without D B v) (both D (without V' B) v)
-            (λ p.
-            let q = without-left D B v p in
-            and-intro q (without-intro V' B v (dom .within v q) (without-right D B v p)))
-            (λ p.
-            without-intro D B v (and-left (D v) _ p) (without-right V' B v (and-right (D v) (without V' B v) p))))
-            (λ v p o. refl)
-            (dominion-without B
-            (λ v p out m. own-stays-out (isB .closed) v (σ v) (dom .within v p) out m (dom .edge v p m))
-            dom);
-        total = rest-total (isB .closed) (pass .total);
-      }
-
-  -- a core of at most k vertices is found
-  core-found :
-      (D : Set) (small : Small g (opponent a) V' k D) →
-      (c : Core g a V' D (small .choice) (pass .top)) →
-      Subset (c .set) S
-  core-found D small c =
-      pass .found .keeps (c .set)
-      (record {
-        choice = small .choice;
-        dominion = c .rest;
-        few = le-trans (fewer g (c .part)) (small .few);
-      })
-
-  core-in :
-      (D : Set) (small : Small g (opponent a) V' k D) (v : ℕ) → D v ≡ true → Core g a V' D (small .choice) (pass .top)
-  core-in D small v p = core-of (pass .below) (pass .total) (pass .most) (pass .mine) (small .dominion) v p
-
-  -- **A pass that finds nothing shows that nothing small is there.**
-  pub pass-barren : ((v : ℕ) → S v ≡ false) → Barren g a V' k
-  pass-barren nothing D small v =
-      not-true-is-false (D v)
-      (λ p. let c = core-in D small v p in clash (core-found D small c (c .vertex) (c .member)) (nothing (c .vertex)))
-
-  -- **Where nothing of half the size is there, a pass at full precision leaves at most half.**
-  pub pass-halves : (half : ℕ) → k ≤ half + half + 1 → Barren g a V' half → Halved g a k half V' (without V' B)
-  pass-halves half most barren D small =
-      ⊎-elim
-      (λ more. absurd (too-many more))
-      (λ less. less)
-      (lt-or-ge half (count (g .size) (both D (without V' B))))
-    where
-      left : Set
-      left = both D (without V' B)
-
-      too-many : half < count (g .size) (both D (without V' B)) → ⊥
-      too-many more =
-          let (v, l, p) = count-some (g .size) (both D (without V' B)) (omega arith) in
-          let c = core-in D small v (and-left (D v) _ p) in
-          let large : half < count (g .size) (c .set) =
-          ⊎-elim (λ h. h)
-          (λ h.
-          absurd
-          (clash (c .member)
-          (barren (c .set) (record { choice = small .choice; dominion = c .held; few = h }) (c .vertex))))
-          (lt-or-ge half (count (g .size) (c .set))) in
-          let parts =
-          count-parts (g .size) (both D (without V' B)) (c .set) D
-          (λ u q. and-left (D u) _ q)
-          (c .part)
-          (λ u q.
-          not-true-is-false (c .set u)
-          (λ r.
-          clash
-          (isB .closed .target u (core-found D small c u r))
-          (without-right V' B u (and-right (D u) (without V' B u) q)))) in
-          let few = small .few in
-          omega arith
-
--- where nothing of the opponent's small dominions is left, V parts them
-separates-narrowed :
-    {g : Game} {a : Player} {own other : ℕ} {V₀ V' : Set} →
-    Narrowed g a own V₀ V' →
-    ((D : Set) → Small g (opponent a) V₀ other D → (v : ℕ) → both D V' v ≡ false) →
-    Separates g a V₀ own other V'
-separates-narrowed {V' = V'} m gone =
+-- a sharp narrowing is one at the precision asked for
+narrowed-asked :
+    {g : Game} {a : Player} {own : ℕ} {V₀ V' : Set} (e : Bool) →
+    Narrowed g a (raised (g .size) e own) V₀ V' →
+    Narrowed g a own V₀ V'
+narrowed-asked {g} {own = own} e m =
     record {
       inside = m .inside;
-      keeps = m .keeps;
-      drops = λ D small v p. not-true-is-false (V' v) (λ q. clash (and-intro p q) (gone D small v));
+      keeps =
+          λ D small.
+          m .keeps D
+          (record {
+            choice = small .choice;
+            dominion = small .dominion;
+            few = raised-enough (g .size) e own (count (g .size) D) (count-le (g .size) D) (small .few);
+          });
+      rests = m .rests;
+      total = m .total;
     }
 
--- what is left of a dominion of the opponent's
-left-small :
-    {g : Game} {a : Player} {own other : ℕ} {V₀ V' : Set} →
-    Narrowed g a own V₀ V' →
-    (D : Set) →
-    Small g (opponent a) V₀ other D →
-    (k : ℕ) →
-    count (g .size) (both D V') ≤ k →
-    Small g (opponent a) V' k (both D V')
-left-small m D small k few =
-    record { choice = small .choice; dominion = m .rests D (small .choice) (small .dominion); few = few }
-
--- the three ends of the passes: nothing of full size is left,
-pub ends-full :
-    {g : Game} {a : Player} {own full : ℕ} {V₀ V' : Set} →
-    Narrowed g a own V₀ V' → Barren g a V' full → Separates g a V₀ own full V'
-ends-full {g} {V' = V'} m barren =
-    separates-narrowed m
-    (λ D small v.
-    barren (both D V')
-    (left-small m D small _ (le-trans (fewer g (λ u p. and-left (D u) (V' u) p)) (small .few)))
-    v)
-
--- at most half is left and nothing of half the size,
-pub ends-half :
-    {g : Game} {a : Player} {own full half : ℕ} {V₀ V' : Set} →
-    Narrowed g a own V₀ V' → Halved g a full half V₀ V' → Barren g a V' half → Separates g a V₀ own full V'
-ends-half {V' = V'} m halved barren =
-    separates-narrowed m (λ D small v. barren (both D V') (left-small m D small _ (halved D small)) v)
-
--- or nothing of half the size, where there are no more vertices than that
-pub ends-few :
-    {g : Game} {a : Player} {own full half : ℕ} {V₀ V' : Set} →
-    Narrowed g a own V₀ V' → count (g .size) V' ≤ half → Barren g a V' half → Separates g a V₀ own full V'
-ends-few {g} {V' = V'} m few barren =
-    separates-narrowed m
-    (λ D small v.
-    barren (both D V') (left-small m D small _ (le-trans (fewer g (λ u p. and-right (D u) (V' u) p)) few)) v)
-
--- nothing has no vertex
-pub barren-none : {g : Game} (a : Player) {V' : Set} → ((v : ℕ) → V' v ≡ true → v < g .size) → Barren g a V' 0
-barren-none a below D small = small-none below small
+-- two narrowings, each sharp or not
+narrowed-sharp :
+    {g : Game} {a : Player} (own : ℕ) {V₀ V₁ V₂ : Set} (e f : Bool) →
+    Narrowed g a (raised (g .size) e own) V₀ V₁ →
+    Narrowed g a (raised (g .size) f own) V₁ V₂ →
+    Narrowed g a (raised (g .size) (e && f) own) V₀ V₂
+unfolding raised
+narrowed-sharp own true true m n = narrowed-then m n
+narrowed-sharp own true false m n = narrowed-then (narrowed-asked true m) n
+narrowed-sharp own false true m n = narrowed-then m (narrowed-asked true n)
+narrowed-sharp own false false m n = narrowed-then m n
 
 -- the stages: 0 the first passes, 1 the pass at full precision, 2 the last passes, 3 the end. The precision of a stage's passes,
 unfoldable pub precisionAt : ℕ → ℕ → ℕ → ℕ
 precisionAt stage half full = cond (eqb stage 1) full half
 
--- the stage at which the passes begin: at half precision 0 there is nothing to find
+-- the stage at which the passes begin: at half precision 0 there is nothing to find,
 unfoldable pub firstStage : ℕ → ℕ
 firstStage half = cond (eqb half 0) 1 0
 
--- and the stage after a pass that found something or nothing, with so many vertices left
-unfoldable pub nextStage : ℕ → Bool → ℕ → ℕ → ℕ
-nextStage stage found left half =
+-- the stage after a pass that found something or nothing: where it found nothing and kept all of the opponent's, all is done
+unfoldable pub nextStage : ℕ → Bool → Bool → ℕ → ℕ
+nextStage stage found sharp half =
     cond found
     (cond (eqb stage 0) 0 (cond (eqb half 0) 3 2))
-    (cond (eqb stage 0) (cond (leb left half) 3 1) 3)
+    (cond sharp 3 (cond (eqb stage 0) 1 3))
 
--- how the passes over V stand at a stage
-pub record Standing (g : Game) (a : Player) (own full half : ℕ) (V₀ : Set) (stage : ℕ) (V' : Set) : Type 0 where
+-- how the passes over V stand at a stage: whether all of a's dominions were kept, and at the end whether all of the opponent's were
+-- dropped
+pub record Standing
+    (g : Game)
+    (a : Player)
+    (own full half : ℕ)
+    (V₀ : Set)
+    (stage : ℕ)
+    (keeps drops : Bool)
+    (V' : Set)
+    : Type 0 where
   pub known : stage ≤ 3
-  pub narrowed : Narrowed g a own V₀ V'
+  pub narrowed : Narrowed g a (raised (g .size) keeps own) V₀ V'
   pub barren : stage ≡ 1 → Barren g a V' half
   pub halved : stage ≡ 2 → Halved g a full half V₀ V'
-  pub ended : stage ≡ 3 → Separates g a V₀ own full V'
+  pub ended : stage ≡ 3 → Separates g a V₀ (raised (g .size) keeps own) (raised (g .size) drops full) V'
 
-module _ {g : Game} {a : Player} {own full half : ℕ} {V₀ V' : Set} (m : Narrowed g a own V₀ V') where
-  at-0 : Standing g a own full half V₀ 0 V'
-  at-0 =
-      record {
-        known = omega arith;
-        narrowed = m;
-        barren = λ e. absurd (omega arith);
-        halved = λ e. absurd (omega arith);
-        ended = λ e. absurd (omega arith);
-      }
+module _ {g : Game} {a : Player} {own full half : ℕ} {V₀ V' : Set} {keeps drops : Bool}
+    (m : Narrowed g a (raised (g .size) keeps own) V₀ V')
+  where
+    at-0 : Standing g a own full half V₀ 0 keeps drops V'
+    at-0 =
+        record {
+          known = omega arith;
+          narrowed = m;
+          barren = λ e. absurd (omega arith);
+          halved = λ e. absurd (omega arith);
+          ended = λ e. absurd (omega arith);
+        }
 
-  at-1 : Barren g a V' half → Standing g a own full half V₀ 1 V'
-  at-1 barren =
-      record {
-        known = omega arith;
-        narrowed = m;
-        barren = λ e. barren;
-        halved = λ e. absurd (omega arith);
-        ended = λ e. absurd (omega arith);
-      }
+    at-1 : Barren g a V' half → Standing g a own full half V₀ 1 keeps drops V'
+    at-1 barren =
+        record {
+          known = omega arith;
+          narrowed = m;
+          barren = λ e. barren;
+          halved = λ e. absurd (omega arith);
+          ended = λ e. absurd (omega arith);
+        }
 
-  at-2 : Halved g a full half V₀ V' → Standing g a own full half V₀ 2 V'
-  at-2 halved =
-      record {
-        known = omega arith;
-        narrowed = m;
-        barren = λ e. absurd (omega arith);
-        halved = λ e. halved;
-        ended = λ e. absurd (omega arith);
-      }
+    at-2 : Halved g a full half V₀ V' → Standing g a own full half V₀ 2 keeps drops V'
+    at-2 halved =
+        record {
+          known = omega arith;
+          narrowed = m;
+          barren = λ e. absurd (omega arith);
+          halved = λ e. halved;
+          ended = λ e. absurd (omega arith);
+        }
 
-  at-3 : Separates g a V₀ own full V' → Standing g a own full half V₀ 3 V'
-  at-3 ended =
-      record {
-        known = omega arith;
-        narrowed = m;
-        barren = λ e. absurd (omega arith);
-        halved = λ e. absurd (omega arith);
-        ended = λ e. ended;
-      }
+    at-3 :
+        Separates g a V₀ (raised (g .size) keeps own) (raised (g .size) drops full) V' →
+        Standing g a own full half V₀ 3 keeps drops V'
+    at-3 ended =
+        record {
+          known = omega arith;
+          narrowed = m;
+          barren = λ e. absurd (omega arith);
+          halved = λ e. absurd (omega arith);
+          ended = λ e. ended;
+        }
 
-  -- at most half is left: the last passes begin, or at half precision 0 all is done
-  halved-on :
-      ((v : ℕ) → V' v ≡ true → v < g .size) →
-      Halved g a full half V₀ V' →
-      Standing g a own full half V₀ (cond (eqb half 0) 3 2) V'
-  halved-on below halved =
-      ⊎-elim
-      (λ (e : eqb half 0 ≡ true).
-      let z : half ≡ 0 = eqb-true half 0 e in
-      rw e (at-3 (ends-half m halved (subst (λ (k : ℕ). Barren g a V' k) (sym z) (barren-none a below)))))
-      (λ (e : eqb half 0 ≡ false). rw e (at-2 halved))
-      (bool-cases (eqb half 0))
-
-  -- nothing of half the size: the pass at full precision follows, or with no more vertices than that all is done
-  barren-on :
-      Barren g a V' half → Standing g a own full half V₀ (cond (leb (count (g .size) V') half) 3 1) V'
-  barren-on barren =
-      ⊎-elim
-      (λ (e : leb (count (g .size) V') half ≡ true). rw e (at-3 (ends-few m (leb-true (count (g .size) V') half e) barren)))
-      (λ (e : leb (count (g .size) V') half ≡ false). rw e (at-1 barren))
-      (bool-cases (leb (count (g .size) V') half))
+-- at most half is left: the last passes begin, or at half precision 0 all is done
+halved-on :
+    {g : Game} {a : Player} {own full half : ℕ} {V₀ V' : Set} {keeps : Bool} →
+    Narrowed g a (raised (g .size) keeps own) V₀ V' →
+    ((v : ℕ) → V' v ≡ true → v < g .size) →
+    Halved g a full half V₀ V' →
+    Standing g a own full half V₀ (cond (eqb half 0) 3 2) keeps false V'
+unfolding raised
+halved-on {g} {a} {half = half} {V' = V'} m below halved =
+    ⊎-elim
+    (λ (e : eqb half 0 ≡ true).
+    let z : half ≡ 0 = eqb-true half 0 e in
+    rw e (at-3 m (ends-half m halved (subst (λ (k : ℕ). Barren g a V' k) (sym z) (barren-none a below)))))
+    (λ (e : eqb half 0 ≡ false). rw e (at-2 m halved))
+    (bool-cases (eqb half 0))
 
 -- what of a dominion is left in a part of V is no more
 halved-less :
@@ -417,7 +184,7 @@ pub stage-begins :
     {g : Game} {a : Player} {own full half : ℕ} {V' : Set} →
     ((v : ℕ) → V' v ≡ true → v < g .size) →
     TotalIn g V' →
-    Standing g a own full half V' (firstStage half) V'
+    Standing g a own full half V' (firstStage half) true false V'
 unfolding firstStage
 stage-begins {g} {a} {half = half} {V' = V'} below total =
     ⊎-elim
@@ -427,105 +194,88 @@ stage-begins {g} {a} {half = half} {V' = V'} below total =
     (λ (e : eqb half 0 ≡ false). rw e (at-0 (narrowed-not total)))
     (bool-cases (eqb half 0))
 
+-- a pass that is sharp or not at the opponent's precision is one at the precision asked for
+pass-asked :
+    {g : Game} {a : Player} {own k : ℕ} {V' S : Set} (f : Bool) →
+    Pass g a own (raised (g .size) f k) V' S →
+    Pass g a own k V' S
+pass-asked {g} {own = own} {k = k} f p =
+    record {
+      top = p .top;
+      mine = p .mine;
+      most = p .most;
+      below = p .below;
+      total = p .total;
+      found =
+          precision-cut
+          (λ i l h. raised-enough (g .size) f k i (le-trans l (count-le (g .size) _)) h)
+          (λ i l h. h)
+          (p .found);
+    }
+
 module _ {g : Game} {a : Player} {own full half : ℕ} {V₀ V' S : Set} (enough : full ≤ half + half + 1) where
   -- **A pass that found something leads on.**
   pub stage-found :
-      (stage : ℕ) →
+      (stage : ℕ) {keeps drops : Bool} (sharp kept : Bool) →
       stage < 3 →
-      Standing g a own full half V₀ stage V' →
-      Pass g a own (precisionAt stage half full) V' S →
-      (left : ℕ) →
-      Standing g a own full half V₀ (nextStage stage true left half) (without V' (attractor g (opponent a) V' S))
+      Standing g a own full half V₀ stage keeps drops V' →
+      Pass g a (raised (g .size) kept own) (raised (g .size) sharp (precisionAt stage half full)) V' S →
+      Standing g a own full half V₀ (nextStage stage true sharp half) (keeps && kept) false
+      (without V' (attractor g (opponent a) V' S))
   unfolding precisionAt nextStage
-  stage-found zero l st pass left = at-0 (narrowed-then (st .narrowed) (pass-narrows pass))
-  stage-found (suc zero) l st pass left =
+  stage-found zero {keeps} sharp kept l st pass = at-0 (narrowed-sharp own keeps kept (st .narrowed) (pass-narrows pass))
+  stage-found (suc zero) {keeps} sharp kept l st pass =
       let B = attractor g (opponent a) V' S in
-      let on = narrowed-then (st .narrowed) (pass-narrows pass) in
-      halved-on on
+      halved-on (narrowed-sharp own keeps kept (st .narrowed) (pass-narrows pass))
       (λ v p. pass .below v (without-left V' B v p))
       (λ D small.
-      let m = st .narrowed in
       le-trans
       (fewer g {S = both D (without V' B)} {T = both (both D V') (without V' B)}
       (λ v p.
       let q = and-right (D v) (without V' B v) p in
       and-intro (and-intro (and-left (D v) (without V' B v) p) (without-left V' B v q)) q))
-      (pass-halves pass half enough (st .barren refl) (both D V')
-      (left-small m D small full (le-trans (fewer g (λ u p. and-left (D u) (V' u) p)) (small .few)))))
-  stage-found (suc (suc zero)) l st pass left =
+      (pass-halves (pass-asked sharp pass) half enough (st .barren refl) (both D V')
+      (left-small (st .narrowed) D small full (le-trans (fewer g (λ u p. and-left (D u) (V' u) p)) (small .few)))))
+  stage-found (suc (suc zero)) {keeps} sharp kept l st pass =
       let B = attractor g (opponent a) V' S in
-      halved-on (narrowed-then (st .narrowed) (pass-narrows pass))
+      halved-on (narrowed-sharp own keeps kept (st .narrowed) (pass-narrows pass))
       (λ v p. pass .below v (without-left V' B v p))
       (halved-less a (without-left V' B) (st .halved refl))
-  stage-found (suc (suc (suc k))) l st pass left = absurd (omega arith)
+  stage-found (suc (suc (suc k))) sharp kept l st pass = absurd (omega arith)
 
-  -- **A pass that found nothing leads on.**
+  -- **A pass that found nothing leads on**, and where it kept all of the opponent's dominions, nothing of them is there.
   pub stage-nothing :
-      (stage : ℕ) →
+      (stage : ℕ) {keeps drops : Bool} (sharp kept : Bool) →
       stage < 3 →
-      Standing g a own full half V₀ stage V' →
-      Pass g a own (precisionAt stage half full) V' S →
+      Standing g a own full half V₀ stage keeps drops V' →
+      Pass g a (raised (g .size) kept own) (raised (g .size) sharp (precisionAt stage half full)) V' S →
       ((v : ℕ) → S v ≡ false) →
-      Standing g a own full half V₀ (nextStage stage false (count (g .size) V') half) V'
-  unfolding precisionAt nextStage
-  stage-nothing zero l st pass nothing = barren-on (st .narrowed) (pass-barren pass nothing)
-  stage-nothing (suc zero) l st pass nothing =
+      Standing g a own full half V₀ (nextStage stage false sharp half) keeps sharp V'
+  unfolding precisionAt nextStage raised
+  stage-nothing stage true kept l st pass nothing = at-3 (st .narrowed) (ends-full (st .narrowed) (pass-barren pass nothing))
+  stage-nothing zero false kept l st pass nothing = at-1 (st .narrowed) (pass-barren pass nothing)
+  stage-nothing (suc zero) false kept l st pass nothing =
       at-3 (st .narrowed) (ends-full (st .narrowed) (pass-barren pass nothing))
-  stage-nothing (suc (suc zero)) l st pass nothing =
+  stage-nothing (suc (suc zero)) false kept l st pass nothing =
       at-3 (st .narrowed) (ends-half (st .narrowed) (st .halved refl) (pass-barren pass nothing))
-  stage-nothing (suc (suc (suc k))) l st pass nothing = absurd (omega arith)
+  stage-nothing (suc (suc (suc k))) false kept l st pass nothing = absurd (omega arith)
 
--- a stage only comes after those before it, and stays only where something was found
-pub stage-rises : (stage : ℕ) (found : Bool) (left half : ℕ) → stage < 3 → stage ≤ nextStage stage found left half
+positive : (k : ℕ) → eqb (suc k) 0 ≡ false
+positive k = ne-eqb (suc k) 0 (λ e. omega arith)
+
+-- after a pass that found something the stage is no lower, and after one that found nothing it is higher
+pub stage-found-rises : (stage : ℕ) (sharp : Bool) (half : ℕ) → stage < 3 → stage ≤ nextStage stage true sharp half
 unfolding nextStage
-stage-rises stage found left half l = ⊎-elim zero-stage later (bool-cases (eqb stage 0))
-  where
-    zero-stage : eqb stage 0 ≡ true → stage ≤ nextStage stage found left half
-    zero-stage e = let z : stage ≡ 0 = eqb-true stage 0 e in omega arith
-
-    later : eqb stage 0 ≡ false → stage ≤ nextStage stage found left half
-    later e = rw (nextStage, e) (by-found found (bool-cases (eqb half 0)))
-      where
-        by-found : (f : Bool) → (eqb half 0 ≡ true) ⊎ (eqb half 0 ≡ false) → stage ≤ cond f (cond (eqb half 0) 3 2) 3
-        by-found true (inl z) = rw z (omega arith)
-        by-found true (inr z) = rw z (omega arith)
-        by-found false z = omega arith
-
-pub stage-nothing-rises : (stage left half : ℕ) → stage < 3 → stage < nextStage stage false left half
-unfolding nextStage
-stage-nothing-rises stage left half l = ⊎-elim zero-stage later (bool-cases (eqb stage 0))
-  where
-    zero-stage : eqb stage 0 ≡ true → stage < nextStage stage false left half
-    zero-stage e =
-        let z : stage ≡ 0 = eqb-true stage 0 e in
-        rw (nextStage, e)
-        (⊎-elim
-        (λ (q : leb left half ≡ true). rw q (omega arith))
-        (λ (q : leb left half ≡ false). rw q (omega arith))
-        (bool-cases (leb left half)))
-
-    later : eqb stage 0 ≡ false → stage < nextStage stage false left half
-    later e = rw (nextStage, e) (omega arith)
-
-pub stage-known : (stage : ℕ) (found : Bool) (left half : ℕ) → nextStage stage found left half ≤ 3
-unfolding nextStage
-stage-known stage true left half =
-    ⊎-elim
-    (λ (e : eqb stage 0 ≡ true). rw (nextStage, e) (omega arith))
-    (λ (e : eqb stage 0 ≡ false).
-    rw (nextStage, e)
+stage-found-rises zero sharp half l = omega arith
+stage-found-rises (suc k) sharp half l =
+    rw (positive k)
     (⊎-elim
     (λ (z : eqb half 0 ≡ true). rw z (omega arith))
     (λ (z : eqb half 0 ≡ false). rw z (omega arith))
-    (bool-cases (eqb half 0))))
-    (bool-cases (eqb stage 0))
-stage-known stage false left half =
-    ⊎-elim
-    (λ (e : eqb stage 0 ≡ true).
-    rw (nextStage, e)
-    (⊎-elim
-    (λ (q : leb left half ≡ true). rw q (omega arith))
-    (λ (q : leb left half ≡ false). rw q (omega arith))
-    (bool-cases (leb left half))))
-    (λ (e : eqb stage 0 ≡ false). rw (nextStage, e) (omega arith))
-    (bool-cases (eqb stage 0))
+    (bool-cases (eqb half 0)))
+
+pub stage-nothing-rises : (stage : ℕ) (sharp : Bool) (half : ℕ) → stage < 3 → stage < nextStage stage false sharp half
+unfolding nextStage
+stage-nothing-rises stage true half l = l
+stage-nothing-rises zero false half l = omega arith
+stage-nothing-rises (suc k) false half l = rw (positive k) l
