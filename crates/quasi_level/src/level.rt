@@ -1,0 +1,86 @@
+// The pieces of a pass, over the sets of its level: V at `base`, then what is drawn. The next level begins eight sets
+// on, and the solver below leaves what it found in the place of its V. `s` is the words of a set.
+use crate::passes::Passes;
+use crate::passes::Sharp;
+ghost use mathlib.Core.List.{List};
+ghost use Prim.Native.Nat.{ℕ};
+ghost use Rattle.rules.specs.Game.{playerOf};
+ghost use Rattle.rules.specs.Tables.{Accepted, tablesOf};
+ghost use Rattle.quasi_level.specs.Level.{Ready, TopCut, Droppable, Dropped, Settled};
+
+// U: the vertices of V with priority p; A: the attractor of U for p's player. V without A goes to the next level.
+pub fn attract_top(
+    owners: &[u8],
+    priorities: &[u16],
+    offsets: &[u16],
+    targets: &[u16],
+    p: usize,
+    s: usize,
+    work: &mut [u64],
+    base: usize,
+)
+    requires { ⌜ Ready (tablesOf (now owners) (now priorities) (now offsets) (now targets)) s base (now work) ⌝ }
+    ensures { λ r.
+        ⌜ TopCut (tablesOf (now (owners .entry)) (now (priorities .entry)) (now (offsets .entry))
+        (now (targets .entry))) p base (now (work .entry)) (now (work .exit)) ⌝ }
+{
+    let drawn = base + s;
+    let up = base + 8 * s;
+    sets::clear(work, drawn, s);
+    zielonka_level::collect(priorities, p, s, work, base, drawn);
+    attractor::attract(owners, offsets, targets, (p % 2) as u8, work, base, drawn);
+    sets::copy_with(work, up, base, s);
+    sets::difference_with(work, up, drawn, s);
+}
+
+// V loses the attractor of what was found at the next level, for the player who holds it.
+fn drop_found(
+    owners: &[u8],
+    offsets: &[u16],
+    targets: &[u16],
+    alpha: u8,
+    s: usize,
+    work: &mut [u64],
+    base: usize,
+)
+    requires { ⌜ Droppable (now owners) (now offsets) (now targets) alpha s base (now work) ⌝ }
+    ensures { λ r.
+        ⌜ ((priorities : List ℕ) →
+        Accepted (tablesOf (now (owners .entry)) priorities (now (offsets .entry)) (now (targets .entry))) →
+        Dropped (tablesOf (now (owners .entry)) priorities (now (offsets .entry)) (now (targets .entry)))
+        (playerOf alpha) base (now (work .entry)) (now (work .exit))) ⌝ }
+{
+    let drawn = base + s;
+    let up = base + 8 * s;
+    sets::copy_with(work, drawn, up, s);
+    attractor::attract(owners, offsets, targets, alpha, work, base, drawn);
+    sets::difference_with(work, base, drawn, s);
+}
+
+// The end of a pass: V loses what was found, and where nothing was found nothing is copied.
+pub fn settle(
+    owners: &[u8],
+    offsets: &[u16],
+    targets: &[u16],
+    alpha: u8,
+    s: usize,
+    work: &mut [u64],
+    base: usize,
+    sub: Sharp,
+    passes: Passes,
+    half: usize,
+) -> Passes
+    requires { ⌜ Droppable (now owners) (now offsets) (now targets) alpha s base (now work) ⌝ }
+    ensures { λ r.
+        ⌜ ((priorities : List ℕ) →
+        Accepted (tablesOf (now (owners .entry)) priorities (now (offsets .entry)) (now (targets .entry))) →
+        Settled (tablesOf (now (owners .entry)) priorities (now (offsets .entry)) (now (targets .entry)))
+        (playerOf alpha) base (now (work .entry)) (now (work .exit)) sub passes half r) ⌝ }
+{
+    let up = base + 8 * s;
+    if sets::is_empty(&work[up..up + s]) {
+        return passes.after_nothing(sub, half);
+    }
+    drop_found(owners, offsets, targets, alpha, s, work, base);
+    passes.after_found(sub, half)
+}
