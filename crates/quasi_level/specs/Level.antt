@@ -28,6 +28,13 @@ onLevel t base work = setAt (vertices t) base work
 abbrev pub drawnAt : Tables → ℕ → List ℕ → Set
 drawnAt t base work = setAt (vertices t) (base + words (vertices t)) work
 
+-- a set of n vertices stands at a base
+pub record Held (n s base : ℕ) (work : List ℕ) : Type 0 where
+  pub few : n ≤ 4096
+  pub size : s ≡ words n
+  pub high : base + s ≤ length work
+  pub below : (v : ℕ) → setAt n base work v ≡ true → v < n
+
 -- accepted tables with their predecessor table, V below n, and room for the level and the next V
 pub record Ready (t : Tables) (s base : ℕ) (work : List ℕ) : Type 0 where
   pub accepted : Accepted t

@@ -1,8 +1,9 @@
 -- How the passes stand at first, after a pass that found something and after one that found nothing.
-use mathlib.Core.Bool.{Bool, true, false, _&&_}
+use mathlib.Core.Bool.{Bool, true, false, _&&_, _||_}
 use mathlib.Core.Path.{_≡_}
 use Prim.Native.Nat.{ℕ}
 use borrow.Author.Tests.{eq-eqb, ne-eqb}
+use lib.Dec.{eqb}
 use Rattle.separation.specs.Stages.{firstStage, precisionAt, nextStage}
 use Rattle.quasi_level.specs.declared.passes.Passes.{Passes}
 use Rattle.quasi_level.specs.declared.passes.Sharp.{Sharp}
@@ -21,6 +22,10 @@ pub record AfterNothing (passes : Passes) (sub : Sharp) (half : ℕ) (r : Passes
   pub stage : r .stage ≡ nextStage (passes .stage) false (sub .keeps) half
   pub keeps : r .keeps ≡ passes .keeps
   pub drops : r .drops ≡ sub .keeps
+
+pub record Ended (passes : Passes) (mine full size : ℕ) (r : Sharp) : Type 0 where
+  pub keeps : r .keeps ≡ (passes .keeps || eqb mine size)
+  pub drops : r .drops ≡ (passes .drops || eqb full size)
 
 -- the stages and precisions, by the tests of the code
 module _ (stage half : ℕ) (sharp : Bool) where

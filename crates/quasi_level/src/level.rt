@@ -3,10 +3,32 @@
 use crate::passes::Passes;
 use crate::passes::Sharp;
 ghost use mathlib.Core.List.{List};
+ghost use mathlib.Core.Path.{_≡_};
 ghost use Prim.Native.Nat.{ℕ};
+ghost use lib.ListN.{length};
+ghost use Rattle.rules.specs.Counting.{count};
+ghost use Rattle.area.specs.Area.{setAt};
+ghost use Rattle.zielonka_level.specs.Parts.{highestOf};
 ghost use Rattle.rules.specs.Game.{playerOf};
 ghost use Rattle.rules.specs.Tables.{Accepted, tablesOf};
-ghost use Rattle.quasi_level.specs.Level.{Ready, TopCut, Droppable, Dropped, Settled};
+ghost use Rattle.quasi_level.specs.Level.{Held, Ready, TopCut, Droppable, Dropped, Settled};
+
+// The number of vertices of V.
+pub fn size_at(n: usize, s: usize, work: &[u64], base: usize) -> usize
+    requires { ⌜ Held n s base (now work) ⌝ }
+    ensures { λ r. ⌜ r ≡ count n (setAt n base (now (work .entry))) ⌝ }
+{
+    sets::size(&work[base..base + s])
+}
+
+// The highest priority in V.
+pub fn highest_at(priorities: &[u16], s: usize, work: &[u64], base: usize) -> usize
+    requires { ⌜ Held (length (now priorities)) s base (now work) ⌝ }
+    ensures { λ r.
+        ⌜ r ≡ highestOf (now (priorities .entry)) (setAt (length (now (priorities .entry))) base (now (work .entry))) ⌝ }
+{
+    zielonka_level::get_highest_prio(priorities, &work[base..base + s]).0
+}
 
 // U: the vertices of V with priority p; A: the attractor of U for p's player. V without A goes to the next level.
 pub fn attract_top(

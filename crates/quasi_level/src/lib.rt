@@ -4,6 +4,8 @@ mod level;
 mod passes;
 
 pub use level::attract_top;
+pub use level::highest_at;
 pub use level::settle;
+pub use level::size_at;
 pub use passes::Passes;
 pub use passes::Sharp;

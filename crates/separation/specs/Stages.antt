@@ -1,10 +1,10 @@
 -- The passes of a solver for a, by stages: passes at half the precision until one finds nothing, one pass at full precision, and
 -- passes at half again until one finds nothing. A pass that was sharper than it was asked to be can end them at once.
-use mathlib.Core.Bool.{Bool, true, false, _&&_, not, cond}
+use mathlib.Core.Bool.{Bool, true, false, _&&_, _||_, cond}
 use mathlib.Core.Logic.{_⊎_, inl, inr, ⊎-elim}
 use mathlib.Core.Path.{_≡_, refl, sym, subst}
-use Prim.Native.Nat.{ℕ, zero, suc, _+_, _≤_, _<_}
-use native.Mathlib.Nat.{le-trans}
+use Prim.Native.Nat.{ℕ, zero, suc, _+_, _≤_, _<_, min}
+use native.Mathlib.Nat.{le-trans, le-min}
 use native.Mathlib.Omega.{arith}
 use borrow.Author.Tests.{eqb-true, ne-eqb}
 use lib.Dec.{eqb}
@@ -64,6 +64,25 @@ narrowed-asked {g} {own = own} e m =
       rests = m .rests;
       total = m .total;
     }
+
+-- a precision that was cut to the number of vertices of V is as good as the one asked for, and sharp where it was full
+pub cut-enough :
+    (n size : ℕ) (sharp : Bool) (k own i : ℕ) →
+    k ≡ min own size →
+    size ≤ n →
+    i ≤ size →
+    i ≤ raised n (sharp || eqb k size) own →
+    i ≤ raised n sharp k
+unfolding raised
+cut-enough n size true k own i cut few l h = le-trans l few
+cut-enough n size false k own i cut few l h =
+    ⊎-elim
+    (λ (e : eqb k size ≡ true). let full : k ≡ size = eqb-true k size e in omega arith)
+    (λ (e : eqb k size ≡ false).
+    let asked : i ≤ own = rw e at h in
+    let smaller = le-min asked l in
+    omega arith)
+    (bool-cases (eqb k size))
 
 -- two narrowings, each sharp or not
 narrowed-sharp :
