@@ -1,3 +1,6 @@
-// The quasi-polynomial recursion of Parys over one lent work area: a solver for Even and one for Odd that call each
-// other on smaller games, with a precision for each player's dominions. Its sets are the winning sets.
-mod recursion;
+// The second opinion: the quasi-polynomial recursion of Parys on all vertices, with both precisions the number of
+// vertices. Its sets are the winning sets of every accepted game.
+mod checks;
+mod door;
+
+pub use door::solve_quasi_polynomial;

@@ -11,7 +11,7 @@ ghost use mathlib.Core.Path.{_≡_};
 ghost use Prim.Native.Nat.{min};
 ghost use Rattle.rules.specs.Game.{Even, Odd};
 ghost use Rattle.rules.specs.Tables.{tablesOf};
-ghost use Rattle.quasi_polynomial.specs.Calling.{Called, Solved};
+ghost use Rattle.quasi_solvers.specs.Calling.{Called, Solved};
 
 fn least(a: usize, b: usize) -> usize
     ensures { λ r. ⌜ r ≡ min a b ⌝ }

@@ -10,20 +10,20 @@ use Rattle.rules.specs.Game.{Even, Odd, opponent, parity, playerOf}
 use Rattle.rules.specs.Tables.{Tables, gameOf, vertices, words, tablesOf}
 use Rattle.theory.specs.Run.{Top}
 use Rattle.quasi_level.specs.Level.{onLevel, Held}
-use Rattle.quasi_polynomial.specs.Calling.{Called}
-use Rattle.quasi_polynomial.specs.Passing.{Going, toGo, called-held, called-searched, called-empty, called-gives-up}
-use Rattle.quasi_polynomial.specs.Passing.{called-top, top-lower, called-high, parity-even, parity-odd}
-use Rattle.quasi_polynomial.specs.Passing.{turned-less, turned-called, turned-solved}
-use Rattle.quasi_polynomial.specs.Passing.{going-first, going-ready, going-called, going-droppable, going-on, going-less, going-ends}
+use Rattle.quasi_solvers.specs.Calling.{Called}
+use Rattle.quasi_solvers.specs.Passing.{Going, toGo, called-held, called-searched, called-empty, called-gives-up}
+use Rattle.quasi_solvers.specs.Passing.{called-top, top-lower, called-high, parity-even, parity-odd}
+use Rattle.quasi_solvers.specs.Passing.{turned-less, turned-called, turned-solved}
+use Rattle.quasi_solvers.specs.Passing.{going-first, going-ready, going-called, going-droppable, going-on, going-less, going-ends}
 use borrow.Author.Needs.{needs}
 use borrow.Fn.Kinds.{In, Out}
 use borrow.Fn.PlainCycle.{Measures, is, falls, and}
-use Rattle.quasi_polynomial.proofs.recursion.solve_even.Reads as solve-even
-use Rattle.quasi_polynomial.proofs.recursion.solve_even.Kinds as solve-even-kinds
-use Rattle.quasi_polynomial.proofs.recursion.+solve_even+solve_odd.Lts-solve_even as solve-even-lts
-use Rattle.quasi_polynomial.proofs.recursion.solve_odd.Reads as solve-odd
-use Rattle.quasi_polynomial.proofs.recursion.solve_odd.Kinds as solve-odd-kinds
-use Rattle.quasi_polynomial.proofs.recursion.+solve_even+solve_odd.Lts-solve_odd as solve-odd-lts
+use Rattle.quasi_solvers.proofs.recursion.solve_even.Reads as solve-even
+use Rattle.quasi_solvers.proofs.recursion.solve_even.Kinds as solve-even-kinds
+use Rattle.quasi_solvers.proofs.recursion.+solve_even+solve_odd.Lts-solve_even as solve-even-lts
+use Rattle.quasi_solvers.proofs.recursion.solve_odd.Reads as solve-odd
+use Rattle.quasi_solvers.proofs.recursion.solve_odd.Kinds as solve-odd-kinds
+use Rattle.quasi_solvers.proofs.recursion.+solve_even+solve_odd.Lts-solve_odd as solve-odd-lts
 use Rattle.parity_game.proofs.set_words.Reads as set-words-reads
 use Rattle.quasi_level.proofs.attract_top.Reads as attract-top-reads
 use Rattle.quasi_level.proofs.highest_at.Reads as highest-at-reads
@@ -32,12 +32,12 @@ use Rattle.quasi_level.proofs.size_at.Reads as size-at-reads
 use Rattle.quasi_level.proofs.passes.Passes.new.Reads as new-reads
 use Rattle.quasi_level.proofs.passes.Passes.precision.Reads as precision-reads
 use Rattle.quasi_level.proofs.passes.Passes.sharpness.Reads as sharpness-reads
-use Rattle.quasi_polynomial.proofs.recursion.least.Reads as least-reads
+use Rattle.quasi_solvers.proofs.recursion.least.Reads as least-reads
 use Rattle.sets.proofs.clear.Reads as clear-reads
 use Rattle.sets.proofs.copy_with.Reads as copy-with-reads
 use Rattle.sets.proofs.difference_with.Reads as difference-with-reads
-use Rattle.quasi_polynomial.proofs.recursion.+solve_even+solve_odd.{statement}
-use Rattle.quasi_polynomial.proofs.recursion.+solve_even+solve_odd.Tie.{close}
+use Rattle.quasi_solvers.proofs.recursion.+solve_even+solve_odd.{statement}
+use Rattle.quasi_solvers.proofs.recursion.+solve_even+solve_odd.Tie.{close}
 
 -- the height
 abbrev μ-even : Measures 5 solve-even-kinds.ps ℕ

@@ -35,7 +35,7 @@ use Rattle.quasi_level.specs.Pieces.{stays-on, stays-under, level-stays}
 use Rattle.quasi_level.specs.Standing.{Began, AfterFound, AfterNothing, Ended}
 use Rattle.quasi_level.specs.declared.passes.Passes.{Passes}
 use Rattle.quasi_level.specs.declared.passes.Sharp.{Sharp}
-use Rattle.quasi_polynomial.specs.Calling.{Called, Solved}
+use Rattle.quasi_solvers.specs.Calling.{Called, Solved}
 
 -- ---- numbers
 
