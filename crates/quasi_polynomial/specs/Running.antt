@@ -44,11 +44,11 @@ pub record Runnable (t : Tables) (even odd work : List ℕ) : Type 0 where
   pub room : length work ≡ opinionWords (vertices t) (edgesIn t)
 
 -- the two sets are the winning sets
-pub record Opinion (t : Tables) (even odd : List ℕ) : Type 0 where
+pub record Opinion (t : Tables) (evens odds : List ℕ) : Type 0 where
   pub won : Player → Set
   pub wins : WinningSets (gameOf t) won
-  pub even : Holds (vertices t) (won Even) even
-  pub odd : Holds (vertices t) (won Odd) odd
+  pub even : Holds (vertices t) (won Even) evens
+  pub odd : Holds (vertices t) (won Odd) odds
 
 -- where the set of all vertices stands
 abbrev pub allAt : Tables → ℕ

@@ -72,6 +72,14 @@ pub fn solve_quasi_polynomial(
         return r;
     }
     let w = opinion_words(owners.len(), targets.len());
-    run(owners, priorities, offsets, targets, even, odd, &mut work[0..w]);
+    run(
+        owners,
+        priorities,
+        offsets,
+        targets,
+        even,
+        odd,
+        &mut work[0..w],
+    );
     Answer::Answered(0)
 }
