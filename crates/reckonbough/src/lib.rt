@@ -4,6 +4,7 @@ mod answer;
 mod attraction;
 mod certificate;
 mod mending;
+mod opinion;
 mod promotion;
 mod reading;
 mod recursion;
