@@ -4,13 +4,15 @@ use mathlib.Core.Bool.{true, false}
 use mathlib.Core.List.{List}
 use mathlib.Core.Logic.{_⊎_}
 use mathlib.Core.Path.{_≡_}
-use Prim.Native.Nat.{ℕ, _+_, _*_, _≤_, _<_}
+use Prim.Native.Nat.{ℕ, _+_, _-_, _*_, _≤_, _<_}
+use lib.Dec.{eqb}
 use lib.ListN.{length, getD}
 use Rattle.rules.specs.Counting.{Set, without}
 use Rattle.rules.specs.Game.{Player, parity}
 use Rattle.rules.specs.Tables.{Tables, gameOf, vertices, edgesIn, words, Accepted, tablesOf}
 use Rattle.rules.specs.Attractor.{attractor}
 use Rattle.rules.specs.Zielonka.{withPriority}
+use Rattle.sets.specs.After.{Combined, Cleared}
 use Rattle.area.specs.Area.{free, setAt}
 use Rattle.attractor.specs.Attracted.{Listed}
 use Rattle.quasi_level.specs.declared.passes.Passes.{Passes}
@@ -101,3 +103,15 @@ abbrev pub Settled :
     Tables → Player → ℕ → List ℕ → List ℕ → Sharp → Passes → ℕ → Passes → Type 0
 Settled t c base before after sub passes half r =
     FoundSome t c base before after sub passes half r ⊎ FoundNothing t base before after sub passes half r
+
+-- V is cleared, and where it had no vertex nothing was lost
+pub record GaveUp (size s base : ℕ) (before after : List ℕ) (r : Sharp) : Type 0 where
+  pub cleared : Cleared base s before after
+  pub keeps : r .keeps ≡ eqb size 0
+  pub drops : r .drops ≡ true
+
+-- V has lost the set at the next level, and the two players are swapped
+pub record TurnedOver (s base : ℕ) (before after : List ℕ) (turned r : Sharp) : Type 0 where
+  pub reduced : Combined _-_ base (nextLevel s base) s before after
+  pub keeps : r .keeps ≡ turned .drops
+  pub drops : r .drops ≡ turned .keeps

@@ -4,14 +4,14 @@ use crate::passes::Passes;
 use crate::passes::Sharp;
 ghost use mathlib.Core.List.{List};
 ghost use mathlib.Core.Path.{_≡_};
-ghost use Prim.Native.Nat.{ℕ};
+ghost use Prim.Native.Nat.{ℕ, _+_, _*_, _≤_};
 ghost use lib.ListN.{length};
 ghost use Rattle.rules.specs.Counting.{count};
 ghost use Rattle.area.specs.Area.{setAt};
 ghost use Rattle.zielonka_level.specs.Parts.{highestOf};
 ghost use Rattle.rules.specs.Game.{playerOf};
 ghost use Rattle.rules.specs.Tables.{Accepted, tablesOf};
-ghost use Rattle.quasi_level.specs.Level.{Held, Ready, TopCut, Droppable, Dropped, Settled};
+ghost use Rattle.quasi_level.specs.Level.{Held, Ready, TopCut, Droppable, Dropped, Settled, GaveUp, TurnedOver};
 
 // The number of vertices of V.
 pub fn size_at(n: usize, s: usize, work: &[u64], base: usize) -> usize
@@ -105,4 +105,28 @@ pub fn settle(
     }
     drop_found(owners, offsets, targets, alpha, s, work, base);
     passes.after_found(sub, half)
+}
+
+// V becomes empty. An empty V had no dominion to lose.
+pub fn give_up(size: usize, s: usize, work: &mut [u64], base: usize) -> Sharp
+    requires { ⌜ base + s ≤ length (now work) ⌝ }
+    ensures { λ r. ⌜ GaveUp size s base (now (work .entry)) (now (work .exit)) r ⌝ }
+{
+    sets::clear(work, base, s);
+    Sharp {
+        keeps: size == 0,
+        drops: true,
+    }
+}
+
+// V loses what the other solver gave on all of it, and what that one kept is dropped.
+pub fn turn_over(s: usize, work: &mut [u64], base: usize, turned: Sharp) -> Sharp
+    requires { ⌜ base + 9 * s ≤ length (now work) ⌝ }
+    ensures { λ r. ⌜ TurnedOver s base (now (work .entry)) (now (work .exit)) turned r ⌝ }
+{
+    sets::difference_with(work, base, base + 8 * s, s);
+    Sharp {
+        keeps: turned.drops,
+        drops: turned.keeps,
+    }
 }

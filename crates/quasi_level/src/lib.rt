@@ -4,8 +4,10 @@ mod level;
 mod passes;
 
 pub use level::attract_top;
+pub use level::give_up;
 pub use level::highest_at;
 pub use level::settle;
 pub use level::size_at;
+pub use level::turn_over;
 pub use passes::Passes;
 pub use passes::Sharp;

@@ -7,7 +7,7 @@ use Prim.Native.Nat.{ℕ, zero, suc, _+_, _-_, _*_, _/_, _%_, _≤_, _<_, min}
 use native.Mathlib.Nat.{mul-le-mul-left, mul-add, mul-one, le-trans}
 use native.Mathlib.Numerals.{add-one}
 use native.Mathlib.Omega.{arith}
-use borrow.Author.Tests.{eq-eqb}
+use borrow.Author.Tests.{eq-eqb, eqb-true, eqb-false}
 use lib.Dec.{eqb}
 use lib.ListN.{length, getD}
 use Rattle.rules.specs.Counting.{Set, without, count, greatest}
@@ -16,7 +16,7 @@ use Rattle.rules.specs.Tables.{Tables, gameOf, vertices, edgesIn, words, tables
 use Rattle.rules.specs.Attractor.{attractor}
 use Rattle.rules.specs.Zielonka.{withPriority}
 use Rattle.sets.specs.After.{Combined, Cleared, other}
-use Rattle.theory.specs.Basics.{clash, not-true-is-false, and-left, and-intro, opponent-differs, opponent-twice, without-left, without-right}
+use Rattle.theory.specs.Basics.{bool-cases, clash, not-true-is-false, and-left, and-intro, opponent-differs, opponent-twice, without-left, without-right}
 use Rattle.theory.specs.Basics.{count-some, count-zero, count-mono, count-strict, count-le}
 use Rattle.theory.specs.Attractor.{Fits, attractor-is}
 use Rattle.theory.specs.AttractorComplement.{TotalIn, rest-total}
@@ -30,7 +30,7 @@ use Rattle.separation.specs.Passing.{Pass, found-inside}
 use Rattle.separation.specs.Stages.{raised, precisionAt, nextStage, Standing, stage-begins, stage-found, stage-nothing}
 use Rattle.separation.specs.Stages.{stage-found-rises, stage-nothing-rises, cut-enough}
 use Rattle.zielonka_level.specs.Parts.{highestOf}
-use Rattle.quasi_level.specs.Level.{nextLevel, onLevel, Held, Ready, Stays, TopCut, Droppable, Dropped, FoundSome, FoundNothing, Settled}
+use Rattle.quasi_level.specs.Level.{nextLevel, onLevel, Held, Ready, Stays, TopCut, Droppable, Dropped, FoundSome, FoundNothing, Settled, GaveUp, TurnedOver}
 use Rattle.quasi_level.specs.Pieces.{stays-on, stays-under, level-stays}
 use Rattle.quasi_level.specs.Standing.{Began, AfterFound, AfterNothing, Ended}
 use Rattle.quasi_level.specs.declared.passes.Passes.{Passes}
@@ -116,52 +116,60 @@ module _ {t : Tables} {a : Player} {base height : ℕ} {w₀ : List ℕ} (called
     pub called-searched : Held (length (t .priorities)) s base w₀
     called-searched = rw (accepted-sound t (called .accepted) .priority-each) called-held
 
-    -- V is empty
-    pub called-empty :
-        {size′ own other : ℕ} →
-        size′ ≡ count (vertices t) (onLevel t base w₀) →
-        size′ ≡ 0 →
-        Solved t a base own other w₀ w₀ (record { keeps = true; drops = true })
-    called-empty counted none =
-        record { stays = stays-same; parts = gives-up-empty empty empty }
-      where
-        empty : (v : ℕ) → onLevel t base w₀ v ≡ false
-        empty v =
-            not-true-is-false (onLevel t base w₀ v)
-            (λ p. clash p (count-zero (vertices t) (onLevel t base w₀) (sym counted ∙ none) v (called .below v p)))
-
-    -- the precision is 0
+    -- V is empty, or the precision is 0
     pub called-gives-up :
-        {own other : ℕ} {w₁ : List ℕ} →
-        own ≡ 0 →
-        Cleared base s w₀ w₁ →
-        Solved t a base own other w₀ w₁ (record { keeps = false; drops = true })
+        {size′ mine own other : ℕ} {w₁ : List ℕ} {r : Sharp} →
+        size′ ≡ count (vertices t) (onLevel t base w₀) →
+        mine ≡ min own size′ →
+        mine ≡ 0 →
+        GaveUp size′ s base w₀ w₁ r →
+        Solved t a base own other w₀ w₁ r
     unfolding raised gameOf
-    called-gives-up {own} {other} {w₁} none cleared =
+    called-gives-up {size′} {mine} {own} {other} {w₁} {r} counted cut none gave =
         record {
           stays =
               record {
-                long = cleared .long;
-                table = λ i l. cleared .rest i (inl (omega (arith, called .low)));
-                lower = λ i f l. cleared .rest i (inl l);
+                long = gave .cleared .long;
+                table = λ i l. gave .cleared .rest i (inl (omega (arith, called .low)));
+                lower = λ i f l. gave .cleared .rest i (inl l);
               };
-          parts =
-              subst
-              (λ (k : ℕ). Separates (gameOf t) a (onLevel t base w₀) k (vertices t) (onLevel t base w₁))
-              (sym none)
-              (gives-up (called .below)
-              (set-cleared (vertices t) base s base cleared (omega arith) (omega (arith, size))));
+          parts = rw (gave .keeps, gave .drops) (⊎-elim empty zero-precision (bool-cases (eqb size′ 0)));
         }
+      where
+        nothing : (v : ℕ) → onLevel t base w₁ v ≡ false
+        nothing = set-cleared (vertices t) base s base (gave .cleared) (omega arith) (omega (arith, size))
+
+        parted : Bool → Type 0
+        parted b =
+            Separates (gameOf t) a (onLevel t base w₀) (raised (vertices t) b own) (raised (vertices t) true other)
+            (onLevel t base w₁)
+
+        empty : eqb size′ 0 ≡ true → parted (eqb size′ 0)
+        empty e =
+            gives-up-empty
+            (λ v.
+            not-true-is-false (onLevel t base w₀ v)
+            (λ p.
+            clash p
+            (count-zero (vertices t) (onLevel t base w₀) (sym counted ∙ eqb-true size′ 0 e) v (called .below v p))))
+            nothing
+
+        zero-precision : eqb size′ 0 ≡ false → parted (eqb size′ 0)
+        zero-precision e =
+            let some : size′ ≡ 0 → ⊥ = eqb-false size′ 0 e in
+            let z : own ≡ 0 = omega (arith, some) in
+            rw (e, z) (gives-up (called .below) nothing)
 
     -- where V has a vertex, what `highest_at` gives is the highest priority in V
     pub called-top :
-        {size′ p : ℕ} →
+        {size′ mine p : ℕ} (own : ℕ) →
         size′ ≡ count (vertices t) (onLevel t base w₀) →
-        (size′ ≡ 0 → ⊥) →
+        mine ≡ min own size′ →
+        (mine ≡ 0 → ⊥) →
         p ≡ highestOf (t .priorities) (setAt (length (t .priorities)) base w₀) →
         Top (gameOf t) (onLevel t base w₀) (parity p) p
     unfolding gameOf
-    called-top {size′} {p} counted some told =
+    called-top {size′} {mine} {p} own counted cut some told =
         let (v, l, q) = count-some (vertices t) (onLevel t base w₀) (omega (arith, some)) in
         subst (λ (k : ℕ). Top (gameOf t) (onLevel t base w₀) (parity k) k)
         (sym
@@ -224,25 +232,26 @@ module _ {t : Tables} {a : Player} {base height : ℕ} {w₀ : List ℕ} (called
             }
 
         pub turned-solved :
-            {own other : ℕ} {w₂ w₃ : List ℕ} {r : Sharp} →
-            Solved t (opponent a) (base + 8 * s) other own w₁ w₂ r →
-            Combined _-_ base (base + 8 * s) s w₂ w₃ →
-            Solved t a base own other w₀ w₃ (record { keeps = r .drops; drops = r .keeps })
-        turned-solved {own} {other} {w₂} {w₃} {r} solved reduced =
+            {own other : ℕ} {w₂ w₃ : List ℕ} {turned r : Sharp} →
+            Solved t (opponent a) (base + 8 * s) other own w₁ w₂ turned →
+            TurnedOver s base w₂ w₃ turned r →
+            Solved t a base own other w₀ w₃ r
+        turned-solved {own} {other} {w₂} {w₃} {turned} {r} solved over =
             record {
               stays =
                   stays-on (stays-on (stays-under (omega arith) above) (stays-under (omega arith) (solved .stays)))
                   (record {
-                    long = reduced .long;
-                    table = λ i l. reduced .rest i (inl (omega (arith, called .low)));
-                    lower = λ i f l. reduced .rest i (inl l);
+                    long = over .reduced .long;
+                    table = λ i l. over .reduced .rest i (inl (omega (arith, called .low)));
+                    lower = λ i f l. over .reduced .rest i (inl l);
                   });
               parts =
-                  separates-over (λ v. refl) (λ v. sym (left v)) (passed-over (separates-over same-set (λ v. refl) (solved .parts)));
+                  rw (over .keeps, over .drops)
+                  (separates-over (λ v. refl) (λ v. sym (left v)) (passed-over (separates-over same-set (λ v. refl) (solved .parts))));
             }
           where
             reduced′ : Combined _-_ base (base + 8 * words (vertices t)) (words (vertices t)) w₂ w₃
-            reduced′ = rw size at reduced
+            reduced′ = rw size at (over .reduced)
 
             left : (v : ℕ) → onLevel t base w₃ v ≡ without (onLevel t base w₀) (onLevel t (base + 8 * s) w₂) v
             left v =

@@ -4,9 +4,11 @@
 use quasi_level::Passes;
 use quasi_level::Sharp;
 use quasi_level::attract_top;
+use quasi_level::give_up;
 use quasi_level::highest_at;
 use quasi_level::settle;
 use quasi_level::size_at;
+use quasi_level::turn_over;
 ghost use mathlib.Core.Path.{_≡_};
 ghost use Prim.Native.Nat.{min};
 ghost use Rattle.rules.specs.Game.{Even, Odd};
@@ -38,18 +40,9 @@ pub fn solve_even(
 {
     let s = parity_game::set_words(owners.len());
     let size = size_at(owners.len(), s, work, base);
-    if size == 0 {
-        return Sharp {
-            keeps: true,
-            drops: true,
-        };
-    }
-    if own == 0 {
-        sets::clear(work, base, s);
-        return Sharp {
-            keeps: false,
-            drops: true,
-        };
+    let mine = least(own, size);
+    if mine == 0 {
+        return give_up(size, s, work, base);
     }
     let p = highest_at(priorities, s, work, base);
     let up = base + 8 * s;
@@ -66,32 +59,16 @@ pub fn solve_even(
             other,
             own,
         );
-        sets::difference_with(work, base, up, s);
-        return Sharp {
-            keeps: turned.drops,
-            drops: turned.keeps,
-        };
+        return turn_over(s, work, base, turned);
     }
-    let mine = least(own, size);
     let full = least(other, size);
     let half = full / 2;
     let mut passes = Passes::new(half);
     while passes.stage < 3 {
         let k = passes.precision(half, full);
         attract_top(owners, priorities, offsets, targets, p, s, work, base);
-        let sub = solve_odd(owners, priorities, offsets, targets, work, up, p, k, mine);
-        passes = settle(
-            owners,
-            offsets,
-            targets,
-            1,
-            s,
-            work,
-            base,
-            sub,
-            passes,
-            half,
-        );
+        let r = solve_odd(owners, priorities, offsets, targets, work, up, p, k, mine);
+        passes = settle(owners, offsets, targets, 1, s, work, base, r, passes, half);
     }
     passes.sharpness(mine, full, size)
 }
@@ -115,18 +92,9 @@ pub fn solve_odd(
 {
     let s = parity_game::set_words(owners.len());
     let size = size_at(owners.len(), s, work, base);
-    if size == 0 {
-        return Sharp {
-            keeps: true,
-            drops: true,
-        };
-    }
-    if own == 0 {
-        sets::clear(work, base, s);
-        return Sharp {
-            keeps: false,
-            drops: true,
-        };
+    let mine = least(own, size);
+    if mine == 0 {
+        return give_up(size, s, work, base);
     }
     let p = highest_at(priorities, s, work, base);
     let up = base + 8 * s;
@@ -143,32 +111,16 @@ pub fn solve_odd(
             other,
             own,
         );
-        sets::difference_with(work, base, up, s);
-        return Sharp {
-            keeps: turned.drops,
-            drops: turned.keeps,
-        };
+        return turn_over(s, work, base, turned);
     }
-    let mine = least(own, size);
     let full = least(other, size);
     let half = full / 2;
     let mut passes = Passes::new(half);
     while passes.stage < 3 {
         let k = passes.precision(half, full);
         attract_top(owners, priorities, offsets, targets, p, s, work, base);
-        let sub = solve_even(owners, priorities, offsets, targets, work, up, p, k, mine);
-        passes = settle(
-            owners,
-            offsets,
-            targets,
-            0,
-            s,
-            work,
-            base,
-            sub,
-            passes,
-            half,
-        );
+        let r = solve_even(owners, priorities, offsets, targets, work, up, p, k, mine);
+        passes = settle(owners, offsets, targets, 0, s, work, base, r, passes, half);
     }
     passes.sharpness(mine, full, size)
 }

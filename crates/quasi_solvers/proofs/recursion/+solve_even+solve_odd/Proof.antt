@@ -11,7 +11,7 @@ use Rattle.rules.specs.Tables.{Tables, gameOf, vertices, words, tablesOf}
 use Rattle.theory.specs.Run.{Top}
 use Rattle.quasi_level.specs.Level.{onLevel, Held}
 use Rattle.quasi_solvers.specs.Calling.{Called}
-use Rattle.quasi_solvers.specs.Passing.{Going, toGo, called-held, called-searched, called-empty, called-gives-up}
+use Rattle.quasi_solvers.specs.Passing.{Going, toGo, called-held, called-searched, called-gives-up}
 use Rattle.quasi_solvers.specs.Passing.{called-top, top-lower, called-high, parity-even, parity-odd}
 use Rattle.quasi_solvers.specs.Passing.{turned-less, turned-called, turned-solved}
 use Rattle.quasi_solvers.specs.Passing.{going-first, going-ready, going-called, going-droppable, going-on, going-less, going-ends}
@@ -26,16 +26,16 @@ use Rattle.quasi_solvers.proofs.recursion.solve_odd.Kinds as solve-odd-
 use Rattle.quasi_solvers.proofs.recursion.+solve_even+solve_odd.Lts-solve_odd as solve-odd-lts
 use Rattle.parity_game.proofs.set_words.Reads as set-words-reads
 use Rattle.quasi_level.proofs.attract_top.Reads as attract-top-reads
+use Rattle.quasi_level.proofs.give_up.Reads as give-up-reads
 use Rattle.quasi_level.proofs.highest_at.Reads as highest-at-reads
 use Rattle.quasi_level.proofs.settle.Reads as settle-reads
 use Rattle.quasi_level.proofs.size_at.Reads as size-at-reads
+use Rattle.quasi_level.proofs.turn_over.Reads as turn-over-reads
 use Rattle.quasi_level.proofs.passes.Passes.new.Reads as new-reads
 use Rattle.quasi_level.proofs.passes.Passes.precision.Reads as precision-reads
 use Rattle.quasi_level.proofs.passes.Passes.sharpness.Reads as sharpness-reads
 use Rattle.quasi_solvers.proofs.recursion.least.Reads as least-reads
-use Rattle.sets.proofs.clear.Reads as clear-reads
 use Rattle.sets.proofs.copy_with.Reads as copy-with-reads
-use Rattle.sets.proofs.difference_with.Reads as difference-with-reads
 use Rattle.quasi_solvers.proofs.recursion.+solve_even+solve_odd.{statement}
 use Rattle.quasi_solvers.proofs.recursion.+solve_even+solve_odd.Tie.{close}
 
@@ -66,18 +66,18 @@ even-claims t = (
   set-words-reads.Learnt,
   size-at-reads.Asked,
   size-at-reads.Learnt,
-  clear-reads.Asked,
-  clear-reads.Learnt,
+  least-reads.Asked,
+  least-reads.Learnt,
+  give-up-reads.Asked,
+  give-up-reads.Learnt,
   highest-at-reads.Asked,
   highest-at-reads.Learnt,
   copy-with-reads.Asked,
   copy-with-reads.Learnt,
   odd-below t,
   solve-odd.Post,
-  difference-with-reads.Asked,
-  difference-with-reads.Learnt,
-  least-reads.Asked,
-  least-reads.Learnt,
+  turn-over-reads.Asked,
+  turn-over-reads.Learnt,
   new-reads.Asked,
   new-reads.Learnt,
   precision-reads.Asked,
@@ -91,11 +91,11 @@ even-claims t = (
 )
 
 abbrev even-Inv : solve-even-lts.InvT-loop
-even-Inv owners priorities offsets targets work₀ base height own other s size p up mine full half passes₀ work passes =
+even-Inv owners priorities offsets targets work₀ base height own other s size mine p up full half passes₀ work passes =
     Going (tablesOf owners priorities offsets targets) Even base mine full half work₀ passes work
 
 abbrev even-μ : solve-even-lts.MeasureT-loop
-even-μ owners priorities offsets targets work₀ base height own other s size p up mine full half passes₀ work passes =
+even-μ owners priorities offsets targets work₀ base height own other s size mine p up full half passes₀ work passes =
     toGo (length owners) base work passes
 
 -- a call at height t
@@ -125,8 +125,8 @@ module _ (t : ℕ) where
   abbrev even-topped : even-At solve-even-lts.After-copy-with → even-At solve-even-lts.After-highest-at
   even-topped c = c .before .before .before
 
-  abbrev even-entered : even-At solve-even-lts.At-loop → even-At solve-even-lts.Else3
-  even-entered c = c .before .before .before .before
+  abbrev even-entered : even-At solve-even-lts.At-loop → even-At solve-even-lts.Else2
+  even-entered c = c .before .before .before
 
   -- in the loop
   abbrev even-turn : even-At solve-even-lts.After-attract-top → even-At solve-even-lts.At-loop
@@ -163,7 +163,9 @@ module _ (t : ℕ) where
       (c .highest-at .result)
   even-top c =
       let d = even-sized c in
-      called-top (even-called d) (even-words d) (d .size-at .ensures) (c .before .before .before .if1 .left) (c .highest-at .ensures)
+      let e = c .before .before in
+      called-top (even-called d) (even-words d) (even-start d .args .own) (d .size-at .ensures) (e .before .least .ensures) (e .if1 .left)
+      (c .highest-at .ensures)
 
   -- there is room for the next level
   even-high :
@@ -177,11 +179,11 @@ module _ (t : ℕ) where
   even-lower c = let d = even-sized c in top-lower (even-called d) (even-words d) (even-top c)
 
   -- whose it is
-  even-theirs : (c : even-At solve-even-lts.Then3) → parity (c .before .highest-at .result) ≡ opponent Even
-  even-theirs c = ap playerOf (c .if3 .taken)
+  even-theirs : (c : even-At solve-even-lts.Then2) → parity (c .before .highest-at .result) ≡ opponent Even
+  even-theirs c = ap playerOf (c .if2 .taken)
 
-  even-ours : (c : even-At solve-even-lts.Else3) → parity (c .before .highest-at .result) ≡ Even
-  even-ours c = parity-even (c .before .highest-at .result) (c .if3 .left)
+  even-ours : (c : even-At solve-even-lts.Else2) → parity (c .before .highest-at .result) ≡ Even
+  even-ours c = parity-even (c .before .highest-at .result) (c .if2 .left)
 
   even-set-words-requires : even-At solve-even-lts.Need-set-words-requires
   even-set-words-requires c κs = search needs
@@ -190,25 +192,23 @@ module _ (t : ℕ) where
   even-size-at-requires c κs =
       called-held (c .before .before .before .before .before .before .before .pre .1) (c .before .set-words .ensures)
 
+  even-least-requires : even-At solve-even-lts.Need-least-requires
+  even-least-requires c κs = search needs
+
+  even-give-up-requires : even-At solve-even-lts.Need-give-up-requires
+  even-give-up-requires c κs =
+      let d = c .before .before .before in called-held (even-called d) (even-words d) .high
+
   even-same-length : even-At solve-even-lts.Need-same-length
-  even-same-length c = search needs
+  even-same-length c = c .before .before .give-up .ensures .cleared .long
 
   even-returns : even-At solve-even-lts.Need-returns
   even-returns c =
-      let d = c .before in called-empty (even-called d) (even-words d) (d .size-at .ensures) (c .if1 .taken)
-
-  even-clear-requires : even-At solve-even-lts.Need-clear-requires
-  even-clear-requires c κs =
-      let d = c .before .before .before in called-held (even-called d) (even-words d) .high
-
-  even-same-length-2 : even-At solve-even-lts.Need-same-length-2
-  even-same-length-2 c = search needs
-
-  even-returns-2 : even-At solve-even-lts.Need-returns-2
-  even-returns-2 c =
-      let cleared = c .before .before in
-      let d = cleared .before .before .before .before in
-      called-gives-up (even-called d) (even-words d) (cleared .before .before .if2 .taken) (cleared .clear .ensures)
+      let gave = c .before .before in
+      let zero = gave .before .before in
+      let d = zero .before .before in
+      called-gives-up (even-called d) (even-words d) (d .size-at .ensures) (zero .before .least .ensures) (zero .if1 .taken)
+      (gave .give-up .ensures)
 
   even-highest-at-requires : even-At solve-even-lts.Need-highest-at-requires
   even-highest-at-requires c κs =
@@ -240,35 +240,32 @@ module _ (t : ℕ) where
         turned-called (even-called d) (even-words d) (even-top h) theirs (copied .copy-with .ensures),
       )
 
-  even-difference-with-requires : even-At solve-even-lts.Need-difference-with-requires
-  even-difference-with-requires c κs =
+  even-turn-over-requires : even-At solve-even-lts.Need-turn-over-requires
+  even-turn-over-requires c κs =
       let solved = c .before .before .before in
       let copied = even-copied solved in
       let high = even-high (even-topped copied) in
       let long = copied .copy-with .ensures .long in
       let long′ = solved .solve-odd .ensures .stays .long in
-      record { into-fits = omega arith; from-fits = omega arith; apart = inl (omega arith) }
+      omega arith
 
-  even-same-length-3 : even-At solve-even-lts.Need-same-length-3
-  even-same-length-3 c =
-      let reduced = c .before .before in
-      let solved = reduced .before .before .before .before in
+  even-same-length-2 : even-At solve-even-lts.Need-same-length-2
+  even-same-length-2 c =
+      let turned = c .before .before in
+      let solved = turned .before .before .before .before in
       let copied = even-copied solved in
-      omega (arith, reduced .difference-with .ensures .long, solved .solve-odd .ensures .stays .long, copied .copy-with .ensures .long)
+      omega (arith, turned .turn-over .ensures .reduced .long, solved .solve-odd .ensures .stays .long, copied .copy-with .ensures .long)
 
-  even-returns-3 : even-At solve-even-lts.Need-returns-3
-  even-returns-3 c =
-      let reduced = c .before .before in
-      let solved = reduced .before .before .before .before in
+  even-returns-2 : even-At solve-even-lts.Need-returns-2
+  even-returns-2 c =
+      let turned = c .before .before in
+      let solved = turned .before .before .before .before in
       let copied = even-copied solved in
       let h = even-topped copied in
       let d = even-sized h in
       turned-solved (even-called d) (even-words d) (even-top h) (even-theirs (copied .before .before)) (copied .copy-with .ensures)
       (solved .solve-odd .ensures)
-      (reduced .difference-with .ensures)
-
-  even-least-requires : even-At solve-even-lts.Need-least-requires
-  even-least-requires c κs = search needs
+      (turned .turn-over .ensures)
 
   even-least-requires-2 : even-At solve-even-lts.Need-least-requires-2
   even-least-requires-2 c κs = search needs
@@ -278,7 +275,7 @@ module _ (t : ℕ) where
 
   even-loop-holds : even-At solve-even-lts.Need-loop-holds
   even-loop-holds c =
-      let h = c .before .before .before .before in
+      let h = c .before .before .before in
       let d = even-sized h in
       going-first (even-called d) (even-words d) (even-top h) (c .new .ensures)
 
@@ -327,7 +324,7 @@ module _ (t : ℕ) where
       let g = even-start d in
       going-less (even-called d) (even-words d) (even-top h) (l .loop .inv) (even-ours e) (cut .attract-top .ensures)
       (found .solve-odd2 .ensures)
-      (cut .before .before .before .if4 .taken)
+      (cut .before .before .before .if3 .taken)
       (settled .settle .ensures (g .args .priorities .now) (even-called d .accepted))
 
   even-loop-again : even-At solve-even-lts.Need-loop-again
@@ -342,7 +339,7 @@ module _ (t : ℕ) where
       let g = even-start d in
       going-on (even-called d) (even-words d) (even-top h) (l .loop .inv) (even-ours e) (cut .attract-top .ensures)
       (found .solve-odd2 .ensures)
-      (cut .before .before .before .if4 .taken)
+      (cut .before .before .before .if3 .taken)
       refl
       (cut .before .before .precision .ensures)
       (settled .settle .ensures (g .args .priorities .now) (even-called d .accepted))
@@ -350,18 +347,18 @@ module _ (t : ℕ) where
   even-sharpness-requires : even-At solve-even-lts.Need-sharpness-requires
   even-sharpness-requires c κs = search needs
 
-  even-same-length-4 : even-At solve-even-lts.Need-same-length-4
-  even-same-length-4 c = c .before .before .before .loop .inv .stays .long
+  even-same-length-3 : even-At solve-even-lts.Need-same-length-3
+  even-same-length-3 c = c .before .before .before .loop .inv .stays .long
 
-  even-returns-4 : even-At solve-even-lts.Need-returns-4
-  even-returns-4 c =
+  even-returns-3 : even-At solve-even-lts.Need-returns-3
+  even-returns-3 c =
       let l = c .before .before .before in
       let e = even-entered l in
       let h = e .before in
       let d = even-sized h in
-      let k = c .before .if4 .left in
+      let k = c .before .if3 .left in
       going-ends (even-called d) (even-words d) (even-top h) (l .loop .inv) (λ early. omega arith) (d .size-at .ensures)
-      (l .before .before .before .least .ensures)
+      (h .before .before .before .least .ensures)
       (l .before .before .least2 .ensures)
       (c .sharpness .ensures)
 
@@ -373,18 +370,18 @@ odd-claims t = (
   set-words-reads.Learnt,
   size-at-reads.Asked,
   size-at-reads.Learnt,
-  clear-reads.Asked,
-  clear-reads.Learnt,
+  least-reads.Asked,
+  least-reads.Learnt,
+  give-up-reads.Asked,
+  give-up-reads.Learnt,
   highest-at-reads.Asked,
   highest-at-reads.Learnt,
   copy-with-reads.Asked,
   copy-with-reads.Learnt,
   even-below t,
   solve-even.Post,
-  difference-with-reads.Asked,
-  difference-with-reads.Learnt,
-  least-reads.Asked,
-  least-reads.Learnt,
+  turn-over-reads.Asked,
+  turn-over-reads.Learnt,
   new-reads.Asked,
   new-reads.Learnt,
   precision-reads.Asked,
@@ -398,11 +395,11 @@ odd-claims t = (
 )
 
 abbrev odd-Inv : solve-odd-lts.InvT-loop
-odd-Inv owners priorities offsets targets work₀ base height own other s size p up mine full half passes₀ work passes =
+odd-Inv owners priorities offsets targets work₀ base height own other s size mine p up full half passes₀ work passes =
     Going (tablesOf owners priorities offsets targets) Odd base mine full half work₀ passes work
 
 abbrev odd-μ : solve-odd-lts.MeasureT-loop
-odd-μ owners priorities offsets targets work₀ base height own other s size p up mine full half passes₀ work passes =
+odd-μ owners priorities offsets targets work₀ base height own other s size mine p up full half passes₀ work passes =
     toGo (length owners) base work passes
 
 -- a call at height t
@@ -432,8 +429,8 @@ module _ (t : ℕ) where
   abbrev odd-topped : odd-At solve-odd-lts.After-copy-with → odd-At solve-odd-lts.After-highest-at
   odd-topped c = c .before .before .before
 
-  abbrev odd-entered : odd-At solve-odd-lts.At-loop → odd-At solve-odd-lts.Else3
-  odd-entered c = c .before .before .before .before
+  abbrev odd-entered : odd-At solve-odd-lts.At-loop → odd-At solve-odd-lts.Else2
+  odd-entered c = c .before .before .before
 
   -- in the loop
   abbrev odd-turn : odd-At solve-odd-lts.After-attract-top → odd-At solve-odd-lts.At-loop
@@ -470,7 +467,9 @@ module _ (t : ℕ) where
       (c .highest-at .result)
   odd-top c =
       let d = odd-sized c in
-      called-top (odd-called d) (odd-words d) (d .size-at .ensures) (c .before .before .before .if1 .left) (c .highest-at .ensures)
+      let e = c .before .before in
+      called-top (odd-called d) (odd-words d) (odd-start d .args .own) (d .size-at .ensures) (e .before .least .ensures) (e .if1 .left)
+      (c .highest-at .ensures)
 
   -- there is room for the next level
   odd-high :
@@ -484,11 +483,11 @@ module _ (t : ℕ) where
   odd-lower c = let d = odd-sized c in top-lower (odd-called d) (odd-words d) (odd-top c)
 
   -- whose it is
-  odd-theirs : (c : odd-At solve-odd-lts.Then3) → parity (c .before .highest-at .result) ≡ opponent Odd
-  odd-theirs c = ap playerOf (c .if3 .taken)
+  odd-theirs : (c : odd-At solve-odd-lts.Then2) → parity (c .before .highest-at .result) ≡ opponent Odd
+  odd-theirs c = ap playerOf (c .if2 .taken)
 
-  odd-ours : (c : odd-At solve-odd-lts.Else3) → parity (c .before .highest-at .result) ≡ Odd
-  odd-ours c = parity-odd (c .before .highest-at .result) (c .if3 .left)
+  odd-ours : (c : odd-At solve-odd-lts.Else2) → parity (c .before .highest-at .result) ≡ Odd
+  odd-ours c = parity-odd (c .before .highest-at .result) (c .if2 .left)
 
   odd-set-words-requires : odd-At solve-odd-lts.Need-set-words-requires
   odd-set-words-requires c κs = search needs
@@ -497,25 +496,23 @@ module _ (t : ℕ) where
   odd-size-at-requires c κs =
       called-held (c .before .before .before .before .before .before .before .pre .1) (c .before .set-words .ensures)
 
+  odd-least-requires : odd-At solve-odd-lts.Need-least-requires
+  odd-least-requires c κs = search needs
+
+  odd-give-up-requires : odd-At solve-odd-lts.Need-give-up-requires
+  odd-give-up-requires c κs =
+      let d = c .before .before .before in called-held (odd-called d) (odd-words d) .high
+
   odd-same-length : odd-At solve-odd-lts.Need-same-length
-  odd-same-length c = search needs
+  odd-same-length c = c .before .before .give-up .ensures .cleared .long
 
   odd-returns : odd-At solve-odd-lts.Need-returns
   odd-returns c =
-      let d = c .before in called-empty (odd-called d) (odd-words d) (d .size-at .ensures) (c .if1 .taken)
-
-  odd-clear-requires : odd-At solve-odd-lts.Need-clear-requires
-  odd-clear-requires c κs =
-      let d = c .before .before .before in called-held (odd-called d) (odd-words d) .high
-
-  odd-same-length-2 : odd-At solve-odd-lts.Need-same-length-2
-  odd-same-length-2 c = search needs
-
-  odd-returns-2 : odd-At solve-odd-lts.Need-returns-2
-  odd-returns-2 c =
-      let cleared = c .before .before in
-      let d = cleared .before .before .before .before in
-      called-gives-up (odd-called d) (odd-words d) (cleared .before .before .if2 .taken) (cleared .clear .ensures)
+      let gave = c .before .before in
+      let zero = gave .before .before in
+      let d = zero .before .before in
+      called-gives-up (odd-called d) (odd-words d) (d .size-at .ensures) (zero .before .least .ensures) (zero .if1 .taken)
+      (gave .give-up .ensures)
 
   odd-highest-at-requires : odd-At solve-odd-lts.Need-highest-at-requires
   odd-highest-at-requires c κs =
@@ -547,35 +544,32 @@ module _ (t : ℕ) where
         turned-called (odd-called d) (odd-words d) (odd-top h) theirs (copied .copy-with .ensures),
       )
 
-  odd-difference-with-requires : odd-At solve-odd-lts.Need-difference-with-requires
-  odd-difference-with-requires c κs =
+  odd-turn-over-requires : odd-At solve-odd-lts.Need-turn-over-requires
+  odd-turn-over-requires c κs =
       let solved = c .before .before .before in
       let copied = odd-copied solved in
       let high = odd-high (odd-topped copied) in
       let long = copied .copy-with .ensures .long in
       let long′ = solved .solve-even .ensures .stays .long in
-      record { into-fits = omega arith; from-fits = omega arith; apart = inl (omega arith) }
+      omega arith
 
-  odd-same-length-3 : odd-At solve-odd-lts.Need-same-length-3
-  odd-same-length-3 c =
-      let reduced = c .before .before in
-      let solved = reduced .before .before .before .before in
+  odd-same-length-2 : odd-At solve-odd-lts.Need-same-length-2
+  odd-same-length-2 c =
+      let turned = c .before .before in
+      let solved = turned .before .before .before .before in
       let copied = odd-copied solved in
-      omega (arith, reduced .difference-with .ensures .long, solved .solve-even .ensures .stays .long, copied .copy-with .ensures .long)
+      omega (arith, turned .turn-over .ensures .reduced .long, solved .solve-even .ensures .stays .long, copied .copy-with .ensures .long)
 
-  odd-returns-3 : odd-At solve-odd-lts.Need-returns-3
-  odd-returns-3 c =
-      let reduced = c .before .before in
-      let solved = reduced .before .before .before .before in
+  odd-returns-2 : odd-At solve-odd-lts.Need-returns-2
+  odd-returns-2 c =
+      let turned = c .before .before in
+      let solved = turned .before .before .before .before in
       let copied = odd-copied solved in
       let h = odd-topped copied in
       let d = odd-sized h in
       turned-solved (odd-called d) (odd-words d) (odd-top h) (odd-theirs (copied .before .before)) (copied .copy-with .ensures)
       (solved .solve-even .ensures)
-      (reduced .difference-with .ensures)
-
-  odd-least-requires : odd-At solve-odd-lts.Need-least-requires
-  odd-least-requires c κs = search needs
+      (turned .turn-over .ensures)
 
   odd-least-requires-2 : odd-At solve-odd-lts.Need-least-requires-2
   odd-least-requires-2 c κs = search needs
@@ -585,7 +579,7 @@ module _ (t : ℕ) where
 
   odd-loop-holds : odd-At solve-odd-lts.Need-loop-holds
   odd-loop-holds c =
-      let h = c .before .before .before .before in
+      let h = c .before .before .before in
       let d = odd-sized h in
       going-first (odd-called d) (odd-words d) (odd-top h) (c .new .ensures)
 
@@ -634,7 +628,7 @@ module _ (t : ℕ) where
       let g = odd-start d in
       going-less (odd-called d) (odd-words d) (odd-top h) (l .loop .inv) (odd-ours e) (cut .attract-top .ensures)
       (found .solve-even2 .ensures)
-      (cut .before .before .before .if4 .taken)
+      (cut .before .before .before .if3 .taken)
       (settled .settle .ensures (g .args .priorities .now) (odd-called d .accepted))
 
   odd-loop-again : odd-At solve-odd-lts.Need-loop-again
@@ -649,7 +643,7 @@ module _ (t : ℕ) where
       let g = odd-start d in
       going-on (odd-called d) (odd-words d) (odd-top h) (l .loop .inv) (odd-ours e) (cut .attract-top .ensures)
       (found .solve-even2 .ensures)
-      (cut .before .before .before .if4 .taken)
+      (cut .before .before .before .if3 .taken)
       refl
       (cut .before .before .precision .ensures)
       (settled .settle .ensures (g .args .priorities .now) (odd-called d .accepted))
@@ -657,18 +651,18 @@ module _ (t : ℕ) where
   odd-sharpness-requires : odd-At solve-odd-lts.Need-sharpness-requires
   odd-sharpness-requires c κs = search needs
 
-  odd-same-length-4 : odd-At solve-odd-lts.Need-same-length-4
-  odd-same-length-4 c = c .before .before .before .loop .inv .stays .long
+  odd-same-length-3 : odd-At solve-odd-lts.Need-same-length-3
+  odd-same-length-3 c = c .before .before .before .loop .inv .stays .long
 
-  odd-returns-4 : odd-At solve-odd-lts.Need-returns-4
-  odd-returns-4 c =
+  odd-returns-3 : odd-At solve-odd-lts.Need-returns-3
+  odd-returns-3 c =
       let l = c .before .before .before in
       let e = odd-entered l in
       let h = e .before in
       let d = odd-sized h in
-      let k = c .before .if4 .left in
+      let k = c .before .if3 .left in
       going-ends (odd-called d) (odd-words d) (odd-top h) (l .loop .inv) (λ early. omega arith) (d .size-at .ensures)
-      (l .before .before .before .least .ensures)
+      (h .before .before .before .least .ensures)
       (l .before .before .least2 .ensures)
       (c .sharpness .ensures)
 
@@ -685,21 +679,19 @@ pub +solve-even+solve-odd-spec : {M : Type 1} → statement M
     even-μ
     (even-set-words-requires t)
     (even-size-at-requires t)
+    (even-least-requires t)
+    (even-give-up-requires t)
     (even-same-length t)
     (even-returns t)
-    (even-clear-requires t)
-    (even-same-length-2 t)
-    (even-returns-2 t)
     (even-highest-at-requires t)
     (even-mul-up t)
     (even-add-up t)
     (even-copy-with-requires t)
     (even-add-solve-odd t)
     (even-solve-odd-requires t)
-    (even-difference-with-requires t)
-    (even-same-length-3 t)
-    (even-returns-3 t)
-    (even-least-requires t)
+    (even-turn-over-requires t)
+    (even-same-length-2 t)
+    (even-returns-2 t)
     (even-least-requires-2 t)
     (even-new-requires t)
     (even-loop-holds t)
@@ -710,8 +702,8 @@ pub +solve-even+solve-odd-spec : {M : Type 1} → statement M
     (even-loop-less t)
     (even-loop-again t)
     (even-sharpness-requires t)
-    (even-same-length-4 t)
-    (even-returns-4 t))
+    (even-same-length-3 t)
+    (even-returns-3 t))
     λ t. solve-odd-lts.spec
     (odd-claims t)
     (odd-at t)
@@ -720,21 +712,19 @@ pub +solve-even+solve-odd-spec : {M : Type 1} → statement M
     odd-μ
     (odd-set-words-requires t)
     (odd-size-at-requires t)
+    (odd-least-requires t)
+    (odd-give-up-requires t)
     (odd-same-length t)
     (odd-returns t)
-    (odd-clear-requires t)
-    (odd-same-length-2 t)
-    (odd-returns-2 t)
     (odd-highest-at-requires t)
     (odd-mul-up t)
     (odd-add-up t)
     (odd-copy-with-requires t)
     (odd-add-solve-even t)
     (odd-solve-even-requires t)
-    (odd-difference-with-requires t)
-    (odd-same-length-3 t)
-    (odd-returns-3 t)
-    (odd-least-requires t)
+    (odd-turn-over-requires t)
+    (odd-same-length-2 t)
+    (odd-returns-2 t)
     (odd-least-requires-2 t)
     (odd-new-requires t)
     (odd-loop-holds t)
@@ -745,5 +735,5 @@ pub +solve-even+solve-odd-spec : {M : Type 1} → statement M
     (odd-loop-less t)
     (odd-loop-again t)
     (odd-sharpness-requires t)
-    (odd-same-length-4 t)
-    (odd-returns-4 t)
+    (odd-same-length-3 t)
+    (odd-returns-3 t)
