@@ -1,6 +1,7 @@
-// The two solvers. Each narrows the set V at `base` to what it gives: all dominions of its own player of at most `own`
-// vertices are in, all of the opponent's of at most `other` are out. What it gives back says where it did better.
-// A solver gives up at precision 0, not 1: a vertex that leads to itself is a dominion of one vertex.
+// The two solvers, with a precision for each player's dominions. Each narrows the set V at `base` to what it gives: all
+// dominions of its own player of at most that player's precision are in, all of the opponent's of at most the
+// opponent's are out. What it gives back says where it did better. A solver gives up at precision 0, not 1: a vertex
+// that leads to itself is a dominion of one vertex.
 use quasi_level::Passes;
 use quasi_level::Sharp;
 use quasi_level::attract_top;
@@ -30,18 +31,18 @@ pub fn solve_even(
     work: &mut [u64],
     base: usize,
     height: usize,
-    own: usize,
-    other: usize,
+    even: usize,
+    odd: usize,
 ) -> Sharp
     requires { ⌜ Called (tablesOf (now owners) (now priorities) (now offsets) (now targets)) Even base height (now work) ⌝ }
     ensures { λ r.
         ⌜ Solved (tablesOf (now (owners .entry)) (now (priorities .entry)) (now (offsets .entry))
-        (now (targets .entry))) Even base own other (now (work .entry)) (now (work .exit)) r ⌝ }
+        (now (targets .entry))) Even base even odd (now (work .entry)) (now (work .exit)) r ⌝ }
 {
     let s = parity_game::set_words(owners.len());
     let size = size_at(owners.len(), s, work, base);
-    let mine = least(own, size);
-    if mine == 0 {
+    let e = least(even, size);
+    if e == 0 {
         return give_up(size, s, work, base);
     }
     let p = highest_at(priorities, s, work, base);
@@ -56,21 +57,21 @@ pub fn solve_even(
             work,
             up,
             p + 1,
-            other,
-            own,
+            even,
+            odd,
         );
         return turn_over(s, work, base, turned);
     }
-    let full = least(other, size);
-    let half = full / 2;
+    let o = least(odd, size);
+    let half = o / 2;
     let mut passes = Passes::new(half);
     while passes.stage < 3 {
-        let k = passes.precision(half, full);
+        let k = passes.precision(half, o);
         attract_top(owners, priorities, offsets, targets, p, s, work, base);
-        let r = solve_odd(owners, priorities, offsets, targets, work, up, p, k, mine);
+        let r = solve_odd(owners, priorities, offsets, targets, work, up, p, e, k);
         passes = settle(owners, offsets, targets, 1, s, work, base, r, passes, half);
     }
-    passes.sharpness(mine, full, size)
+    passes.sharpness(e, o, size)
 }
 
 // Every priority in V is below `height`, which is even; each call below has a lower one.
@@ -82,18 +83,18 @@ pub fn solve_odd(
     work: &mut [u64],
     base: usize,
     height: usize,
-    own: usize,
-    other: usize,
+    even: usize,
+    odd: usize,
 ) -> Sharp
     requires { ⌜ Called (tablesOf (now owners) (now priorities) (now offsets) (now targets)) Odd base height (now work) ⌝ }
     ensures { λ r.
         ⌜ Solved (tablesOf (now (owners .entry)) (now (priorities .entry)) (now (offsets .entry))
-        (now (targets .entry))) Odd base own other (now (work .entry)) (now (work .exit)) r ⌝ }
+        (now (targets .entry))) Odd base odd even (now (work .entry)) (now (work .exit)) r ⌝ }
 {
     let s = parity_game::set_words(owners.len());
     let size = size_at(owners.len(), s, work, base);
-    let mine = least(own, size);
-    if mine == 0 {
+    let o = least(odd, size);
+    if o == 0 {
         return give_up(size, s, work, base);
     }
     let p = highest_at(priorities, s, work, base);
@@ -108,19 +109,19 @@ pub fn solve_odd(
             work,
             up,
             p + 1,
-            other,
-            own,
+            even,
+            odd,
         );
         return turn_over(s, work, base, turned);
     }
-    let full = least(other, size);
-    let half = full / 2;
+    let e = least(even, size);
+    let half = e / 2;
     let mut passes = Passes::new(half);
     while passes.stage < 3 {
-        let k = passes.precision(half, full);
+        let k = passes.precision(half, e);
         attract_top(owners, priorities, offsets, targets, p, s, work, base);
-        let r = solve_even(owners, priorities, offsets, targets, work, up, p, k, mine);
+        let r = solve_even(owners, priorities, offsets, targets, work, up, p, k, o);
         passes = settle(owners, offsets, targets, 0, s, work, base, r, passes, half);
     }
-    passes.sharpness(mine, full, size)
+    passes.sharpness(o, e, size)
 }

@@ -91,11 +91,11 @@ even-claims t = (
 )
 
 abbrev even-Inv : solve-even-lts.InvT-loop
-even-Inv owners priorities offsets targets work₀ base height own other s size mine p up full half passes₀ work passes =
-    Going (tablesOf owners priorities offsets targets) Even base mine full half work₀ passes work
+even-Inv owners priorities offsets targets work₀ base height even odd s size e p up o half passes₀ work passes =
+    Going (tablesOf owners priorities offsets targets) Even base e o half work₀ passes work
 
 abbrev even-μ : solve-even-lts.MeasureT-loop
-even-μ owners priorities offsets targets work₀ base height own other s size mine p up full half passes₀ work passes =
+even-μ owners priorities offsets targets work₀ base height even odd s size e p up o half passes₀ work passes =
     toGo (length owners) base work passes
 
 -- a call at height t
@@ -164,7 +164,7 @@ module _ (t : ℕ) where
   even-top c =
       let d = even-sized c in
       let e = c .before .before in
-      called-top (even-called d) (even-words d) (even-start d .args .own) (d .size-at .ensures) (e .before .least .ensures) (e .if1 .left)
+      called-top (even-called d) (even-words d) (even-start d .args .even) (d .size-at .ensures) (e .before .least .ensures) (e .if1 .left)
       (c .highest-at .ensures)
 
   -- there is room for the next level
@@ -395,11 +395,11 @@ odd-claims t = (
 )
 
 abbrev odd-Inv : solve-odd-lts.InvT-loop
-odd-Inv owners priorities offsets targets work₀ base height own other s size mine p up full half passes₀ work passes =
-    Going (tablesOf owners priorities offsets targets) Odd base mine full half work₀ passes work
+odd-Inv owners priorities offsets targets work₀ base height even odd s size o p up e half passes₀ work passes =
+    Going (tablesOf owners priorities offsets targets) Odd base o e half work₀ passes work
 
 abbrev odd-μ : solve-odd-lts.MeasureT-loop
-odd-μ owners priorities offsets targets work₀ base height own other s size mine p up full half passes₀ work passes =
+odd-μ owners priorities offsets targets work₀ base height even odd s size o p up e half passes₀ work passes =
     toGo (length owners) base work passes
 
 -- a call at height t
@@ -468,7 +468,7 @@ module _ (t : ℕ) where
   odd-top c =
       let d = odd-sized c in
       let e = c .before .before in
-      called-top (odd-called d) (odd-words d) (odd-start d .args .own) (d .size-at .ensures) (e .before .least .ensures) (e .if1 .left)
+      called-top (odd-called d) (odd-words d) (odd-start d .args .odd) (d .size-at .ensures) (e .before .least .ensures) (e .if1 .left)
       (c .highest-at .ensures)
 
   -- there is room for the next level
