@@ -9,7 +9,8 @@
  * A game with n = 0 has the one offset 0. Every vertex needs an edge.
  *
  * A set is s words, vertex v at bit v % 64 of word v / 64; reckonbough_set_words gives s. A strategy is n entries, each a
- * vertex or RECKONBOUGH_NONE. The work area is W words or more; reckonbough_work_words gives W. It may hold anything.
+ * vertex or RECKONBOUGH_NONE. The work area is W words or more; reckonbough_work_words gives W, and reckonbough_opinion_words
+ * the larger W of reckonbough_quasi_polynomial. It may hold anything.
  *
  * Every slice is a pointer and the number of its elements (not bytes). The pointer is aligned for its type and good for
  * that many elements; a null pointer with length 0 is an empty slice. place and count are not null. What a function writes
@@ -108,6 +109,12 @@ static inline size_t reckonbough_work_words(size_t n, size_t m)
     return 8 * (n + 2) * reckonbough_set_words(n) + 4 * n + 2 * m + 272;
 }
 
+/* The same for reckonbough_quasi_polynomial: 2064 * s words more. */
+static inline size_t reckonbough_opinion_words(size_t n, size_t m)
+{
+    return reckonbough_work_words(n, m) + 2064 * reckonbough_set_words(n);
+}
+
 /*
  * Checks the tables.
  * Gives 0 or 1 to 8. The count is 0.
@@ -172,6 +179,23 @@ uint64_t reckonbough_priority_promotion(
     uint64_t *even, size_t even_length,
     uint64_t *odd, size_t odd_length,
     uint16_t *strategy, size_t strategy_length,
+    uint64_t *work, size_t work_length,
+    uint64_t *place, uint64_t *count);
+
+/*
+ * A second opinion: solves the game by the quasi-polynomial recursion of Parys (2019), two solvers that call each other. It shares
+ * the tables, the sets, the predecessors and the attractor with the two solvers above, and nothing of how they go about it.
+ * Writes even and odd, s words each: who wins where, the same sets as theirs. There is no strategy and no budget. Works in
+ * work, reckonbough_opinion_words or more.
+ * Gives 0 or 1 to 10. The count is 0.
+ */
+uint64_t reckonbough_quasi_polynomial(
+    const uint8_t *owners, size_t owners_length,
+    const uint16_t *priorities, size_t priorities_length,
+    const uint16_t *offsets, size_t offsets_length,
+    const uint16_t *targets, size_t targets_length,
+    uint64_t *even, size_t even_length,
+    uint64_t *odd, size_t odd_length,
     uint64_t *work, size_t work_length,
     uint64_t *place, uint64_t *count);
 

@@ -1,6 +1,6 @@
 /*
  * The names of the numbers; what only C can pass: null pointers for empty slices, and players other than 0 and 1; results
- * without a strategy; an export that is mended; a game as text; and the largest game. Every function is called.
+ * without a strategy; a second opinion; an export that is mended; a game as text; and the largest game. Every function is called.
  * Each line is what was asked and the number, the place and the count given; tests/doors compares them.
  */
 #include <inttypes.h>
@@ -73,6 +73,8 @@ static void no_vertices(void)
           reckonbough_zielonka(C1, 1, NULL, 0, NULL, 0, NULL, 0, NULL, 0, &place, &count));
     print("priority_promotion of C1, budget 0",
           reckonbough_priority_promotion(C1, 0, NULL, 0, NULL, 0, NULL, 0, work, w, &place, &count));
+    print("quasi_polynomial of C1",
+          reckonbough_quasi_polynomial(C1, NULL, 0, NULL, 0, work, reckonbough_opinion_words(0, 0), &place, &count));
     print("solitaire of C1", reckonbough_solitaire(C1, NULL, 0, work, w, &place, &count));
     uint64_t length = 7;
     print("show_loop of C1", reckonbough_show_loop(C1, 0, NULL, 0, NULL, 0, work, w, &length, &place, &count));
@@ -147,6 +149,29 @@ static void without_strategy(void)
     print("with Odd's entry alone", reckonbough_check(C7, &even, 1, &odd, 1, other, 2, work, w, &place, &count));
     print("without entries, vertex 1 in no set",
           reckonbough_check(C7, &first, 1, &none, 1, nothing, 2, work, w, &place, &count));
+}
+
+/*
+ * C2, E0 to itself, is the smallest game in which a solver of the second opinion that gave up at precision 1 would be wrong: the
+ * precisions are 1 at the start, and its one vertex is a dominion. In C7 Even wins both vertices. A word too few is refused.
+ */
+static void second_opinion(void)
+{
+    static const uint8_t c2_owners[] = {0};
+    static const uint16_t c2_priorities[] = {0}, c2_offsets[] = {0, 1}, c2_targets[] = {0};
+    static uint64_t area[4096];
+    const size_t w = reckonbough_opinion_words(2, 3);
+    uint64_t even = 5, odd = 7;
+    print("quasi_polynomial of C2",
+          reckonbough_quasi_polynomial(c2_owners, 1, c2_priorities, 1, c2_offsets, 2, c2_targets, 1, &even, 1, &odd, 1, area,
+                                       reckonbough_opinion_words(1, 1), &place, &count));
+    printf("  sets %" PRIu64 " %" PRIu64 "\n", even, odd);
+    print("quasi_polynomial of C7", reckonbough_quasi_polynomial(C7, &even, 1, &odd, 1, area, w, &place, &count));
+    printf("  sets %" PRIu64 " %" PRIu64 "\n", even, odd);
+    even = 5;
+    print("in a word too few", reckonbough_quasi_polynomial(C7, &even, 1, &odd, 1, area, w - 1, &place, &count));
+    printf("  sets %" PRIu64 " %" PRIu64 "\n", even, odd);
+    print("with two words for a set", reckonbough_quasi_polynomial(C7, area, 2, &odd, 1, area + 2, w, &place, &count));
 }
 
 /* An export with a dead end and two missing targets, its list read as the header says. */
@@ -231,7 +256,7 @@ static void most_vertices(void)
     enum { N = 4096, M = 3 * N / 2 - 1, S = N / 64 };
     static uint8_t owners[N + 1];
     static uint16_t priorities[N + 1], offsets[N + 2], targets[M], strategy[N];
-    static uint64_t even[S], odd[S], area[8 * (N + 2) * S + 4 * N + 2 * M + 272];
+    static uint64_t even[S], odd[S], area[8 * (N + 2) * S + 4 * N + 2 * M + 272 + 2064 * S];
     const size_t w = reckonbough_work_words(N, M);
     for (size_t v = 0, m = 0; v < N; v++) {
         priorities[v] = v % 2 == 0 ? 2 : 1;
@@ -247,6 +272,9 @@ static void most_vertices(void)
     print("priority_promotion of 4,096 vertices",
           reckonbough_priority_promotion(CHAIN, UINT64_MAX, even, S, odd, S, strategy, N, area, w, &place, &count));
     print("check of it", reckonbough_check(CHAIN, even, S, odd, S, strategy, N, area, w, &place, &count));
+    print("quasi_polynomial of 4,096 vertices",
+          reckonbough_quasi_polynomial(CHAIN, even, S, odd, S, area, reckonbough_opinion_words(N, M), &place, &count));
+    print("check of its sets", reckonbough_check(CHAIN, even, S, odd, S, strategy, N, area, w, &place, &count));
     print("solitaire of 4,096 vertices", reckonbough_solitaire(CHAIN, even, S, area, w, &place, &count));
     static uint8_t text[RECKONBOUGH_MAX_TEXT];
     print("write of 4,096 vertices", reckonbough_write(CHAIN, text, sizeof text, &place, &count));
@@ -261,6 +289,7 @@ int main(void)
     no_vertices();
     players();
     without_strategy();
+    second_opinion();
     mending();
     as_text();
     loops();

@@ -44,6 +44,11 @@ pub fn near(n: usize) -> Game {
     random(n, 2, 8, 3)
 }
 
+/// One or two edges a vertex, anywhere, 64 priorities.
+pub fn few(n: usize) -> Game {
+    random(n, 2, 64, n)
+}
+
 /// The game with vertices added up to n: each leads to itself, with the highest priority, so that the recursion drops them at
 /// once and only the size of the tables stays.
 pub fn padded(game: &Game, n: usize) -> Game {

@@ -1,6 +1,7 @@
 //! bench SVG: prints the tables, writes the plot. bench texts: the table of the reader and the writer alone.
 
 mod families;
+mod opinion;
 mod plot;
 mod reading;
 mod timing;
@@ -55,6 +56,8 @@ fn table() {
             }
         }
     }
+    games.push(("100 vertices, 64 priorities", families::few(100)));
+    opinion::print(&games);
 }
 
 fn print_row(name: &str, game: &Game, solver: Solver, row: &Row) {

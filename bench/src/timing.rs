@@ -107,17 +107,17 @@ impl PortTimes {
 
 /// The times taken so far, in milliseconds of the thread's own processor time. Short work is repeated within one reading of the
 /// clock, about half a millisecond long.
-struct Times {
+pub struct Times {
     each: Vec<f64>,
     repeats: u32,
 }
 
 impl Times {
-    fn new() -> Self {
+    pub fn new() -> Self {
         Times { each: Vec::new(), repeats: 1 }
     }
 
-    fn time(&mut self, mut work: impl FnMut()) {
+    pub fn time(&mut self, mut work: impl FnMut()) {
         let begin = thread_ms();
         (0..self.repeats).for_each(|_| work());
         let each = (thread_ms() - begin) / f64::from(self.repeats);
@@ -130,7 +130,7 @@ impl Times {
     }
 
     /// The time that a quarter of the turns kept below: neither a clock that jumps now and then nor other work tells much.
-    fn ms(mut self) -> f64 {
+    pub fn ms(mut self) -> f64 {
         self.each.sort_by(f64::total_cmp);
         self.each[self.each.len() / 4]
     }

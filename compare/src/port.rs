@@ -72,6 +72,14 @@ pub fn priority_promotion(game: &Game, budget: u64, lent: &mut Lent) -> Answer {
         lent.work.as_mut_ptr() => *mut u64, lent.work.len() => usize))
 }
 
+/// The work area is lent apart, as it is larger.
+pub fn quasi_polynomial(game: &Game, lent: &mut Lent, work: &mut [u64]) -> Answer {
+    door!(reckonbough_quasi_polynomial(game,
+        lent.even.as_mut_ptr() => *mut u64, lent.even.len() => usize,
+        lent.odd.as_mut_ptr() => *mut u64, lent.odd.len() => usize,
+        work.as_mut_ptr() => *mut u64, work.len() => usize))
+}
+
 /// The set is lent as `even`.
 pub fn solitaire(game: &Game, lent: &mut Lent) -> Answer {
     door!(reckonbough_solitaire(game,

@@ -10,7 +10,7 @@ use crate::game::{won_by, words_of, Game};
 use crate::generate::Numbers;
 use crate::port::{self, Lent};
 use crate::reference::attractor::{attractor, entries_hold, looks};
-use crate::reference::tables::work_words;
+use crate::reference::tables::{set_words, work_words};
 use crate::reference::{compaction, Answer};
 
 pub use refusals::boundaries;
@@ -22,6 +22,7 @@ pub fn compare(game: &Game, want: &Want) -> Result<u64, String> {
     let winners = want.winners.as_deref();
     let zielonka = solver("port: zielonka", port::zielonka, game, winners, want.calls)?;
     let promotion = solver("port: priority_promotion", port::priority_promotion, game, winners, want.rounds)?;
+    opinion(game, winners, &[&zielonka, &promotion])?;
     solitaire(game, want)?;
     loops::compare(game, want.solitaire.as_deref())?;
     compact(game)?;
@@ -92,6 +93,27 @@ fn zeroed(name: &str, game: &Game, lent: &Lent) -> Result<(), String> {
 /// All that is lent but the work area.
 fn outputs(lent: &Lent) -> Lent {
     Lent { work: Vec::new(), ..lent.clone() }
+}
+
+/// The second opinion against the winners and against both other solvers of the port; with a word too few it is refused.
+fn opinion(game: &Game, winners: Option<&[u8]>, others: &[&Option<Lent>]) -> Result<(), String> {
+    let words = work_words(game.n(), game.m()) + 2_064 * set_words(game.n());
+    let (mut lent, mut work) = (Lent::junk(game), vec![0xfeed_feed_feed_feed; words + 3]);
+    same("port: quasi_polynomial", &Answer::yes(0), &port::quasi_polynomial(game, &mut lent, &mut work))?;
+    if let Some(winners) = winners {
+        same("port: quasi_polynomial, Even's set", &won_by(winners, 0), &lent.even)?;
+        same("port: quasi_polynomial, Odd's set", &won_by(winners, 1), &lent.odd)?;
+    }
+    for other in others.iter().copied().flatten() {
+        same("port: quasi_polynomial and another solver, Even's set", &other.even, &lent.even)?;
+        same("port: quasi_polynomial and another solver, Odd's set", &other.odd, &lent.odd)?;
+    }
+    let zeros = work.iter().take_while(|word| **word == 0).count();
+    same("port: quasi_polynomial, work words zero", &words, &zeros)?;
+    same("port: quasi_polynomial, words beyond", &vec![0xfeed_feed_feed_feed; 3], &work[words..].to_vec())?;
+    let mut short = Lent::junk(game);
+    same("port: quasi_polynomial, short work", &Answer::no(10, 0), &port::quasi_polynomial(game, &mut short, &mut work[..words - 1]))?;
+    same("port: quasi_polynomial, nothing written", &Lent::junk(game), &short)
 }
 
 fn solitaire(game: &Game, want: &Want) -> Result<(), String> {

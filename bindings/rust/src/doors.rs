@@ -22,6 +22,15 @@ pub fn work_words(n: usize, m: usize) -> usize {
     8 * (n + 2) * set_words(n) + 4 * n + 2 * m + 272
 }
 
+/// The W of [`quasi_polynomial`], 2,064 s words more.
+///
+/// # Panics
+///
+/// In a debug build, with an n so far beyond the limits that W is no `usize`.
+pub fn opinion_words(n: usize, m: usize) -> usize {
+    work_words(n, m) + 2_064 * set_words(n)
+}
+
 // As include/reckonbough.h declares them.
 #[rustfmt::skip]
 extern "C" {
@@ -66,6 +75,16 @@ extern "C" {
         even: *mut u64, even_length: usize,
         odd: *mut u64, odd_length: usize,
         strategy: *mut u16, strategy_length: usize,
+        work: *mut u64, work_length: usize,
+        place: *mut u64, count: *mut u64,
+    ) -> u64;
+    fn reckonbough_quasi_polynomial(
+        owners: *const u8, owners_length: usize,
+        priorities: *const u16, priorities_length: usize,
+        offsets: *const u16, offsets_length: usize,
+        targets: *const u16, targets_length: usize,
+        even: *mut u64, even_length: usize,
+        odd: *mut u64, odd_length: usize,
         work: *mut u64, work_length: usize,
         place: *mut u64, count: *mut u64,
     ) -> u64;
@@ -249,6 +268,14 @@ pub fn priority_promotion(
         reckonbough_priority_promotion, tables, budget,
         even.as_mut_ptr(), even.len(), odd.as_mut_ptr(), odd.len(),
         strategy.as_mut_ptr(), strategy.len(), work.as_mut_ptr(), work.len()
+    }
+}
+
+/// A second opinion by the quasi-polynomial recursion, the sets alone, in [`opinion_words`] words or more: 0 or 1 to 10.
+pub fn quasi_polynomial(tables: Tables<'_>, even: &mut [u64], odd: &mut [u64], work: &mut [u64]) -> Answer {
+    call! {
+        reckonbough_quasi_polynomial, tables,
+        even.as_mut_ptr(), even.len(), odd.as_mut_ptr(), odd.len(), work.as_mut_ptr(), work.len()
     }
 }
 

@@ -1,7 +1,7 @@
 //! A game that was checked, with the solvers as its methods.
 #![forbid(unsafe_code)]
 
-use crate::doors::{self, set_words, work_words};
+use crate::doors::{self, opinion_words, set_words, work_words};
 use crate::{Answer, Refusal, MAX_TEXT, NONE};
 
 /// Even or Odd; `player as u8` is the number in the tables.
@@ -74,6 +74,15 @@ impl Solved {
             Player::Even
         }
     }
+}
+
+/// A second opinion: who wins where, without choices.
+#[derive(Clone, Debug, PartialEq, Eq)]
+pub struct Opinion {
+    /// Whether Even wins, for each vertex.
+    pub even: Vec<bool>,
+    /// Whether Odd wins, for each vertex.
+    pub odd: Vec<bool>,
 }
 
 /// An attractor.
@@ -277,6 +286,24 @@ impl Game {
     /// `u64::MAX` asks for an answer however long it takes.
     pub fn solve_priority_promotion(&self, budget: u64) -> Result<Solved, Refusal> {
         self.solve(doors::priority_promotion, budget)
+    }
+
+    /// A second opinion, by the quasi-polynomial recursion: the same sets by another way, without a strategy and without a budget.
+    /// It shares the tables, the sets, the predecessors and the attractor with the other two solvers.
+    ///
+    /// ```
+    /// # use reckonbough::{Game, Player::*};
+    /// // a vertex that leads to itself: a dominion of one vertex
+    /// let opinion = Game::new(&[(Even, 0, &[0])])?.solve_quasi_polynomial();
+    /// assert_eq!((opinion.even, opinion.odd), (vec![true], vec![false]));
+    /// # Ok::<(), reckonbough::Refusal>(())
+    /// ```
+    pub fn solve_quasi_polynomial(&self) -> Opinion {
+        let (mut even, mut odd) = (self.set(), self.set());
+        let mut work = vec![0; opinion_words(self.vertices(), self.edges())];
+        let answer = doors::quasi_polynomial(self.tables(), &mut even, &mut odd, &mut work);
+        answer.result().expect("a checked game with buffers that fit is answered");
+        Opinion { even: self.members(&even), odd: self.members(&odd) }
     }
 
     fn solve(&self, solver: Solver, budget: u64) -> Result<Solved, Refusal> {

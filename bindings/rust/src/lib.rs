@@ -23,7 +23,7 @@ pub mod doors;
 mod game;
 
 pub use answer::{Answer, Refusal};
-pub use game::{Attracted, Game, Mended, Player, Reader, Run, Solved, Tables};
+pub use game::{Attracted, Game, Mended, Opinion, Player, Reader, Run, Solved, Tables};
 
 /// A strategy entry that chooses nothing.
 pub const NONE: u16 = 65_535;

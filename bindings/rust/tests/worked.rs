@@ -34,8 +34,11 @@ fn expect(game: &Game, solved: Solved, winners: &[Player], count: u64) {
     assert_eq!(game.check(&solved.even, &solved.odd, &solved.strategy), Ok(()));
 }
 
-/// Both solvers, with a budget that is just enough and with one that is not.
+/// Both solvers, with a budget that is just enough and with one that is not; and the second opinion.
 fn solve(game: &Game, winners: &[Player], calls: u64, rounds: u64) {
+    let opinion = game.solve_quasi_polynomial();
+    assert_eq!(opinion.even, winners.iter().map(|winner| *winner == Even).collect::<Vec<_>>());
+    assert_eq!(opinion.odd, winners.iter().map(|winner| *winner == Odd).collect::<Vec<_>>());
     expect(game, game.solve_zielonka(calls).unwrap(), winners, calls);
     expect(game, game.solve_priority_promotion(rounds).unwrap(), winners, rounds);
     assert_eq!(game.solve_zielonka(calls - 1), Err(Refusal::OverBudget));

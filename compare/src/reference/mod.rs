@@ -5,6 +5,7 @@ pub mod attractor;
 pub mod checker;
 pub mod compaction;
 pub mod mending;
+pub mod opinion;
 pub mod promotion;
 pub mod solitaire;
 pub mod tables;

@@ -13,6 +13,7 @@ pub mod Promotion
 pub mod Solver
 pub mod Attracts
 pub mod Solitaire
+pub mod SecondOpinion
 pub mod Checker
 pub mod Compaction
 pub mod Pgsolver

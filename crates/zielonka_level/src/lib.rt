@@ -3,6 +3,7 @@
 mod highest;
 mod level;
 
+pub use highest::collect;
 pub use highest::get_highest_prio;
 pub use level::attract_highest;
 pub use level::attract_lost;

@@ -1,0 +1,222 @@
+-- `run` meets its contract: each call asks for what the calls before it left, and what is copied out are the winning sets.
+use mathlib.Core.Logic.{inl, inr}
+use mathlib.Core.Path.{_≡_, sym, ap, _∙_}
+use Prim.Native.Nat.{ℕ, _+_, _≤_}
+use native.Mathlib.Omega.{arith}
+use borrow.Author.Needs.{needs}
+use lib.ListN.{length}
+use Rattle.rules.specs.Tables.{Tables, words, tablesOf}
+use Rattle.theory.specs.Tables.{accepted-sound}
+use Rattle.area.specs.Lent.{part-is, part-length, words-few}
+use Rattle.sets.specs.Laws.{cleared-all}
+use Rattle.quasi_polynomial.specs.Running.{allAt, run-fits, run-preparable, run-called, run-long, run-opinion}
+use Rattle.quasi_polynomial.proofs.door.run.Statement.{statement}
+use Rattle.quasi_polynomial.proofs.door.run.Tie as tie
+
+-- the tables as lent
+abbrev tables : tie.Start → Tables
+tables g = tablesOf (g .args .owners .now) (g .args .priorities .now) (g .args .offsets .now) (g .args .targets .now)
+
+-- the calls in order, and where the function begins
+abbrev start : tie.After-slice-known3 → tie.Start
+start c = c .before .before .before .before .before .before .before
+
+abbrev begun : tie.After-prepare → tie.Start
+begun c = start (c .before .before)
+
+abbrev prepared : tie.After-copy-with → tie.After-prepare
+prepared c = c .before .before .before .before
+
+abbrev copied : tie.After-solve-even → tie.After-copy-with
+copied c = c .before .before .before .before
+
+abbrev solved : tie.After-difference-with → tie.After-solve-even
+solved c = c .before .before .before .before
+
+abbrev reduced : tie.After-copy-from → tie.After-difference-with
+reduced c = c .before .before .before .before .before .before
+
+abbrev first : tie.After-copy-from2 → tie.After-copy-from
+first c = c .before .before .before .before .before .before
+
+abbrev whole : tie.After-difference-with → tie.Start
+whole c = begun (prepared (copied (solved c)))
+
+-- the numbers are small
+few :
+    (g : tie.Start) →
+    (length (g .args .owners .now) ≤ 4096) × (length (g .args .targets .now) ≤ 16384) × (length (g .args .even .now) ≤ 64)
+few g =
+    let f = accepted-sound (tables g) (g .pre .accepted) in
+    let s = words-few (length (g .args .owners .now)) (f .few-vertices) in
+    (f .few-vertices, f .few-edges, omega (arith, g .pre .even-size))
+
+-- both sets stand in the work area
+fits : (g : tie.Start) → allAt (tables g) + length (g .args .even .now) + length (g .args .even .now) ≤ length (g .args .work .now)
+fits g = run-fits (g .pre)
+
+-- the work area stays as long
+long : (d : tie.After-difference-with) → length (d .difference-with .last .0) ≡ length (whole d .args .work .now)
+long d =
+    let e = solved d in
+    let k = copied e in
+    run-long (whole d .pre) (prepared k .prepare .ensures) (k .copy-with .ensures) (e .solve-even .ensures)
+    (d .difference-with .ensures)
+
+add-all : tie.Need-add-all
+add-all c = search needs
+
+add-all-2 : tie.Need-add-all-2
+add-all-2 c = search needs
+
+add-all-3 : tie.Need-add-all-3
+add-all-3 c = omega (arith, few (start c))
+
+add-all-4 : tie.Need-add-all-4
+add-all-4 c = omega (arith, few (start c))
+
+add-all-5 : tie.Need-add-all-5
+add-all-5 c = omega (arith, few (start c))
+
+add-base : tie.Need-add-base
+add-base c = omega (arith, few (start c))
+
+prepare-requires : tie.Need-prepare-requires
+prepare-requires c κs = run-preparable (start (c .before) .pre)
+
+copy-with-requires : tie.Need-copy-with-requires
+copy-with-requires c κs =
+    let p = c .before .before .before in
+    let g = begun p in
+    let room = fits g in
+    let same-size = p .prepare .ensures .long in
+    record { into-fits = omega arith; from-fits = omega arith; apart = inr (omega arith) }
+
+solve-even-requires : tie.Need-solve-even-requires
+solve-even-requires c κs =
+    let k = c .before .before .before in
+    let p = prepared k in
+    run-called (begun p .pre) (p .prepare .ensures) (k .copy-with .ensures)
+
+difference-with-requires : tie.Need-difference-with-requires
+difference-with-requires c κs =
+    let e = c .before .before .before in
+    let k = copied e in
+    let p = prepared k in
+    let room = fits (begun p) in
+    let long₁ = p .prepare .ensures .long in
+    let long₂ = k .copy-with .ensures .long in
+    let long₃ = e .solve-even .ensures .stays .long in
+    record { into-fits = omega arith; from-fits = omega arith; apart = inl (omega arith) }
+
+add-copy-from : tie.Need-add-copy-from
+add-copy-from c = omega (arith, few (whole (c .before .before .before)))
+
+mul-copy-from : tie.Need-mul-copy-from
+mul-copy-from c = omega (arith, few (whole (c .before .before .before)))
+
+sub-copy-from : tie.Need-sub-copy-from
+sub-copy-from c = search needs
+
+part-copy-from-start : tie.Need-part-copy-from-start
+part-copy-from-start c = search needs
+
+part-copy-from-end : tie.Need-part-copy-from-end
+part-copy-from-end c = let d = c .before .before .before .before in omega (arith, fits (whole d), long d)
+
+copy-from-requires : tie.Need-copy-from-requires
+copy-from-requires c κs =
+    let d = c .before .before .before .before .before in
+    let g = whole d in
+    let s = length (g .args .even .now) in
+    let base = allAt (tables g) + s in
+    sym
+    (ap length (part-is base s (d .difference-with .last .0)) ∙
+    part-length base s (d .difference-with .last .0) (omega (arith, fits g, long d)))
+
+add-copy-from-2 : tie.Need-add-copy-from-2
+add-copy-from-2 c = omega (arith, few (whole (reduced (c .before .before .before))))
+
+mul-copy-from-2 : tie.Need-mul-copy-from-2
+mul-copy-from-2 c = omega (arith, few (whole (reduced (c .before .before .before))))
+
+sub-copy-from-2 : tie.Need-sub-copy-from-2
+sub-copy-from-2 c = search needs
+
+part-copy-from-start-2 : tie.Need-part-copy-from-start-2
+part-copy-from-start-2 c = search needs
+
+part-copy-from-end-2 : tie.Need-part-copy-from-end-2
+part-copy-from-end-2 c = let d = reduced (c .before .before .before .before) in omega (arith, fits (whole d), long d)
+
+copy-from-requires-2 : tie.Need-copy-from-requires-2
+copy-from-requires-2 c κs =
+    let d = reduced (c .before .before .before .before .before) in
+    let g = whole d in
+    let s = length (g .args .even .now) in
+    g .pre .odd-size ∙
+    sym
+    (ap length (part-is (allAt (tables g)) s (d .difference-with .last .0)) ∙
+    part-length (allAt (tables g)) s (d .difference-with .last .0) (omega (arith, fits g, long d)) ∙
+    g .pre .even-size)
+
+clear-requires : tie.Need-clear-requires
+clear-requires c κs = search needs
+
+same-length : tie.Need-same-length
+same-length c = search needs
+
+same-length-2 : tie.Need-same-length-2
+same-length-2 c = search needs
+
+same-length-3 : tie.Need-same-length-3
+same-length-3 c = search needs
+
+returns : tie.Need-returns
+returns c =
+    let o = c .before .before .before .before .before .before in
+    let e = first o in
+    let d = reduced e in
+    let v = solved d in
+    let k = copied v in
+    let g = whole d in (
+      cleared-all (g .args .work .now) (d .difference-with .last .0) (long d) (c .before .before .clear .ensures),
+      run-opinion (g .pre) (prepared k .prepare .ensures) (k .copy-with .ensures) (v .solve-even .ensures)
+          (d .difference-with .ensures)
+          (e .copy-from .last .0)
+          (o .copy-from2 .last .0)
+          (e .copy-from .ensures)
+          (o .copy-from2 .ensures),
+    )
+
+pub run-spec : {M : Type 1} → statement M
+run-spec =
+    tie.close
+    (tie.spec
+    add-all
+    add-all-2
+    add-all-3
+    add-all-4
+    add-all-5
+    add-base
+    prepare-requires
+    copy-with-requires
+    solve-even-requires
+    difference-with-requires
+    add-copy-from
+    mul-copy-from
+    sub-copy-from
+    part-copy-from-start
+    part-copy-from-end
+    copy-from-requires
+    add-copy-from-2
+    mul-copy-from-2
+    sub-copy-from-2
+    part-copy-from-start-2
+    part-copy-from-end-2
+    copy-from-requires-2
+    clear-requires
+    same-length
+    same-length-2
+    same-length-3
+    returns)

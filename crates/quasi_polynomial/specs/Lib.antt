@@ -1,0 +1,5 @@
+-- The checks 1 to 10 with the larger work area (Checks), from the recursion on all vertices to what the public solver leaves
+-- (Running), and what its contract fixes (Promises).
+pub mod Checks
+pub mod Running
+pub mod Promises

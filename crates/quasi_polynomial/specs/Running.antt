@@ -1,0 +1,263 @@
+-- From the solver for Even on all vertices to what the public solver leaves: the winning sets, and the work area cleared.
+use mathlib.Core.Bool.{Bool, true, false, _&&_, not}
+use mathlib.Core.List.{List, _++_}
+use mathlib.Core.Logic.{inl, inr}
+use mathlib.Core.Path.{_≡_, refl, sym, ap, ap₂, subst, fun-ext, _∙_}
+use Prim.Native.Nat.{ℕ, _+_, _-_, _*_, _≤_, _<_}
+use native.Mathlib.Nat.{mul-le-mul-right, one-mul}
+use native.Mathlib.Omega.{arith}
+use borrow.Author.Tests.{ltb-true}
+use lib.ListN.{length, take, drop, replicate, length-take}
+use Rattle.rules.specs.Counting.{Set, without}
+use Rattle.rules.specs.Game.{Player, Even, Odd, everywhere}
+use Rattle.rules.specs.Outcome.{Outcome, Verdict, none, refused, outcome, answered}
+use Rattle.rules.specs.SecondOpinion.{LentSets, opinionWords, opinionChecks, OpinionAnswered, OpinionLeaves, GivesOpinion}
+use Rattle.rules.specs.Tables.{Tables, gameOf, vertices, edgesIn, words, workWords, Accepted}
+use Rattle.rules.specs.Winning.{WinningSets}
+use Rattle.rules.specs.Words.{Holds, setOf, bit}
+use Rattle.rules.specs.Zielonka.{wonBy}
+use Rattle.theory.specs.AttractorComplement.{TotalIn}
+use Rattle.theory.specs.Basics.{not-true-is-false, and-left}
+use Rattle.theory.specs.Tables.{accepted-total, accepted-priority}
+use Rattle.theory.specs.Zielonka.{everywhere-below, everywhere-total}
+use Rattle.sets.specs.After.{Combined, other}
+use Rattle.sets.specs.Laws.{other-bit}
+use Rattle.area.specs.Area.{free, setAt, wordsAt}
+use Rattle.area.specs.Lent.{part-is, part-length}
+use Rattle.area.specs.SetsAt.{set-kept, set-copied-here, set-reduced}
+use Rattle.solver.specs.Preparing.{Preparable, Prepared}
+use Rattle.attractor.specs.Running.{listed-kept}
+use Rattle.separation.specs.Separates.{Separates, separates-over}
+use Rattle.separation.specs.Stages.{separates-asked}
+use Rattle.separation.specs.Opinion.{opinion-wins}
+use Rattle.quasi_level.specs.Level.{onLevel}
+use Rattle.quasi_level.specs.Pieces.{sound-edges}
+use Rattle.quasi_level.specs.declared.passes.Sharp.{Sharp}
+use Rattle.quasi_solvers.specs.Calling.{Called, Solved}
+use Rattle.quasi_polynomial.specs.Checks.{Passed}
+
+-- what `run` asks for: accepted tables, sets of the right sizes, and W words
+pub record Runnable (t : Tables) (even odd work : List ℕ) : Type 0 where
+  pub accepted : Accepted t
+  pub even-size : length even ≡ words (vertices t)
+  pub odd-size : length odd ≡ words (vertices t)
+  pub room : length work ≡ opinionWords (vertices t) (edgesIn t)
+
+-- the two sets are the winning sets
+pub record Opinion (t : Tables) (evens odds : List ℕ) : Type 0 where
+  pub won : Player → Set
+  pub wins : WinningSets (gameOf t) won
+  pub even : Holds (vertices t) (won Even) evens
+  pub odd : Holds (vertices t) (won Odd) odds
+
+-- where the set of all vertices stands
+abbrev pub allAt : Tables → ℕ
+allAt t = free (vertices t) (edgesIn t)
+
+-- W words have room for the two sets and a level for each height
+levels-fit : (n m : ℕ) → free n m + words n + 2064 * words n ≤ opinionWords n m
+unfolding opinionWords workWords
+levels-fit n m =
+    let wide : 1 * words n ≤ 8 * (n + 2) * words n = mul-le-mul-right (words n) (omega arith) in omega arith
+
+module _ {t : Tables} {even odd w₀ : List ℕ} (given : Runnable t even odd w₀) where
+  abbrev n : ℕ
+  n = vertices t
+
+  fits : allAt t + length even + 2064 * length even ≤ length w₀
+  fits = omega (arith, levels-fit (vertices t) (edgesIn t), given .room, given .even-size)
+
+  -- both sets stand in the work area
+  pub run-fits : allAt t + length even + length even ≤ length w₀
+  run-fits = omega (arith, fits)
+
+  -- what `prepare` asks for
+  pub run-preparable : Preparable (vertices t) (t .offsets) (t .targets) (length even) (allAt t) w₀
+  run-preparable =
+      record {
+        edges = sound-edges t (given .accepted);
+        size = given .even-size;
+        low = omega arith;
+        high = omega (arith, fits);
+      }
+
+  module _ {w₁ w₂ : List ℕ}
+      (prepared : Prepared (vertices t) (t .offsets) (t .targets) (allAt t) w₀ w₁)
+      (copied : Combined other (allAt t + length even) (allAt t) (length even) w₁ w₂)
+    where
+      size : length even ≡ words (vertices t)
+      size = given .even-size
+
+      copied′ : Combined other (allAt t + words (vertices t)) (allAt t) (words (vertices t)) w₁ w₂
+      copied′ = rw size at copied
+
+      -- all vertices stand in both sets
+      all : (v : ℕ) → onLevel t (allAt t) w₂ v ≡ everywhere (gameOf t) v
+      unfolding gameOf
+      all v =
+          set-kept (vertices t) (allAt t) w₁ w₂ (λ i l h. copied′ .rest i (inl (omega arith))) v ∙ prepared .full v
+
+      narrowed : (v : ℕ) → onLevel t (allAt t + length even) w₂ v ≡ everywhere (gameOf t) v
+      unfolding gameOf
+      narrowed v =
+          ap (λ (k : ℕ). onLevel t (allAt t + k) w₂ v) size ∙
+          set-copied-here (vertices t) (allAt t + words (vertices t)) (allAt t) w₁ w₂ copied′ v ∙
+          prepared .full v
+
+      -- what the solver for Even asks for
+      pub run-called : Called t Even (allAt t + length even) 257 w₂
+      unfolding gameOf
+      run-called =
+          record {
+            accepted = given .accepted;
+            table =
+                listed-kept (vertices t) (t .offsets) (t .targets) w₁ w₂ (copied .long)
+                (λ i l. copied .rest i (inl (omega arith)))
+                (prepared .listed);
+            low = omega arith;
+            room =
+                let levels : words (vertices t) * (257 + 1) ≡ 258 * words (vertices t) = omega arith in
+                omega (arith, fits, copied .long, prepared .long, size);
+            below = λ v p. everywhere-below (gameOf t) v (sym (narrowed v) ∙ p);
+            total =
+                subst (λ (S : Set). TotalIn (gameOf t) S) (sym (fun-ext narrowed))
+                (everywhere-total (gameOf t) (accepted-total t (given .accepted)));
+            under = λ v p. let small = accepted-priority t (given .accepted) v in omega arith;
+            turn = refl;
+          }
+
+      module _ {w₃ w₄ : List ℕ} {r : Sharp}
+          (solved : Solved t Even (allAt t + length even) (vertices t) (vertices t) w₂ w₃ r)
+          (reduced : Combined _-_ (allAt t) (allAt t + length even) (length even) w₃ w₄)
+        where
+          reduced′ : Combined _-_ (allAt t) (allAt t + words (vertices t)) (words (vertices t)) w₃ w₄
+          reduced′ = rw size at reduced
+
+          pub run-long : length w₄ ≡ length w₀
+          run-long = reduced .long ∙ solved .stays .long ∙ copied .long ∙ prepared .long
+
+          -- Even's set, and what is left of all vertices without it
+          abbrev R : Set
+          R = onLevel t (allAt t + length even) w₃
+
+          parts : Separates (gameOf t) Even (everywhere (gameOf t)) (gameOf t .size) (gameOf t .size) R
+          unfolding gameOf
+          parts = separates-over narrowed (λ v. refl) (separates-asked (r .keeps) (r .drops) (solved .parts))
+
+          evens : (v : ℕ) → setAt (vertices t) (allAt t + length even) w₄ v ≡ R v
+          evens v =
+              set-kept (vertices t) (allAt t + length even) w₃ w₄
+              (λ i l h. reduced .rest i (inr (omega (arith, size)))) v
+
+          odds : (v : ℕ) → setAt (vertices t) (allAt t) w₄ v ≡ without (everywhere (gameOf t)) R v
+          odds v =
+              set-reduced (vertices t) (allAt t) (allAt t + words (vertices t)) w₃ w₄ reduced′ v ∙
+              ap₂ (λ (x y : Bool). x && not y)
+              (set-kept (vertices t) (allAt t) w₂ w₃ (λ i l h. solved .stays .lower i l (omega (arith, size))) v ∙ all v)
+              (ap (λ (k : ℕ). onLevel t (allAt t + k) w₃ v) (sym size))
+
+          -- a set of the work area that has no vertex at n or above, copied out
+          holds :
+              (at : ℕ) (S : Set) (set : List ℕ) →
+              at + length even ≤ length w₄ →
+              ((v : ℕ) → setAt (vertices t) at w₄ v ≡ S v) →
+              ((v : ℕ) → S v ≡ true → v < vertices t) →
+              set ≡ take ((at + length even) - at) (drop at w₄) →
+              Holds (vertices t) S set
+          unfolding setOf
+          holds at S set room same below is =
+              rw (is, part-is at (length even) w₄, size)
+              (record {
+                long = part-length at (words (vertices t)) w₄ (omega (arith, size));
+                bits = λ v l. same v;
+                clear = λ v l. bare v (same v ∙ not-true-is-false (S v) (λ p. let less = below v p in omega arith));
+              })
+            where
+              bare : (v : ℕ) → setAt (vertices t) at w₄ v ≡ false → bit (wordsAt (vertices t) at w₄) v ≡ 0
+              bare v e = other-bit (wordsAt (vertices t) at w₄) v e
+
+          -- **What is copied out are the winning sets.**
+          pub run-opinion :
+              (even′ odd′ : List ℕ) →
+              even′ ≡ take ((allAt t + length even + length even) - (allAt t + length even)) (drop (allAt t + length even) w₄) →
+              odd′ ≡ take ((allAt t + length even) - allAt t) (drop (allAt t) w₄) →
+              Opinion t even′ odd′
+          unfolding gameOf
+          run-opinion even′ odd′ e o =
+              record {
+                won = wonBy Even R (without (everywhere (gameOf t)) R);
+                wins = opinion-wins (gameOf t) (accepted-total t (given .accepted)) R parts;
+                even =
+                    holds (allAt t + length even) R even′ (omega (arith, fits, run-long)) evens
+                    (λ v p. everywhere-below (gameOf t) v (parts .inside v p))
+                    e;
+                odd =
+                    holds (allAt t) (without (everywhere (gameOf t)) R) odd′ (omega (arith, fits, run-long)) odds
+                    (λ v p. everywhere-below (gameOf t) v (and-left (everywhere (gameOf t) v) _ p))
+                    o;
+              }
+
+-- ---- the public solver
+
+-- a refusal is given as it is, and nothing is written
+leaves-refused : (v : Verdict) (t : Tables) (l : LentSets) → (v ≡ none → ⊥) → OpinionLeaves v t l l
+leaves-refused none t l h = absurd (h refl)
+leaves-refused (refused k p) t l h = refl
+
+pub opinion-refused :
+    (t : Tables) (l : LentSets) (o : Outcome) →
+    o ≡ outcome (opinionChecks t l) (answered 0) →
+    (o .number ≡ 0 → ⊥) →
+    GivesOpinion t l l o
+opinion-refused t l o e h =
+    record {
+      gives = e;
+      leaves =
+          leaves-refused (opinionChecks t l) t l
+          (λ z. h (ap (λ (x : Outcome). x .number) (e ∙ ap (λ (v : Verdict). outcome v (answered 0)) z)));
+    }
+
+-- an answer
+pub opinion-answered :
+    (t : Tables) (before after : LentSets) →
+    opinionChecks t before ≡ none →
+    Opinion t (after .even) (after .odd) →
+    after .work ≡
+    replicate (opinionWords (vertices t) (edgesIn t)) 0 ++ drop (opinionWords (vertices t) (edgesIn t)) (before .work) →
+    GivesOpinion t before after (answered 0)
+opinion-answered t before after passed o work =
+    record {
+      gives = rw passed refl;
+      leaves = rw passed (record { won = o .won; wins = o .wins; even = o .even; odd = o .odd; work = work });
+    }
+
+-- past the checks the first W words are what the run asks for
+pub run-ready :
+    (t : Tables) (w : ℕ) (even odd work : List ℕ) →
+    w ≡ opinionWords (vertices t) (edgesIn t) →
+    Passed t (length even) (length odd) (length work) →
+    Runnable t even odd (take (w - 0) (drop 0 work))
+run-ready t w even odd work is p =
+    record {
+      accepted = p .accepted;
+      even-size = p .even-size;
+      odd-size = p .odd-size;
+      room = omega (arith, length-take (w - 0) work, p .work-size);
+    }
+
+-- the first W words zero, the words beyond as they were
+pub opinion-cleared :
+    (k w : ℕ) (work zeros : List ℕ) →
+    w ≡ k →
+    k ≤ length work →
+    zeros ≡ replicate (length (take (w - 0) (drop 0 work))) 0 →
+    take 0 work ++ (zeros ++ drop (w - 0) (drop 0 work)) ≡ replicate k 0 ++ drop k work
+opinion-cleared k w work zeros is fits e =
+    ap (λ (l : List ℕ). l ++ drop (w - 0) work) (e ∙ ap (λ (j : ℕ). replicate j 0) long) ∙
+    ap (λ (j : ℕ). replicate k 0 ++ drop j work) whole
+  where
+    long : length (take (w - 0) work) ≡ k
+    long = omega (arith, length-take (w - 0) work)
+
+    whole : w - 0 ≡ k
+    whole = omega arith
