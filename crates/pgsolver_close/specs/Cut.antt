@@ -190,8 +190,10 @@ cut-anyhow {S} {mostBytes} {first} {bytes} before after o session ends = go (roo
     At : Verdict → Type 0
     At v = Unless v o before after (Closed S before after o)
 
-    go : (v : Verdict) → roomChecks (writtenIn before .rooms) ≡ v → ReadsBy v game mostBytes bytes (writtenIn before)
-    (writtenIn after) o
+    go :
+        (v : Verdict) →
+        roomChecks (writtenIn before .rooms) ≡ v →
+        ReadsBy v game mostBytes bytes (writtenIn before) (writtenIn after) o
     go none e =
         told-at-end S mostBytes first bytes before after o a (subst At (end-fit (before .lent) (before .work) e long) ends)
         (a .standing)
