@@ -1,5 +1,5 @@
--- Where a search begins: no vertex has a word; then one vertex more gets the word n + 1 and goes to the end of the queue; or all that
--- leads to u, so that the way from u goes round.
+-- Where a search begins: no vertex has a word; then one vertex more gets the word n + 1 and goes to the end of the queue; or
+-- all that leads to u, so that the way from u goes round.
 use mathlib.Core.Bool.{true, false}
 use mathlib.Core.List.{List, [], _∷_}
 use mathlib.Core.Logic.{_⊎_, inl, inr, ⊎-elim}
@@ -15,7 +15,8 @@ use Rattle.rules.specs.Winning.{Reach}
 use Rattle.theory.specs.Basics.{clash, below-suc, count-strict, count-le}
 use Rattle.theory.specs.DepthFirst.{Marks, marks-cases, marks-keeps, marks-count}
 use Rattle.sets.specs.After.{Cleared}
-use Rattle.depth_first.specs.Area.{queue, labels, hits, Within, within-then, within-store, true-marked, marked-true, false-marked, marked-marks}
+use Rattle.depth_first.specs.Area.{queue, labels, hits, Within, within-then, within-store, true-marked, marked-true}
+use Rattle.depth_first.specs.Area.{false-marked, marked-marks}
 use Rattle.depth_first.specs.Graph.{Graph, size, edgeCount, priority, Leads, SoundGraph}
 use Rattle.depth_first.specs.Leading.{link}
 use Rattle.depth_first.specs.Walking.{Room, stored-first, stored-second, stored-else}
@@ -78,13 +79,16 @@ module _
   put = putting (labels n m) y (n + 1) (queue n m) end work
 
   at-label : labelWord G put y ≡ n + 1
-  at-label = stored-first work (labels n m + y) (n + 1) (queue n m + end) y (join-putable .word) (join-putable .place) (λ q. omega (arith, less))
+  at-label = stored-first work (labels n m + y) (n + 1) (queue n m + end) y (join-putable .word) (join-putable .place)
+      (λ q. omega (arith, less))
 
   at-place : queued G put end ≡ y
-  at-place = stored-second work (labels n m + y) (n + 1) (queue n m + end) y (join-putable .word) (join-putable .place) (λ q. omega (arith, less))
+  at-place = stored-second work (labels n m + y) (n + 1) (queue n m + end) y (join-putable .word) (join-putable .place)
+      (λ q. omega (arith, less))
 
   elsewhere : (k : ℕ) → (k ≡ labels n m + y → ⊥) → (k ≡ queue n m + end → ⊥) → getD put k 0 ≡ getD work k 0
-  elsewhere = stored-else work (labels n m + y) (n + 1) (queue n m + end) y (join-putable .word) (join-putable .place) (λ q. omega (arith, less))
+  elsewhere = stored-else work (labels n m + y) (n + 1) (queue n m + end) y (join-putable .word) (join-putable .place)
+      (λ q. omega (arith, less))
 
   label-kept : (u : ℕ) → u < n → (u ≡ y → ⊥) → labelWord G put u ≡ labelWord G work u
   label-kept u l d = elsewhere (labels n m + u) (λ q. d (omega arith)) (λ q. omega (arith, less))
@@ -113,10 +117,12 @@ module _
   put-within =
       within-then
       (within-store (queue n m) (hits n m) (labels n m + y) (n + 1) work (omega arith) (omega (arith, below)))
-      (within-store (queue n m) (hits n m) (queue n m + end) y (set work (labels n m + y) (n + 1)) (omega arith) (omega (arith, less)))
+      (within-store (queue n m) (hits n m) (queue n m + end) y (set work (labels n m + y) (n + 1)) (omega arith)
+      (omega (arith, less)))
 
   -- a vertex of the queue stood there before, or is y
-  each : (P : ℕ → ℕ → Type 0) → ((k : ℕ) → k < end → P k (queued G work k)) → P end y → (k : ℕ) → k < end + 1 → P k (queued G put k)
+  each : (P : ℕ → ℕ → Type 0) → ((k : ℕ) → k < end → P k (queued G work k)) → P end y → (k : ℕ) → k < end + 1 → P k
+      (queued G put k)
   each P was new k l =
       ⊎-elim
       (λ (q : k ≡ end).
@@ -142,7 +148,8 @@ module _
                   (λ was. let (k, l, is) = s .stands u was in (k, omega arith, place-kept k l ∙ is))
                   (marks-cases one-more u p);
               joined =
-                  each (λ k u. assigned G put u ≡ true) (λ k l. marks-keeps one-more (queued G work k) (s .joined k l)) (one-more .new);
+                  each (λ k u. assigned G put u ≡ true) (λ k l. marks-keeps one-more (queued G work k) (s .joined k l))
+                  (one-more .new);
               small = each (λ k u. priority G u ≤ G .top) (s .small) small;
               ways =
                   each (λ k u. (vs : List ℕ) × Way G put u vs × (length vs ≤ k + 1))
@@ -182,7 +189,11 @@ module _ (G : Graph) (w₀ : List ℕ) (u : ℕ) (given : Roundable G w₀ u)
 
     clear-within : Within (queue (size G) (edgeCount G)) (hits (size G) (edgeCount G)) w₀ w₁
     clear-within =
-        record { long = cleared .long; rest = λ i o. cleared .rest i (⊎-elim (λ l. inl (omega arith)) (λ h. inr (omega arith)) o) }
+        record {
+          long = cleared .long;
+          rest = λ i o. cleared .rest i
+              (⊎-elim (λ l. inl (omega arith)) (λ h. inr (omega arith)) o);
+        }
 
     rows₁ : Rows G w₁
     rows₁ = rows-kept (omega arith) clear-within (given .tables .rows)

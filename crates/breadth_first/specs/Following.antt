@@ -1,5 +1,5 @@
--- The way from a vertex, as a row of n words shows it: a word is the next vertex plus 1, and n + 1 where the way ends. And the vertices
--- of the way written one after another.
+-- The way from a vertex, as a row of n words shows it: a word is the next vertex plus 1, and n + 1 where the way ends. And the
+-- vertices of the way written one after another.
 use mathlib.Core.List.{List, [], _∷_, _++_, append-assoc}
 use mathlib.Core.Path.{_≡_, refl, sym, ap, _∙_}
 use Prim.Native.Nat.{ℕ, suc, _+_, _-_, _≤_, _<_}
@@ -84,7 +84,8 @@ module _ {n row : ℕ} {work : List ℕ} where
       let is : getD work (row + v) 0 - 1 ≡ w = omega (arith, e .word) in
       (vs, refl, rw is (record { last = y; path = r; vertex = l; ends = stop }), omega (arith, e .word))
 
-  module _ {vs before after : List ℕ} {k v : ℕ} (f : Following n row work vs before after k v) (fits : length vs ≤ length before) where
+  module _ {vs before after : List ℕ} {k v : ℕ} (f : Following n row work vs before after k v)
+      (fits : length vs ≤ length before) where
     -- there is room for one more
     pub follow-room : (k < length before) × (length after ≡ length before)
     follow-room =

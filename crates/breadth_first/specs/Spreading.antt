@@ -1,5 +1,5 @@
--- The search: what stands in its queue and in its row of words, and what it leaves. Each vertex that has a word has a way along the
--- links to where the search began, of no more vertices than stand before it in the queue and itself.
+-- The search: what stands in its queue and in its row of words, and what it leaves. Each vertex that has a word has a way along
+-- the links to where the search began, of no more vertices than stand before it in the queue and itself.
 use mathlib.Core.Bool.{true, false}
 use mathlib.Core.List.{List, _∷_}
 use mathlib.Core.Logic.{_⊎_, inl, inr, ⊎-elim}
@@ -81,7 +81,8 @@ way-kept {G} {before} {after} old w =
 
 -- the words alone show the way
 pub way-words :
-    {G : Graph} {work : List ℕ} {x : ℕ} {vs : List ℕ} → Way G work x vs → Words.Way (size G) (labels (size G) (edgeCount G)) work x vs
+    {G : Graph} {work : List ℕ} {x : ℕ} {vs : List ℕ} → Way G work x vs → Words.Way (size G)
+    (labels (size G) (edgeCount G)) work x vs
 way-words w =
     record {
       last = w .last;
@@ -124,7 +125,8 @@ module _ (G : Graph) (work : List ℕ) (head tail : ℕ) (s : Standing G work he
       }
 
   module _ (after : List ℕ) (end : ℕ)
-      (looked : Looked G work (queued G work head) (queued G work head) tail (rowStart work (queued G work head + 1)) after end) where
+      (looked : Looked G work (queued G work head) (queued G work head) tail
+      (rowStart work (queued G work head + 1)) after end) where
     -- all that leads to w has a word now
     all-seen : (u : ℕ) → Leads G u w → assigned G after u ≡ true
     all-seen u l =

@@ -4,8 +4,8 @@ use depth_first::look_back;
 ghost use Rattle.depth_first.specs.Graph.{graph};
 ghost use Rattle.breadth_first.specs.Beginning.{Roundable, Rounded};
 
-// The search among priorities of at most p that begins at what leads to u: the way from u then ends at a vertex that leads
-// to u.
+// The search among priorities of at most p that begins at what leads to u: the way from u then ends at a vertex that
+// leads to u.
 pub fn spread_round(
     priorities: &[u16],
     offsets: &[u16],

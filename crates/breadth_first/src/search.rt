@@ -3,8 +3,8 @@ use depth_first::look_back;
 ghost use Rattle.depth_first.specs.Graph.{graph};
 ghost use Rattle.breadth_first.specs.Spreading.{Standing, Spread};
 
-// Each vertex that leads to one in the queue gets that one plus 1 as its word, unless it has a word, and goes to the end
-// of the queue; those that the search begins at stand there already, with the word n + 1.
+// Each vertex that leads to one in the queue gets that one plus 1 as its word, unless it has a word, and goes to the
+// end of the queue; those that the search begins at stand there already, with the word n + 1.
 pub fn spread(
     priorities: &[u16],
     offsets: &[u16],

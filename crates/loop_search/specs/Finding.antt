@@ -1,5 +1,5 @@
--- One priority: mark the good parts, begin at the vertices of exactly that priority in them, and see who reaches one. And one priority
--- after another.
+-- One priority: mark the good parts, begin at the vertices of exactly that priority in them, and see who reaches one. And one
+-- priority after another.
 use mathlib.Core.Bool.{Bool, true, false, _||_}
 use mathlib.Core.List.{List}
 use mathlib.Core.Logic.{_⊎_, inl, inr, ⊎-elim}
@@ -12,7 +12,8 @@ use lib.ListN.{length, getD}
 use Rattle.rules.specs.Winning.{Reach}
 use Rattle.theory.specs.Basics.{clash, or-right, or-cases, below-suc}
 use Rattle.theory.specs.Chosen.{chosenPart}
-use Rattle.depth_first.specs.Area.{marks, queue, labels, hits, behind, Within, Cleared, marked, true-marked, marked-true, false-marked}
+use Rattle.depth_first.specs.Area.{marks, queue, labels, hits, behind, Within, Cleared, marked, true-marked, marked-true}
+use Rattle.depth_first.specs.Area.{false-marked}
 use Rattle.depth_first.specs.Graph.{Graph, graph, gameIn, Leads, SoundGraph}
 use Rattle.depth_first.specs.Seeking.{assigned, Rows, rows-kept}
 use Rattle.breadth_first.specs.Spreading.{Way}
@@ -46,9 +47,11 @@ pub record Found (priorities offsets targets entries : List ℕ) (p : ℕ) (befo
   pub long : length after ≡ length before
   pub ready : Ready priorities offsets targets entries after
   pub led :
-      (u : ℕ) → assigned (graph priorities offsets targets entries 255) after u ≡ true → Led priorities offsets targets entries p after u
+      (u : ℕ) → assigned (graph priorities offsets targets entries 255) after u ≡ true →
+      Led priorities offsets targets entries p after u
   pub unled :
-      (u : ℕ) → assigned (graph priorities offsets targets entries 255) after u ≡ false → Unled priorities offsets targets entries p u
+      (u : ℕ) → assigned (graph priorities offsets targets entries 255) after u ≡ false →
+      Unled priorities offsets targets entries p u
 
 pub record Seekable (priorities offsets targets entries : List ℕ) (parity : ℕ) (work : List ℕ) (v : ℕ) : Type 0 where
   pub ready : Ready priorities offsets targets entries work
@@ -70,7 +73,8 @@ pub record Sought (priorities offsets targets entries : List ℕ) (parity v : �
 
 -- ---- laws of one priority
 
-module _ (priorities offsets targets entries : List ℕ) (p : ℕ) (w₀ : List ℕ) (given : Ready priorities offsets targets entries w₀) where
+module _ (priorities offsets targets entries : List ℕ) (p : ℕ) (w₀ : List ℕ)
+    (given : Ready priorities offsets targets entries w₀) where
   abbrev n : ℕ
   n = length priorities
 
@@ -90,7 +94,8 @@ module _ (priorities offsets targets entries : List ℕ) (p : ℕ) (w₀ : List 
           fits = omega (arith, given .room, bare .within .long);
         }
 
-    module _ (w₂ : List ℕ) (parts : Marked (graph priorities offsets targets entries p) (behind (length priorities) (length targets)) w₁ w₂)
+    module _ (w₂ : List ℕ) (parts : Marked (graph priorities offsets targets entries p)
+        (behind (length priorities) (length targets)) w₁ w₂)
         (w₃ : List ℕ) (blank : Cleared (labels n m) (labels n m + n) w₂ w₃) where
       rows₃ : (top : ℕ) → Rows (G top) w₃
       rows₃ top =
@@ -118,7 +123,8 @@ module _ (priorities offsets targets entries : List ℕ) (p : ℕ) (w₀ : List 
       good-of v l d =
           let q = true-marked n (behind n m) w₂ v l (λ z. d (word-kept v ∙ z)) in
           ⊎-elim
-          (λ was. absurd (clash was (false-marked n (behind n m) w₁ v (bare .zeros (behind n m + v) (omega arith) (omega arith)))))
+          (λ was. absurd (clash was
+          (false-marked n (behind n m) w₁ v (bare .zeros (behind n m + v) (omega arith) (omega arith)))))
           (λ good. good)
           (or-cases (marked n (behind n m) w₁ v) _ (sym (parts .found v l) ∙ q))
 
@@ -127,7 +133,8 @@ module _ (priorities offsets targets entries : List ℕ) (p : ℕ) (w₀ : List 
           let q : marked n (behind n m) w₂ v ≡ true = parts .found v l ∙ or-right (marked n (behind n m) w₁ v) _ good in
           marked-true n (behind n m) w₂ v q .1 (sym (word-kept v) ∙ z)
 
-      pub found : (w₄ : List ℕ) → Headed (graph priorities offsets targets entries 255) p (behind (length priorities) (length targets)) w₃ w₄ →
+      pub found : (w₄ : List ℕ) → Headed (graph priorities offsets targets entries 255) p
+          (behind (length priorities) (length targets)) w₃ w₄ →
           Found priorities offsets targets entries p w₀ w₄
       found w₄ h =
           record {
@@ -151,7 +158,8 @@ module _ (priorities offsets targets entries : List ℕ) (p : ℕ) (w₀ : List 
 
 -- ---- one priority after another
 
-pub record Seeking (priorities offsets targets entries : List ℕ) (parity v : ℕ) (before : List ℕ) (k : ℕ) (after : List ℕ) : Type 0 where
+pub record Seeking (priorities offsets targets entries : List ℕ) (parity v : ℕ) (before : List ℕ) (k : ℕ)
+    (after : List ℕ) : Type 0 where
   pub long : length after ≡ length before
   pub ready : Ready priorities offsets targets entries after
   pub none : (j : ℕ) → j < k → Unled priorities offsets targets entries (2 * j + parity) v
@@ -164,7 +172,8 @@ module _ (priorities offsets targets entries : List ℕ) (parity v : ℕ) (befor
   module _ (k : ℕ) (work : List ℕ) (s : Seeking priorities offsets targets entries parity v before k work) (after : List ℕ)
       (f : Found priorities offsets targets entries (2 * k + parity) work after) where
     pub seeking-on :
-        getD after (labels (length priorities) (length targets) + v) 0 ≡ 0 → Seeking priorities offsets targets entries parity v before (k + 1) after
+        getD after (labels (length priorities) (length targets) + v) 0 ≡ 0 →
+        Seeking priorities offsets targets entries parity v before (k + 1) after
     seeking-on z =
         record {
           long = f .long ∙ s .long;
@@ -191,7 +200,8 @@ module _ (priorities offsets targets entries : List ℕ) (parity v : ℕ) (befor
                 low = omega (arith, given .side);
                 side = omega (arith, given .side);
                 ready = f .ready;
-                led = f .led v (true-marked (length priorities) (labels (length priorities) (length targets)) after v (given .vertex) d);
+                led = f .led v (true-marked (length priorities) (labels (length priorities) (length targets)) after v
+                    (given .vertex) d);
               });
         }
 

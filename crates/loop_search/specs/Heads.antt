@@ -82,7 +82,8 @@ module _ (G : Graph) (p row : ℕ) (before : List ℕ) (given : Headable G row b
     pub row-kept : head (G .priorities) p row work k ≡ head (G .priorities) p row before k
     unfolding head
     row-kept =
-        ap (λ (w : ℕ). eqb (getD (G .priorities) k 0) p && not (eqb w 0)) (h .within .rest (row + k) (inr (omega (arith, given .low))))
+        ap (λ (w : ℕ). eqb (getD (G .priorities) k 0) p && not (eqb w 0))
+        (h .within .rest (row + k) (inr (omega (arith, given .low))))
 
     pub heading-skips : false ≡ head (G .priorities) p row work k → Heading G p row before (k + 1) work end
     heading-skips other =
@@ -132,7 +133,8 @@ module _ (G : Graph) (p row : ℕ) (before : List ℕ) (given : Headable G row b
         }
 
   -- all heads stand in the queue: what the search from there leaves
-  pub headed : (work : List ℕ) (end : ℕ) → Heading G p row before (size G) work end → (after : List ℕ) → Spread G work after → Headed G p row before after
+  pub headed : (work : List ℕ) (end : ℕ) → Heading G p row before (size G) work end → (after : List ℕ) → Spread G work after →
+      Headed G p row before after
   headed work end h after s =
       record {
         within = within-then (h .within) (s .kept .within);

@@ -1,5 +1,5 @@
--- Show me the loop: for a solitaire game and a vertex a path from it to a cycle, and the cycle itself, whose highest priority is of the
--- player's parity. What such a run is, by edges alone, and what the function gives back and leaves.
+-- Show me the loop: for a solitaire game and a vertex a path from it to a cycle, and the cycle itself, whose highest priority
+-- is of the player's parity. What such a run is, by edges alone, and what the function gives back and leaves.
 use mathlib.Core.Bool.{not, _||_}
 use mathlib.Core.List.{List, [], _∷_}
 use mathlib.Core.Path.{_≡_}

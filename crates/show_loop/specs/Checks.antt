@@ -64,7 +64,8 @@ check44-none n v e = ltb-true v n (not-false (ltb v n) (given-none 44 v (not (lt
 check45-none : (n path cycle : ℕ) → check45 n path cycle ≡ none → (2 * n ≤ path) × (2 * n ≤ cycle)
 unfolding check45
 check45-none n path cycle e =
-    let (a, b) = or-false-both (ltb path (2 * n)) (ltb cycle (2 * n)) (given-none 45 0 (ltb path (2 * n) || ltb cycle (2 * n)) e) in
+    let (a, b) = or-false-both (ltb path (2 * n)) (ltb cycle (2 * n))
+    (given-none 45 0 (ltb path (2 * n) || ltb cycle (2 * n)) e) in
     (ltb-false path (2 * n) a, ltb-false cycle (2 * n) b)
 
 pub checks-passed : (t : Tables) (v path cycle work : ℕ) → checksBy t v path cycle work ≡ none → Passed t v path cycle work

@@ -1,5 +1,6 @@
--- What a reader may conclude of `show_loop`, from its contract alone: past the checks it answers exactly where the one owner wins the
--- vertex by demand 2, and gives 46 exactly where there is no run; and two results that meet the contract differ in the run alone.
+-- What a reader may conclude of `show_loop`, from its contract alone: past the checks it answers exactly where the one owner
+-- wins the vertex by demand 2, and gives 46 exactly where there is no run; and two results that meet the contract differ in the
+-- run alone.
 use mathlib.Core.Bool.{true, false, not}
 use mathlib.Core.List.{List}
 use mathlib.Core.Logic.{_⊎_, inl, inr, ⊎-elim}
@@ -27,7 +28,8 @@ abbrev pub NoLoop : Tables → ℕ → LentRun → LentRun → Outcome → Type 
 NoLoop t v before after o =
     (o ≡ refusal 46 v) × (after ≡ lentOf (before .path) (before .cycle) (cleared t (before .work)) 0)
 
-module _ (t : Tables) (v : ℕ) (before after : LentRun) (o : Outcome) (p : ShowsLoop t v before after o) (ok : loopChecks t v before ≡ none) where
+module _ (t : Tables) (v : ℕ) (before after : LentRun) (o : Outcome) (p : ShowsLoop t v before after o)
+    (ok : loopChecks t v before ≡ none) where
   passed : Passed t v (length (before .path)) (length (before .cycle)) (length (before .work))
   passed = checks-passed t v (length (before .path)) (length (before .cycle)) (length (before .work)) ok
 
@@ -69,7 +71,8 @@ module _ (t : Tables) (v : ℕ) (before after : LentRun) (o : Outcome) (p : Show
   -- **A run is shown exactly where the owner wins the vertex, by demand 2**; the opponent wins it with 46.
   pub shown-wins : o .number ≡ 0 → Wins (gameOf t) (soleOwner t) v
   shown-wins z =
-      solitaire-wins (gameOf t) (accepted-total t (passed .accepted)) (soleOwner t) (accepted-one-owner t (passed .one-owner)) v (zero-in z)
+      solitaire-wins (gameOf t) (accepted-total t (passed .accepted)) (soleOwner t)
+      (accepted-one-owner t (passed .one-owner)) v (zero-in z)
 
   pub wins-shown : Wins (gameOf t) (soleOwner t) v → LoopShown t v before after o
   unfolding gameOf
@@ -81,7 +84,8 @@ module _ (t : Tables) (v : ℕ) (before after : LentRun) (o : Outcome) (p : Show
   pub not-shown-loses : o .number ≡ 46 → Wins (gameOf t) (opponent (soleOwner t)) v
   unfolding gameOf
   not-shown-loses z =
-      solitaire-rest (gameOf t) (accepted-total t (passed .accepted)) (soleOwner t) (accepted-one-owner t (passed .one-owner)) v (passed .vertex)
+      solitaire-rest (gameOf t) (accepted-total t (passed .accepted)) (soleOwner t)
+      (accepted-one-owner t (passed .one-owner)) v (passed .vertex)
       (other-out z)
 
 -- ---- two results that meet the contract

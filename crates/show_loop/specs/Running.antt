@@ -1,4 +1,5 @@
--- From the lists that were written to the rules: a run, or a vertex outside the solitaire set; and what the public function leaves.
+-- From the lists that were written to the rules: a run, or a vertex outside the solitaire set; and what the public function
+-- leaves.
 use mathlib.Core.Bool.{Bool, true, false, not}
 use mathlib.Core.List.{List, []}
 use mathlib.Core.Logic.{_⊎_, inl, inr, ⊎-elim}
@@ -158,7 +159,8 @@ module _ (t : Tables) (accepted : Accepted t) where
           cycle-length = w .cycle-length;
         }
 
-module _ (t : Tables) (v : ℕ) (path cycle w₀ : List ℕ) (given : Runnable t v path cycle w₀) (owner : ℕ) (is : owner ≡ getD (t .owners) 0 0) where
+module _ (t : Tables) (v : ℕ) (path cycle w₀ : List ℕ) (given : Runnable t v path cycle w₀) (owner : ℕ)
+    (is : owner ≡ getD (t .owners) 0 0) where
   fits : behind (vertices t) (edgesIn t) + vertices t ≤ length w₀
   fits = omega (arith, rows-fit (vertices t) (edgesIn t), given .room)
 

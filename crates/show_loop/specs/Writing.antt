@@ -18,7 +18,8 @@ use Rattle.breadth_first.specs.Spreading.{way-words, way-once}
 use Rattle.breadth_first.specs.Beginning.{Roundable, Rounded, Round}
 use Rattle.loop_search.specs.Finding.{Ready, Led, Unled, Seekable, Met, Sought}
 
-pub record Writable (priorities offsets targets entries : List ℕ) (p : ℕ) (work : List ℕ) (v : ℕ) (path cycle : List ℕ) : Type 0 where
+pub record Writable (priorities offsets targets entries : List ℕ) (p : ℕ) (work : List ℕ) (v : ℕ)
+    (path cycle : List ℕ) : Type 0 where
   pub ready : Ready priorities offsets targets entries work
   pub led : Led priorities offsets targets entries p work v
   pub few : length priorities ≤ 4096
@@ -26,7 +27,8 @@ pub record Writable (priorities offsets targets entries : List ℕ) (p : ℕ) (w
   pub cycle-room : length priorities ≤ length cycle
 
 -- a path from v to u and a way round from u, at the front of the two lists
-pub record Wrote (priorities offsets targets entries : List ℕ) (p v : ℕ) (path path′ cycle cycle′ : List ℕ) (on round : ℕ) : Type 0 where
+pub record Wrote (priorities offsets targets entries : List ℕ) (p v : ℕ) (path path′ cycle cycle′ : List ℕ)
+    (on round : ℕ) : Type 0 where
   pub vs : List ℕ
   pub ws : List ℕ
   pub first : ℕ
@@ -43,17 +45,20 @@ pub record Wrote (priorities offsets targets entries : List ℕ) (p v : ℕ) (pa
   pub path-length : on ≡ length vs
   pub cycle-length : round ≡ length ws
 
-pub record Goable (priorities offsets targets entries : List ℕ) (parity : ℕ) (work : List ℕ) (v : ℕ) (path cycle : List ℕ) : Type 0 where
+pub record Goable (priorities offsets targets entries : List ℕ) (parity : ℕ) (work : List ℕ) (v : ℕ)
+    (path cycle : List ℕ) : Type 0 where
   pub seekable : Seekable priorities offsets targets entries parity work v
   pub few : length priorities ≤ 4096
   pub path-room : length priorities ≤ length path
   pub cycle-room : length priorities ≤ length cycle
 
 -- no priority of the parity has a way, and nothing is written; or one has, and both lists are
-pub record Went (priorities offsets targets entries : List ℕ) (parity v : ℕ) (work work′ path path′ cycle cycle′ : List ℕ) (on round : ℕ) : Type 0 where
+pub record Went (priorities offsets targets entries : List ℕ) (parity v : ℕ) (work work′ path path′ cycle cycle′ : List ℕ)
+    (on round : ℕ) : Type 0 where
   pub long : length work′ ≡ length work
   pub went :
-      (((j : ℕ) → j < 128 → Unled priorities offsets targets entries (2 * j + parity) v) × (path′ ≡ path) × (cycle′ ≡ cycle) × (on ≡ 0)) ⊎
+      (((j : ℕ) → j < 128 → Unled priorities offsets targets entries (2 * j + parity) v) × (path′ ≡ path) × (cycle′ ≡ cycle) ×
+      (on ≡ 0)) ⊎
       ((p : ℕ) × (p % 2 ≡ parity) × Wrote priorities offsets targets entries p v path path′ cycle cycle′ on round)
 
 pub path-some : {R : Relation} {v u : ℕ} {vs : List ℕ} → Path R v u vs → 0 < length vs
@@ -92,7 +97,8 @@ module _ (priorities offsets targets entries : List ℕ) (p : ℕ) (w₀ : List 
         few = given .few;
       }
 
-  module _ (path′ : List ℕ) (on : ℕ) (told : Followed (length priorities) (labels (length priorities) (length targets)) w₀ v path path′ on) where
+  module _ (path′ : List ℕ) (on : ℕ)
+      (told : Followed (length priorities) (labels (length priorities) (length targets)) w₀ v path path′ on) where
     followed : (path′ ≡ overwritten (given .led .vs) path) × (on ≡ length (given .led .vs))
     followed = told (given .led .vs) (way-words (given .led .way)) (omega (arith, given .led .short, given .path-room))
 
@@ -120,7 +126,12 @@ module _ (priorities offsets targets entries : List ℕ) (p : ℕ) (w₀ : List 
       round-roundable =
           rw x-is
           (record {
-            tables = record { sound = given .ready .sound p; room = omega (arith, given .ready .room); rows = given .ready .rows p };
+            tables = record {
+              sound = given .ready .sound p;
+              room = omega
+                  (arith, given .ready .room);
+              rows = given .ready .rows p;
+            };
             vertex = given .led .way .vertex;
             low = omega (arith, given .led .exactly);
           })
@@ -176,7 +187,8 @@ module _ (priorities offsets targets entries : List ℕ) (parity : ℕ) (w₀ : 
       go :
           ((p ≡ 256) × ((j : ℕ) → j < 128 → Unled priorities offsets targets entries (2 * j + parity) v)) ⊎
           Met priorities offsets targets entries parity v w₁ p →
-          (((j : ℕ) → j < 128 → Unled priorities offsets targets entries (2 * j + parity) v) × (path ≡ path) × (cycle ≡ cycle) × (_≡_ {A = ℕ} 0 0)) ⊎
+          (((j : ℕ) → j < 128 → Unled priorities offsets targets entries (2 * j + parity) v) × (path ≡ path) ×
+          (cycle ≡ cycle) × (_≡_ {A = ℕ} 0 0)) ⊎
           ((q : ℕ) × (q % 2 ≡ parity) × Wrote priorities offsets targets entries q v path path cycle cycle 0 0)
       go (inl (is, none)) = inl (none, refl, refl, refl)
       go (inr met) = absurd (omega (arith, met .low))

@@ -12,7 +12,8 @@ pub struct Lengths {
     pub cycle: usize,
 }
 
-// The path along the way that the words show from v, then the way round from its last vertex among priorities of at most p.
+// The path along the way that the words show from v, then the way round from its last vertex among priorities of at
+// most p.
 fn write_lists(
     priorities: &[u16],
     offsets: &[u16],
@@ -24,7 +25,8 @@ fn write_lists(
     path: &mut [u16],
     cycle: &mut [u16],
 ) -> Lengths
-    requires { ⌜ Writable (now priorities) (now offsets) (now targets) (now entries) p (now work) v (now path) (now cycle) ⌝ }
+    requires { ⌜ Writable (now priorities) (now offsets) (now targets) (now entries) p (now work) v (now path)
+        (now cycle) ⌝ }
     ensures { λ r.
         ⌜ (length (now (work .exit)) ≡ length (now (work .entry))) ×
         Wrote (now (priorities .entry)) (now (offsets .entry)) (now (targets .entry)) (now (entries .entry)) p v

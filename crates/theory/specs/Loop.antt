@@ -1,5 +1,6 @@
--- Runs: from a vertex there is one exactly when the vertex is in the solitaire set, and so, in a game with one owner, exactly when the
--- owner wins it. The shortest way to a vertex of the cycle's highest priority, and the shortest way round from there, are one.
+-- Runs: from a vertex there is one exactly when the vertex is in the solitaire set, and so, in a game with one owner, exactly
+-- when the owner wins it. The shortest way to a vertex of the cycle's highest priority, and the shortest way round from there,
+-- are one.
 use mathlib.Core.Bool.{true, false}
 use mathlib.Core.List.{List, [], _∷_, _++_}
 use mathlib.Core.Logic.{_⊎_, inl, inr, ⊎-elim}
@@ -16,9 +17,11 @@ use Rattle.rules.specs.Loop.{Path, alone, next, highestOf, Run}
 use Rattle.rules.specs.Solitaire.{Links, inside, reached, atMost, onPart, solitaire}
 use Rattle.rules.specs.Winning.{Walk, one, more, Reach, here, step, Wins}
 use Rattle.theory.specs.Basics.{bool-cases, and-intro, not-true-is-false, count-strict, count-le, count-pos}
-use Rattle.theory.specs.Links.{Linked, reached-end, reach-reached, together-refl, edge-reach-walk, cycle-on-cycle, good-part-intro}
+use Rattle.theory.specs.Links.{Linked, reached-end, reach-reached, together-refl, edge-reach-walk, cycle-on-cycle}
+use Rattle.theory.specs.Links.{good-part-intro}
 use Rattle.theory.specs.Links.{first-step, distance, towards, towards-nearer}
-use Rattle.theory.specs.Solitaire.{inside-elim, at-most-elim, on-part-cycle, solitaire-elim, solitaire-intro, solitaire-wins, wins-solitaire, wider}
+use Rattle.theory.specs.Solitaire.{inside-elim, at-most-elim, on-part-cycle, solitaire-elim, solitaire-intro}
+use Rattle.theory.specs.Solitaire.{solitaire-wins, wins-solitaire, wider}
 use Rattle.theory.specs.Walks.{Relation, Carries, reach-append, reach-map, reach-walk}
 
 pub path-map : {R Q : Relation} {v u : ℕ} {vs : List ℕ} → Carries R Q → Path R v u vs → Path Q v u vs
@@ -173,7 +176,8 @@ solitaire-head g a v q =
     let (m, k, from) = reach-walk (on .part .1) c in
     let (x, e, rest) = first-step from in
     let (h, round) = edge-reach-walk {priority = g .priority} e (reach-append rest (on .part .0)) in
-    let good = good-part-intro g links p u (record { highest = h; cycle = round; vertex = u; part = together-refl u; exactly = on .exactly }) in
+    let good = good-part-intro g links p u
+    (record { highest = h; cycle = round; vertex = u; part = together-refl u; exactly = on .exactly }) in
     let part : onPart g p u ≡ true = and-intro (inside-elim g (atMost g p) u x (e .edge) .0) good in (
       u,
       small,
@@ -197,7 +201,8 @@ solitaire-run g a v q =
     λ two same. ⊎-elim (λ (is, none). let z = ap length none in omega arith) (λ h. h same) o in (
       vs ++ (u ∷ []),
       u ∷ ws,
-      run-of g a p mine refl (approach-path a-path) round returns once (rw (length-append vs (u ∷ [])) (omega arith)) (omega arith),
+      run-of g a p mine refl (approach-path a-path) round returns once (rw (length-append vs (u ∷ [])) (omega arith))
+          (omega arith),
     )
 
 module _ (g : Game) (total : Total g) (a : Player) (one : (v : ℕ) → v < g .size → g .owner v ≡ a) where

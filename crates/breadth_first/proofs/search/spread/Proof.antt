@@ -11,7 +11,8 @@ use Rattle.breadth_first.proofs.search.spread.Tie as tie
 
 abbrev Inv-loop : tie.InvT-loop
 Inv-loop priorities offsets targets entries p work₀ begun n queue head₀ tail₀ work head tail =
-    Standing (graph priorities offsets targets entries p) work head tail × Kept (graph priorities offsets targets entries p) work₀ work
+    Standing (graph priorities offsets targets entries p) work head tail × Kept
+    (graph priorities offsets targets entries p) work₀ work
 
 abbrev μ-loop : tie.MeasureT-loop
 μ-loop priorities offsets targets entries p work₀ begun n queue head₀ tail₀ work head tail = length priorities - head
@@ -61,7 +62,8 @@ loop-again c =
     let l = c .before .before .before .before .before .before .loop in
     let f = c .before .before .look-back in
     let more = c .before .before .before .before .before .loop-test .taken in (
-      standing-moves (graph-of s) (l .work) (l .head) (l .tail) (l .inv .0) more (f .last .1 .1 .1 .1 .1 .0) (f .result) (f .ensures),
+      standing-moves (graph-of s) (l .work) (l .head) (l .tail) (l .inv .0) more (f .last .1 .1 .1 .1 .1 .0) (f .result)
+          (f .ensures),
       kept-moves (graph-of s) (l .work) (l .head) (l .tail) (l .inv .0) more (f .last .1 .1 .1 .1 .1 .0) (f .result) (f .ensures)
           (s .args .work .now) (l .inv .1),
     )
@@ -74,7 +76,12 @@ returns c =
     let l = c .before .loop in
     let s = c .before .before .before .before .before .before .before in
     let all : l .head ≡ l .tail = omega (arith, l .inv .0 .ahead, c .loop-test .left) in
-    record { kept = l .inv .1; tail = l .tail; standing = subst (λ (k : ℕ). Standing (graph-of s) (l .work) k (l .tail)) all (l .inv .0) }
+    record {
+      kept = l .inv .1;
+      tail = l .tail;
+      standing = subst (λ (k : ℕ). Standing (graph-of s) (l .work) k (l .tail)) all
+          (l .inv .0);
+    }
 
 pub spread-spec : {M : Type 1} → statement M
 spread-spec =

@@ -3,7 +3,8 @@ use mathlib.Core.List.{List}
 use mathlib.Core.Path.{_≡_, refl, sym, ap, _∙_}
 use Prim.Native.Nat.{ℕ, _+_, _-_, _≤_, _<_}
 use lib.ListN.{length, length-set}
-use Rattle.breadth_first.specs.Following.{Way, Following, way-vertex, follow-starts, follow-room, follow-word, follow-on, follow-end}
+use Rattle.breadth_first.specs.Following.{Way, Following, way-vertex, follow-starts, follow-room, follow-word, follow-on}
+use Rattle.breadth_first.specs.Following.{follow-end}
 use native.Mathlib.Omega.{arith}
 use borrow.Author.Needs.{needs}
 use Rattle.breadth_first.proofs.way.follow.Statement.{statement}
@@ -20,14 +21,16 @@ abbrev μ-loop : tie.MeasureT-loop
 so-far :
     (a : tie.At-loop Inv-loop μ-loop) →
     let g = a .before in
-    Following (g .args .n) (g .args .row) (g .args .work .now) (g .pre .vs) (g .args .list .now) (a .loop .list) (a .loop .k) (a .loop .v)
+    Following (g .args .n) (g .args .row) (g .args .work .now) (g .pre .vs) (g .args .list .now) (a .loop .list) (a .loop .k)
+    (a .loop .v)
 so-far a = let g = a .before in a .loop .inv (g .pre .vs) (g .pre .way) (g .pre .fits)
 
 -- the vertex at hand, and room for it
 numbers :
     (a : tie.At-loop Inv-loop μ-loop) →
     let g = a .before in
-    (a .loop .v < g .args .n) × (a .loop .k < length (g .args .list .now)) × (length (a .loop .list) ≡ length (g .args .list .now))
+    (a .loop .v < g .args .n) × (a .loop .k < length (g .args .list .now)) ×
+    (length (a .loop .list) ≡ length (g .args .list .now))
 numbers a = let r = follow-room (so-far a) (a .before .pre .fits) in (way-vertex (so-far a .way), r .0, r .1)
 
 loop-holds : tie.Need-loop-holds Inv-loop μ-loop
@@ -46,28 +49,36 @@ add-if1-2 : tie.Need-add-if1-2 Inv-loop μ-loop
 add-if1-2 c = omega (arith, c .before .before .pre .few)
 
 cast-list : tie.Need-cast-list Inv-loop μ-loop
-cast-list c = let (a, b, d) = numbers (c .before .before) in omega (arith, c .before .before .before .pre .few, c .before .before .before .pre .room)
+cast-list c = let (a, b, d) = numbers (c .before .before) in omega
+    (arith, c .before .before .before .pre .few, c .before .before .before .pre .room)
 
 mul-list : tie.Need-mul-list Inv-loop μ-loop
-mul-list c = let (a, b, d) = numbers (c .before .before) in omega (arith, c .before .before .before .pre .few, c .before .before .before .pre .room)
+mul-list c = let (a, b, d) = numbers (c .before .before) in omega
+    (arith, c .before .before .before .pre .few, c .before .before .before .pre .room)
 
 slice-write-list : tie.Need-slice-write-list Inv-loop μ-loop
-slice-write-list c = let (a, b, d) = numbers (c .before .before) in omega (arith, c .before .before .before .pre .few, c .before .before .before .pre .room)
+slice-write-list c = let (a, b, d) = numbers (c .before .before) in omega
+    (arith, c .before .before .before .pre .few, c .before .before .before .pre .room)
 
 add-k : tie.Need-add-k Inv-loop μ-loop
-add-k c = let (a, b, d) = numbers (c .before .before) in omega (arith, c .before .before .before .pre .few, c .before .before .before .pre .room)
+add-k c = let (a, b, d) = numbers (c .before .before) in omega
+    (arith, c .before .before .before .pre .few, c .before .before .before .pre .room)
 
 add-v : tie.Need-add-v Inv-loop μ-loop
-add-v c = let (a, b, d) = numbers (c .before .before) in omega (arith, c .before .before .before .pre .few, c .before .before .before .pre .room)
+add-v c = let (a, b, d) = numbers (c .before .before) in omega
+    (arith, c .before .before .before .pre .few, c .before .before .before .pre .room)
 
 mul-v : tie.Need-mul-v Inv-loop μ-loop
-mul-v c = let (a, b, d) = numbers (c .before .before) in omega (arith, c .before .before .before .pre .few, c .before .before .before .pre .room)
+mul-v c = let (a, b, d) = numbers (c .before .before) in omega
+    (arith, c .before .before .before .pre .few, c .before .before .before .pre .room)
 
 shared-slice-read-v : tie.Need-shared-slice-read-v Inv-loop μ-loop
-shared-slice-read-v c = let (a, b, d) = numbers (c .before .before .before) in omega (arith, c .before .before .before .before .pre .room)
+shared-slice-read-v c = let (a, b, d) = numbers (c .before .before .before) in omega
+    (arith, c .before .before .before .before .pre .room)
 
 sub-v : tie.Need-sub-v Inv-loop μ-loop
-sub-v c = let a = c .before .before .before in omega (arith, follow-word (so-far a) (a .before .pre .fits) (c .before .if1 .taken))
+sub-v c = let a = c .before .before .before in omega
+    (arith, follow-word (so-far a) (a .before .pre .fits) (c .before .if1 .taken))
 
 loop-less : tie.Need-loop-less Inv-loop μ-loop
 loop-less c = let (a, b, d) = numbers (c .before .before .before) in omega arith

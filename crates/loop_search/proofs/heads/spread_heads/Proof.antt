@@ -32,19 +32,22 @@ heading-as :
     Heading G p row before v after end →
     Heading G p row before v after' end'
 heading-as {G} {p} {row} {v} {before} {after} {after'} {end} {end'} a b h =
-    subst (λ (xs : List ℕ). Heading G p row before v xs end') (sym a) (subst (λ (k : ℕ). Heading G p row before v after k) (sym b) h)
+    subst (λ (xs : List ℕ). Heading G p row before v xs end') (sym a)
+    (subst (λ (k : ℕ). Heading G p row before v after k) (sym b) h)
 
 -- all heads stand in the queue
 whole :
     (e : tie.After-loop Inv-loop μ-loop) →
     let a = e .before in
     let s = start a in
-    Heading (graph-of s) (s .args .p) (s .args .row) (s .args .work .now) (length (s .args .priorities .now)) (a .loop .work) (a .loop .end)
+    Heading (graph-of s) (s .args .p) (s .args .row) (s .args .work .now) (length (s .args .priorities .now)) (a .loop .work)
+    (a .loop .end)
 whole e =
     let a = e .before in
     let s = start a in
     let all : a .loop .v ≡ length (s .args .priorities .now) = omega arith in
-    subst (λ (k : ℕ). Heading (graph-of s) (s .args .p) (s .args .row) (s .args .work .now) k (a .loop .work) (a .loop .end)) all (a .loop .inv .1)
+    subst (λ (k : ℕ). Heading (graph-of s) (s .args .p) (s .args .row) (s .args .work .now) k (a .loop .work)
+    (a .loop .end)) all (a .loop .inv .1)
 
 add-queue : tie.Need-add-queue Inv-loop μ-loop
 add-queue c = search needs
@@ -79,7 +82,8 @@ put-requires : tie.Need-put-requires Inv-loop μ-loop
 put-requires c κs =
     let a = c .before .before .before .before .before in
     let s = start a in
-    head-putable (graph-of s) (s .args .p) (s .args .row) (s .args .work .now) (s .pre) (a .loop .v) (a .loop .work) (a .loop .end) (a .loop .inv .1) (omega arith)
+    head-putable (graph-of s) (s .args .p) (s .args .row) (s .args .work .now) (s .pre) (a .loop .v) (a .loop .work)
+    (a .loop .end) (a .loop .inv .1) (omega arith)
 
 add-end : tie.Need-add-end Inv-loop μ-loop
 add-end c = search needs
@@ -100,11 +104,13 @@ loop-again c =
       ⊎-elim
           (λ w.
           heading-as (w .5 ∙ w .2 .ensures) (w .6)
-          (heading-joins (graph-of s) (s .args .p) (s .args .row) (s .args .work .now) (s .pre) (l .v) (l .work) (l .end) (l .inv .1) (omega arith)
+          (heading-joins (graph-of s) (s .args .p) (s .args .row) (s .args .work .now) (s .pre) (l .v) (l .work) (l .end)
+          (l .inv .1) (omega arith)
           (sym (w .0 .taken) ∙ says)))
           (λ w.
           heading-as (w .1) (w .2)
-          (heading-skips (graph-of s) (s .args .p) (s .args .row) (s .args .work .now) (s .pre) (l .v) (l .work) (l .end) (l .inv .1) (omega arith)
+          (heading-skips (graph-of s) (s .args .p) (s .args .row) (s .args .work .now) (s .pre) (l .v) (l .work) (l .end)
+          (l .inv .1) (omega arith)
           (sym (w .0 .left) ∙ says)))
           (c .if1 .came),
     )

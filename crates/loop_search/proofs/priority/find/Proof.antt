@@ -48,7 +48,8 @@ mark-used-requires : tie.Need-mark-used-requires
 mark-used-requires c κs =
     let d = c .before .before .before in
     let s = start d in
-    find-markable (s .args .priorities .now) (s .args .offsets .now) (s .args .targets .now) (s .args .entries .now) (s .args .p) (s .args .work .now) (s .pre)
+    find-markable (s .args .priorities .now) (s .args .offsets .now) (s .args .targets .now) (s .args .entries .now)
+    (s .args .p) (s .args .work .now) (s .pre)
     (d .clear .last .0) (d .clear .ensures)
 
 add-clear-2 : tie.Need-add-clear-2
@@ -63,8 +64,10 @@ spread-heads-requires c κs =
     let m = marked b in
     let d = bared m in
     let s = start d in
-    find-headable (s .args .priorities .now) (s .args .offsets .now) (s .args .targets .now) (s .args .entries .now) (s .args .p) (s .args .work .now) (s .pre)
-    (d .clear .last .0) (d .clear .ensures) (m .mark-used .last .1 .1 .1 .1 .1 .0) (m .mark-used .ensures) (b .clear2 .last .0) (b .clear2 .ensures)
+    find-headable (s .args .priorities .now) (s .args .offsets .now) (s .args .targets .now) (s .args .entries .now)
+    (s .args .p) (s .args .work .now) (s .pre)
+    (d .clear .last .0) (d .clear .ensures) (m .mark-used .last .1 .1 .1 .1 .1 .0) (m .mark-used .ensures) (b .clear2 .last .0)
+    (b .clear2 .ensures)
 
 same-length : tie.Need-same-length
 same-length c =
@@ -73,8 +76,10 @@ same-length c =
     let m = marked b in
     let d = bared m in
     let s = start d in
-    found (s .args .priorities .now) (s .args .offsets .now) (s .args .targets .now) (s .args .entries .now) (s .args .p) (s .args .work .now) (s .pre)
-    (d .clear .last .0) (d .clear .ensures) (m .mark-used .last .1 .1 .1 .1 .1 .0) (m .mark-used .ensures) (b .clear2 .last .0) (b .clear2 .ensures)
+    found (s .args .priorities .now) (s .args .offsets .now) (s .args .targets .now) (s .args .entries .now) (s .args .p)
+    (s .args .work .now) (s .pre)
+    (d .clear .last .0) (d .clear .ensures) (m .mark-used .last .1 .1 .1 .1 .1 .0) (m .mark-used .ensures) (b .clear2 .last .0)
+    (b .clear2 .ensures)
     (f .spread-heads .last .1 .1 .1 .1 .1 .0) (f .spread-heads .ensures) .long
 
 returns : tie.Need-returns
@@ -84,8 +89,10 @@ returns c =
     let m = marked b in
     let d = bared m in
     let s = start d in
-    found (s .args .priorities .now) (s .args .offsets .now) (s .args .targets .now) (s .args .entries .now) (s .args .p) (s .args .work .now) (s .pre)
-    (d .clear .last .0) (d .clear .ensures) (m .mark-used .last .1 .1 .1 .1 .1 .0) (m .mark-used .ensures) (b .clear2 .last .0) (b .clear2 .ensures)
+    found (s .args .priorities .now) (s .args .offsets .now) (s .args .targets .now) (s .args .entries .now) (s .args .p)
+    (s .args .work .now) (s .pre)
+    (d .clear .last .0) (d .clear .ensures) (m .mark-used .last .1 .1 .1 .1 .1 .0) (m .mark-used .ensures) (b .clear2 .last .0)
+    (b .clear2 .ensures)
     (f .spread-heads .last .1 .1 .1 .1 .1 .0) (f .spread-heads .ensures)
 
 pub find-spec : {M : Type 1} → statement M

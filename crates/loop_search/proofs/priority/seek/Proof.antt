@@ -37,8 +37,11 @@ add-labels-5 c = search needs
 
 loop-holds : tie.Need-loop-holds Inv-loop μ-loop
 loop-holds c =
-    let s = c .before .before .before .before .before in
-    (omega arith, seeking-starts (s .args .priorities .now) (s .args .offsets .now) (s .args .targets .now) (s .args .entries .now) (s .args .parity) (s .args .v) (s .args .work .now) (s .pre))
+    let s = c .before .before .before .before .before in (
+      omega arith,
+      seeking-starts (s .args .priorities .now) (s .args .offsets .now) (s .args .targets .now)
+          (s .args .entries .now) (s .args .parity) (s .args .v) (s .args .work .now) (s .pre),
+    )
 
 mul-find : tie.Need-mul-find Inv-loop μ-loop
 mul-find c = omega arith
@@ -78,16 +81,20 @@ same-length c =
     let f = c .before .before .before .before in
     let a = at f in
     let s = start a in
-    seeking-met (s .args .priorities .now) (s .args .offsets .now) (s .args .targets .now) (s .args .entries .now) (s .args .parity) (s .args .v) (s .args .work .now) (s .pre)
-    (a .loop .k) (a .loop .work) (a .loop .inv .1) (f .find .last .1 .1 .1 .1 .1 .0) (f .find .ensures) (omega arith) (c .if1 .taken) .long
+    seeking-met (s .args .priorities .now) (s .args .offsets .now) (s .args .targets .now) (s .args .entries .now)
+    (s .args .parity) (s .args .v) (s .args .work .now) (s .pre)
+    (a .loop .k) (a .loop .work) (a .loop .inv .1) (f .find .last .1 .1 .1 .1 .1 .0) (f .find .ensures) (omega arith)
+    (c .if1 .taken) .long
 
 returns : tie.Need-returns Inv-loop μ-loop
 returns c =
     let f = c .before .before .before .before in
     let a = at f in
     let s = start a in
-    seeking-met (s .args .priorities .now) (s .args .offsets .now) (s .args .targets .now) (s .args .entries .now) (s .args .parity) (s .args .v) (s .args .work .now) (s .pre)
-    (a .loop .k) (a .loop .work) (a .loop .inv .1) (f .find .last .1 .1 .1 .1 .1 .0) (f .find .ensures) (omega arith) (c .if1 .taken)
+    seeking-met (s .args .priorities .now) (s .args .offsets .now) (s .args .targets .now) (s .args .entries .now)
+    (s .args .parity) (s .args .v) (s .args .work .now) (s .pre)
+    (a .loop .k) (a .loop .work) (a .loop .inv .1) (f .find .last .1 .1 .1 .1 .1 .0) (f .find .ensures) (omega arith)
+    (c .if1 .taken)
 
 add-k : tie.Need-add-k Inv-loop μ-loop
 add-k c = search needs
@@ -101,7 +108,8 @@ loop-again c =
     let a = at f in
     let s = start a in (
       omega arith,
-      seeking-on (s .args .priorities .now) (s .args .offsets .now) (s .args .targets .now) (s .args .entries .now) (s .args .parity) (s .args .v) (s .args .work .now) (s .pre)
+      seeking-on (s .args .priorities .now) (s .args .offsets .now) (s .args .targets .now) (s .args .entries .now)
+          (s .args .parity) (s .args .v) (s .args .work .now) (s .pre)
           (a .loop .k) (a .loop .work) (a .loop .inv .1) (f .find .last .1 .1 .1 .1 .1 .0) (f .find .ensures) (c .if1 .left),
     )
 
@@ -113,11 +121,13 @@ returns-2 c =
     let a = c .before in
     let s = start a in
     let all : a .loop .k ≡ 128 = omega arith in
-    seeking-ends (s .args .priorities .now) (s .args .offsets .now) (s .args .targets .now) (s .args .entries .now) (s .args .parity) (s .args .v) (s .args .work .now) (s .pre)
+    seeking-ends (s .args .priorities .now) (s .args .offsets .now) (s .args .targets .now) (s .args .entries .now)
+    (s .args .parity) (s .args .v) (s .args .work .now) (s .pre)
     (a .loop .work)
     (subst
     (λ (k : ℕ).
-    Seeking (s .args .priorities .now) (s .args .offsets .now) (s .args .targets .now) (s .args .entries .now) (s .args .parity) (s .args .v)
+    Seeking (s .args .priorities .now) (s .args .offsets .now) (s .args .targets .now) (s .args .entries .now)
+    (s .args .parity) (s .args .v)
     (s .args .work .now) k (a .loop .work))
     all (a .loop .inv .1))
 

@@ -55,18 +55,21 @@ out e = ap (λ (v : Verdict). outcome v (answered 0)) e
 none1 : (c : tie.Else1) → tableChecks (tables (past1 c)) ≡ none
 none1 c =
     let called = c .before .before .check-tables in
-    went-on (called .result) (tableChecks (tables (past1 c))) (c .if1 .left) (c .before .number .ensures) (numbered-tables (tables (past1 c)))
+    went-on (called .result) (tableChecks (tables (past1 c))) (c .if1 .left) (c .before .number .ensures)
+    (numbered-tables (tables (past1 c)))
     (called .ensures)
 
 none2 : (c : tie.Else2) → ten (past2 c) ≡ none
 none2 c =
     let called = c .before .before .check-work in
-    went-on (called .result) (ten (past2 c)) (c .if2 .left) (c .before .number2 .ensures) (numbered-check10 _ _ _) (called .ensures)
+    went-on (called .result) (ten (past2 c)) (c .if2 .left) (c .before .number2 .ensures) (numbered-check10 _ _ _)
+    (called .ensures)
 
 none3 : (c : tie.Else3) → eleven (past3 c) ≡ none
 none3 c =
     let called = c .before .before .check-owners-equal in
-    went-on (called .result) (eleven (past3 c)) (c .if3 .left) (c .before .number3 .ensures) (numbered-check11 _ _) (called .ensures)
+    went-on (called .result) (eleven (past3 c)) (c .if3 .left) (c .before .number3 .ensures) (numbered-check11 _ _)
+    (called .ensures)
 
 -- what is left past each check is the whole verdict
 is1 : (c : tie.Else1) → left8 (past1 c) ≡ whole (past1 c)
@@ -93,7 +96,8 @@ returns : tie.Need-returns
 returns c =
     let g = at1 (c .before .before) in
     let called = c .before .before .check-tables in
-    stopped (called .result) (tableChecks (tables g)) (left8 g) (answered 0) (c .if1 .taken) (c .before .number .ensures) (called .ensures)
+    stopped (called .result) (tableChecks (tables g)) (left8 g) (answered 0) (c .if1 .taken) (c .before .number .ensures)
+    (called .ensures)
 
 check-work-requires : tie.Need-check-work-requires
 check-work-requires c κs = let f = sound c in (f .few-vertices, f .few-edges)

@@ -31,7 +31,8 @@ build-requires : tie.Need-build-requires
 build-requires c κs =
     let o = c .before in
     let g = start o in
-    build-ready (tables g) (g .args .v) (g .args .path .now) (g .args .cycle .now) (g .args .work .now) (g .pre) (o .sole-owner .result) (o .sole-owner .ensures)
+    build-ready (tables g) (g .args .v) (g .args .path .now) (g .args .cycle .now) (g .args .work .now) (g .pre)
+    (o .sole-owner .result) (o .sole-owner .ensures)
 
 sub-write-run : tie.Need-sub-write-run
 sub-write-run c = search needs
@@ -50,7 +51,8 @@ write-run-requires c κs =
     let b = c .before .before .before .before .before .before in
     let o = owned b in
     let g = start o in
-    go-ready (tables g) (g .args .v) (g .args .path .now) (g .args .cycle .now) (g .args .work .now) (g .pre) (o .sole-owner .result) (o .sole-owner .ensures)
+    go-ready (tables g) (g .args .v) (g .args .path .now) (g .args .cycle .now) (g .args .work .now) (g .pre)
+    (o .sole-owner .result) (o .sole-owner .ensures)
     (b .build .last .1 .1 .1 .0) (b .build .ensures)
 
 clear-requires : tie.Need-clear-requires
@@ -73,10 +75,13 @@ returns c =
     let o = owned b in
     let g = start o in
     let f = w .write-run in
-    run-ran (tables g) (g .args .v) (g .args .path .now) (g .args .cycle .now) (g .args .work .now) (g .pre) (o .sole-owner .result) (o .sole-owner .ensures)
-    (b .build .last .1 .1 .1 .0) (b .build .ensures) (f .last .1 .1 .1 .1 .1 .0) (d .clear .last .0) (f .last .1 .1 .1 .1 .1 .1 .1 .0)
+    run-ran (tables g) (g .args .v) (g .args .path .now) (g .args .cycle .now) (g .args .work .now) (g .pre)
+    (o .sole-owner .result) (o .sole-owner .ensures)
+    (b .build .last .1 .1 .1 .0) (b .build .ensures) (f .last .1 .1 .1 .1 .1 .0) (d .clear .last .0)
+    (f .last .1 .1 .1 .1 .1 .1 .1 .0)
     (f .last .1 .1 .1 .1 .1 .1 .1 .1 .0) (f .result .path) (f .result .cycle) (f .ensures)
-    (cleared-all (g .args .work .now) (f .last .1 .1 .1 .1 .1 .0) (f .ensures .long ∙ b .build .ensures .long) (d .clear .ensures))
+    (cleared-all (g .args .work .now) (f .last .1 .1 .1 .1 .1 .0) (f .ensures .long ∙ b .build .ensures .long)
+    (d .clear .ensures))
 
 pub run-spec : {M : Type 1} → statement M
 run-spec =

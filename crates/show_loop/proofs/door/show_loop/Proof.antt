@@ -1,5 +1,5 @@
--- `show_loop` meets its contract: a refusal is returned with only the path's length written; past the checks the run is done in the
--- first W words, and no path is 46.
+-- `show_loop` meets its contract: a refusal is returned with only the path's length written; past the checks the run is done in
+-- the first W words, and no path is 46.
 use mathlib.Core.Path.{_≡_}
 use native.Mathlib.Omega.{arith}
 use borrow.Author.Needs.{needs}
@@ -42,7 +42,8 @@ passed :
     Passed (tables g) (g .args .vertex) (length (g .args .path .now)) (length (g .args .cycle .now)) (length (g .args .work .now))
 passed d =
     let g = start d in
-    checks-passed (tables g) (g .args .vertex) (length (g .args .path .now)) (length (g .args .cycle .now)) (length (g .args .work .now))
+    checks-passed (tables g) (g .args .vertex) (length (g .args .path .now)) (length (g .args .cycle .now))
+    (length (g .args .work .now))
     (no-refusal d)
 
 check-all-requires : tie.Need-check-all-requires
@@ -55,7 +56,8 @@ returns : tie.Need-returns
 returns c =
     let g = c .before .before .before .before .before .before .before .before .before .before in
     let called = c .before .before .check-all in
-    shows-refused (tables g) (g .args .vertex) (g .args .path .now) (g .args .cycle .now) (g .args .work .now) (g .args .path-length .now) _
+    shows-refused (tables g) (g .args .vertex) (g .args .path .now) (g .args .cycle .now) (g .args .work .now)
+    (g .args .path-length .now) _
     (called .ensures) (refusal-not-zero (called .result) (c .if1 .taken) (c .before .number .ensures))
 
 work-words-requires : tie.Need-work-words-requires
@@ -75,7 +77,8 @@ run-requires c κs =
     let w = c .before .before .before in
     let e = w .before in
     let g = start e in
-    run-ready (tables g) (g .args .vertex) (w .work-words .result) (g .args .path .now) (g .args .cycle .now) (g .args .work .now) (w .work-words .ensures)
+    run-ready (tables g) (g .args .vertex) (w .work-words .result) (g .args .path .now) (g .args .cycle .now)
+    (g .args .work .now) (w .work-words .ensures)
     (passed e)
 
 same-length : tie.Need-same-length
@@ -94,10 +97,13 @@ returns-2 c =
     let e = began r in
     let w = r .before .before .before .before .work-words in
     let g = start e in
-    told-none (tables g) (g .args .vertex) (g .args .path .now) (g .args .cycle .now) (g .args .work .now) (f .last .1 .1 .1 .1 .1 .0)
-    (f .last .1 .1 .1 .1 .1 .1 .0) (f .last .1 .1 .1 .1 .1 .1 .1 .0) _ (g .args .path-length .now) (f .result .path) (f .result .cycle)
+    told-none (tables g) (g .args .vertex) (g .args .path .now) (g .args .cycle .now) (g .args .work .now)
+    (f .last .1 .1 .1 .1 .1 .0)
+    (f .last .1 .1 .1 .1 .1 .1 .0) (f .last .1 .1 .1 .1 .1 .1 .1 .0) _ (g .args .path-length .now) (f .result .path)
+    (f .result .cycle)
     (passed e .accepted) (no-refusal e) (f .ensures)
-    _ (work-cleared (tables g) (w .result) (g .args .work .now) _ (w .ensures) (passed e .work-size) (f .ensures .zeros)) (c .if2 .taken)
+    _ (work-cleared (tables g) (w .result) (g .args .work .now) _ (w .ensures) (passed e .work-size) (f .ensures .zeros))
+    (c .if2 .taken)
 
 add-t28 : tie.Need-add-t28
 add-t28 c =
@@ -107,8 +113,10 @@ add-t28 c =
     let g = start e in
     omega (
       arith,
-      told-few (tables g) (g .args .vertex) (g .args .path .now) (g .args .cycle .now) (g .args .work .now) (f .last .1 .1 .1 .1 .1 .0)
-          (f .last .1 .1 .1 .1 .1 .1 .0) (f .last .1 .1 .1 .1 .1 .1 .1 .0) _ (g .args .path-length .now) (f .result .path) (f .result .cycle)
+      told-few (tables g) (g .args .vertex) (g .args .path .now) (g .args .cycle .now) (g .args .work .now)
+          (f .last .1 .1 .1 .1 .1 .0)
+          (f .last .1 .1 .1 .1 .1 .1 .0) (f .last .1 .1 .1 .1 .1 .1 .1 .0) _ (g .args .path-length .now) (f .result .path)
+          (f .result .cycle)
           (passed e .accepted) (no-refusal e) (f .ensures) (c .if2 .left),
     )
 
@@ -128,10 +136,13 @@ returns-3 c =
     let e = began r in
     let w = r .before .before .before .before .work-words in
     let g = start e in
-    told-run (tables g) (g .args .vertex) (g .args .path .now) (g .args .cycle .now) (g .args .work .now) (f .last .1 .1 .1 .1 .1 .0)
-    (f .last .1 .1 .1 .1 .1 .1 .0) (f .last .1 .1 .1 .1 .1 .1 .1 .0) _ (g .args .path-length .now) (f .result .path) (f .result .cycle)
+    told-run (tables g) (g .args .vertex) (g .args .path .now) (g .args .cycle .now) (g .args .work .now)
+    (f .last .1 .1 .1 .1 .1 .0)
+    (f .last .1 .1 .1 .1 .1 .1 .0) (f .last .1 .1 .1 .1 .1 .1 .1 .0) _ (g .args .path-length .now) (f .result .path)
+    (f .result .cycle)
     (passed e .accepted) (no-refusal e) (f .ensures)
-    _ (work-cleared (tables g) (w .result) (g .args .work .now) _ (w .ensures) (passed e .work-size) (f .ensures .zeros)) (c .if2 .left)
+    _ (work-cleared (tables g) (w .result) (g .args .work .now) _ (w .ensures) (passed e .work-size) (f .ensures .zeros))
+    (c .if2 .left)
 
 pub show-loop-spec : {M : Type 1} → statement M
 show-loop-spec =

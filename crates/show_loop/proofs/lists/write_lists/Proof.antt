@@ -35,7 +35,8 @@ add-labels-5 c = search needs
 follow-requires : tie.Need-follow-requires
 follow-requires c κs =
     let s = c .before .before .before .before .before .before .before .before .before in
-    path-followable (s .args .priorities .now) (s .args .offsets .now) (s .args .targets .now) (s .args .entries .now) (s .args .p) (s .args .work .now) (s .args .v)
+    path-followable (s .args .priorities .now) (s .args .offsets .now) (s .args .targets .now) (s .args .entries .now)
+    (s .args .p) (s .args .work .now) (s .args .v)
     (s .args .path .now) (s .args .cycle .now) (s .pre)
 
 sub-u : tie.Need-sub-u
@@ -43,7 +44,8 @@ sub-u c =
     let f = c .before .before in
     let s = start f in
     let (some, room) =
-    last-place (s .args .priorities .now) (s .args .offsets .now) (s .args .targets .now) (s .args .entries .now) (s .args .p) (s .args .work .now) (s .args .v)
+    last-place (s .args .priorities .now) (s .args .offsets .now) (s .args .targets .now) (s .args .entries .now) (s .args .p)
+    (s .args .work .now) (s .args .v)
     (s .args .path .now) (s .args .cycle .now) (s .pre)
     (f .follow .last .1 .1 .1 .1 .0) (f .follow .result) (f .follow .ensures) in
     omega arith
@@ -53,7 +55,8 @@ mul-u c =
     let f = c .before .before in
     let s = start f in
     let (some, room) =
-    last-place (s .args .priorities .now) (s .args .offsets .now) (s .args .targets .now) (s .args .entries .now) (s .args .p) (s .args .work .now) (s .args .v)
+    last-place (s .args .priorities .now) (s .args .offsets .now) (s .args .targets .now) (s .args .entries .now) (s .args .p)
+    (s .args .work .now) (s .args .v)
     (s .args .path .now) (s .args .cycle .now) (s .pre)
     (f .follow .last .1 .1 .1 .1 .0) (f .follow .result) (f .follow .ensures) in
     omega arith
@@ -63,7 +66,8 @@ slice-read-u c =
     let f = c .before .before .before in
     let s = start f in
     let (some, room) =
-    last-place (s .args .priorities .now) (s .args .offsets .now) (s .args .targets .now) (s .args .entries .now) (s .args .p) (s .args .work .now) (s .args .v)
+    last-place (s .args .priorities .now) (s .args .offsets .now) (s .args .targets .now) (s .args .entries .now) (s .args .p)
+    (s .args .work .now) (s .args .v)
     (s .args .path .now) (s .args .cycle .now) (s .pre)
     (f .follow .last .1 .1 .1 .1 .0) (f .follow .result) (f .follow .ensures) in
     omega arith
@@ -75,7 +79,8 @@ spread-round-requires : tie.Need-spread-round-requires
 spread-round-requires c κs =
     let f = c .before .before .before .before in
     let s = start f in
-    round-roundable (s .args .priorities .now) (s .args .offsets .now) (s .args .targets .now) (s .args .entries .now) (s .args .p) (s .args .work .now) (s .args .v)
+    round-roundable (s .args .priorities .now) (s .args .offsets .now) (s .args .targets .now) (s .args .entries .now)
+    (s .args .p) (s .args .work .now) (s .args .v)
     (s .args .path .now) (s .args .cycle .now) (s .pre)
     (f .follow .last .1 .1 .1 .1 .0) (f .follow .result) (f .follow .ensures) _ refl
 
@@ -84,9 +89,11 @@ follow-requires-2 c κs =
     let r = c .before .before .before .before in
     let f = followed r in
     let s = start f in
-    cycle-followable (s .args .priorities .now) (s .args .offsets .now) (s .args .targets .now) (s .args .entries .now) (s .args .p) (s .args .work .now) (s .args .v)
+    cycle-followable (s .args .priorities .now) (s .args .offsets .now) (s .args .targets .now) (s .args .entries .now)
+    (s .args .p) (s .args .work .now) (s .args .v)
     (s .args .path .now) (s .args .cycle .now) (s .pre)
-    (f .follow .last .1 .1 .1 .1 .0) (f .follow .result) (f .follow .ensures) _ refl (r .spread-round .last .1 .1 .1 .1 .1 .0) (r .spread-round .ensures)
+    (f .follow .last .1 .1 .1 .1 .0) (f .follow .result) (f .follow .ensures) _ refl (r .spread-round .last .1 .1 .1 .1 .1 .0)
+    (r .spread-round .ensures)
 
 same-length : tie.Need-same-length
 same-length c = search needs
@@ -104,9 +111,11 @@ returns c =
     let f = followed r in
     let s = start f in (
       r .spread-round .ensures .within .long,
-      wrote (s .args .priorities .now) (s .args .offsets .now) (s .args .targets .now) (s .args .entries .now) (s .args .p) (s .args .work .now) (s .args .v)
+      wrote (s .args .priorities .now) (s .args .offsets .now) (s .args .targets .now) (s .args .entries .now) (s .args .p)
+          (s .args .work .now) (s .args .v)
           (s .args .path .now) (s .args .cycle .now) (s .pre)
-          (f .follow .last .1 .1 .1 .1 .0) (f .follow .result) (f .follow .ensures) _ refl (r .spread-round .last .1 .1 .1 .1 .1 .0) (r .spread-round .ensures)
+          (f .follow .last .1 .1 .1 .1 .0) (f .follow .result) (f .follow .ensures) _ refl
+          (r .spread-round .last .1 .1 .1 .1 .1 .0) (r .spread-round .ensures)
           (g .follow2 .last .1 .1 .1 .1 .0) (g .follow2 .result) (g .follow2 .ensures),
     )
 

@@ -22,7 +22,8 @@ returns : tie.Need-returns
 returns c =
     let f = c .before .before .before in
     let s = start f in
-    went-none (s .args .priorities .now) (s .args .offsets .now) (s .args .targets .now) (s .args .entries .now) (s .args .parity) (s .args .work .now) (s .args .v)
+    went-none (s .args .priorities .now) (s .args .offsets .now) (s .args .targets .now) (s .args .entries .now)
+    (s .args .parity) (s .args .work .now) (s .args .v)
     (s .args .path .now) (s .args .cycle .now) (s .pre) (f .seek .last .1 .1 .1 .1 .1 .0) (f .seek .result) (f .seek .ensures)
     (c .if1 .taken)
 
@@ -31,7 +32,8 @@ write-lists-requires c κs =
     let e = c .before .before .before in
     let f = sought e in
     let s = start f in
-    lists-writable (s .args .priorities .now) (s .args .offsets .now) (s .args .targets .now) (s .args .entries .now) (s .args .parity) (s .args .work .now) (s .args .v)
+    lists-writable (s .args .priorities .now) (s .args .offsets .now) (s .args .targets .now) (s .args .entries .now)
+    (s .args .parity) (s .args .work .now) (s .args .v)
     (s .args .path .now) (s .args .cycle .now) (s .pre) (f .seek .last .1 .1 .1 .1 .1 .0) (f .seek .result) (f .seek .ensures)
     (e .if1 .left)
 
@@ -51,9 +53,11 @@ returns-2 c =
     let f = sought e in
     let s = start f in
     let w = g .write-lists in
-    went-there (s .args .priorities .now) (s .args .offsets .now) (s .args .targets .now) (s .args .entries .now) (s .args .parity) (s .args .work .now) (s .args .v)
+    went-there (s .args .priorities .now) (s .args .offsets .now) (s .args .targets .now) (s .args .entries .now)
+    (s .args .parity) (s .args .work .now) (s .args .v)
     (s .args .path .now) (s .args .cycle .now) (s .pre) (f .seek .last .1 .1 .1 .1 .1 .0) (f .seek .result) (f .seek .ensures)
-    (e .if1 .left) (w .last .1 .1 .1 .1 .1 .0) (w .last .1 .1 .1 .1 .1 .1 .1 .0) (w .last .1 .1 .1 .1 .1 .1 .1 .1 .0) (w .result .path) (w .result .cycle)
+    (e .if1 .left) (w .last .1 .1 .1 .1 .1 .0) (w .last .1 .1 .1 .1 .1 .1 .1 .0) (w .last .1 .1 .1 .1 .1 .1 .1 .1 .0)
+    (w .result .path) (w .result .cycle)
     (w .ensures .0) (w .ensures .1)
 
 pub write-run-spec : {M : Type 1} → statement M
