@@ -3,8 +3,9 @@
 use compare::game::Game;
 use compare::reference::{opinion, zielonka};
 
-/// The most calls that the literal recursion gets.
+/// The most calls that the literal recursion gets, and the most vertices: plain attractors are slow.
 const LITERAL: u64 = 200_000;
+const SMALL: usize = 512;
 
 /// One row a game, as a Markdown table.
 pub fn print(games: &[(&str, Game)]) {
@@ -13,7 +14,10 @@ pub fn print(games: &[(&str, Game)]) {
     for (name, game) in games {
         let calls = zielonka::solve(game, u64::MAX).expect("no bound on the calls").calls;
         let ours = opinion::solve(game, u64::MAX).expect("no bound on the calls").calls;
-        let literal = opinion::literal(game, LITERAL).map_or(format!("over {LITERAL}"), |told| told.calls.to_string());
+        let literal = match game.n() <= SMALL {
+            true => opinion::literal(game, LITERAL).map_or(format!("over {LITERAL}"), |told| told.calls.to_string()),
+            false => "-".to_string(),
+        };
         let (first, second) = times(game).map_or(("-".into(), "-".into()), |(first, second)| (told(first), told(second)));
         let ratio = ours as f64 / calls as f64;
         println!("| {name} | {} | {calls} | {ours} | {ratio:.2} | {literal} | {first} | {second} |", game.n());

@@ -1,5 +1,5 @@
--- The level of a pass in the work area: V, then what is drawn; the next level, where the solver below stands, begins eight sets on.
--- What each piece asks for and leaves.
+-- The level of a pass in the work area: V, then what is drawn; the next level, where the solver below stands, begins eight sets
+-- on. What each piece asks for and leaves.
 use mathlib.Core.Bool.{true, false}
 use mathlib.Core.List.{List}
 use mathlib.Core.Logic.{_⊎_}

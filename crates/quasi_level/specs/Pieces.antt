@@ -153,9 +153,6 @@ drawn-held :
 unfolding gameOf
 drawn-held {t} {c} {base} {x = x} {y = y} drawn v = go (lt-or-ge v (vertices t))
   where
-    S : Set
-    S = attractor (gameOf t) c (onLevel t base x) (drawnAt t base x)
-
     go : (v < vertices t) ⊎ (vertices t ≤ v) → drawnAt t base y v ≡ attractor (gameOf t) c (onLevel t base x) (drawnAt t base x) v
     go (inl l) = drawn .holds .bits v l
     go (inr l) =
@@ -229,9 +226,6 @@ module _ {t : Tables} {s base : ℕ} {w₀ w₁ : List ℕ} (ready : Ready t s b
     top-made {looks} {w₃} {w₄} {w₅} drawn copied reduced =
         record { stays = stays-on (stays-on stays₂ drawn-stays) above; rest = rest }
       where
-        k : ℕ
-        k = words (vertices t)
-
         drawn′ : Attracted t (parity p) base (base + words (vertices t)) w₂ w₃ looks
         drawn′ = rw size at drawn
 
@@ -269,7 +263,8 @@ module _ {t : Tables} {s base : ℕ} {w₀ w₁ : List ℕ} (ready : Ready t s b
             (set-copied-here (vertices t) (base + 8 * words (vertices t)) base w₃ w₄ copied′ v ∙
             level-stays (ready .low) (omega arith) drawn-stays v ∙
             level₂ v)
-            (set-kept (vertices t) (base + words (vertices t)) w₃ w₄ (λ i l h. copied′ .rest i (inl (omega arith))) v ∙ same-drawn v)
+            (set-kept (vertices t) (base + words (vertices t)) w₃ w₄
+            (λ i l h. copied′ .rest i (inl (omega arith))) v ∙ same-drawn v)
 
 -- ---- the second cut
 
@@ -333,7 +328,8 @@ module _ {owners offsets targets : List ℕ} {alpha s base : ℕ} {w₀ w₁ : L
         }
       where
         drawn′ :
-            Attracted (tablesOf owners priorities offsets targets) (playerOf alpha) base (base + words (length owners)) w₁ w₂ looks
+            Attracted (tablesOf owners priorities offsets targets) (playerOf alpha) base
+            (base + words (length owners)) w₁ w₂ looks
         drawn′ = rw size₁ at drawn
 
         reduced′ : Combined _-_ base (base + words (length owners)) (words (length owners)) w₂ w₃

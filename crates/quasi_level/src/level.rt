@@ -25,7 +25,8 @@ pub fn size_at(n: usize, s: usize, work: &[u64], base: usize) -> usize
 pub fn highest_at(priorities: &[u16], s: usize, work: &[u64], base: usize) -> usize
     requires { ⌜ Held (length (now priorities)) s base (now work) ⌝ }
     ensures { λ r.
-        ⌜ r ≡ highestOf (now (priorities .entry)) (setAt (length (now (priorities .entry))) base (now (work .entry))) ⌝ }
+        ⌜ r ≡ highestOf (now (priorities .entry))
+        (setAt (length (now (priorities .entry))) base (now (work .entry))) ⌝ }
 {
     zielonka_level::get_highest_prio(priorities, &work[base..base + s]).0
 }

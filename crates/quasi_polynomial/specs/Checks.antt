@@ -48,7 +48,8 @@ numbered-check10 n m work = numbered-given 10 0 (ltb work (opinionWords n m)) (o
 pub numbered-checks : (t : Tables) (l : LentSets) → Numbered (opinionChecks t l)
 numbered-checks t l =
     numbered-then (tableChecks t) _ (numbered-tables t)
-    (numbered-then (check9 (vertices t) _ _) (opinionCheck10 (vertices t) (edgesIn t) _) (numbered-check9 _ _ _) (numbered-check10 _ _ _))
+    (numbered-then (check9 (vertices t) _ _) (opinionCheck10 (vertices t) (edgesIn t) _) (numbered-check9 _ _ _)
+    (numbered-check10 _ _ _))
 
 -- past the checks
 pub record Passed (t : Tables) (even odd work : ℕ) : Type 0 where

@@ -1,6 +1,6 @@
--- What a reader may conclude of `solve_quasi_polynomial`, from its contract alone: it answers whenever nothing is refused; its sets are
--- then the winning sets of demand 2, each vertex has one winner, and whatever other words hold winning sets, Zielonka's and
--- promotion's, are the same words; and any two results that meet the contract are equal.
+-- What a reader may conclude of `solve_quasi_polynomial`, from its contract alone: it answers whenever nothing is refused; its
+-- sets are then the winning sets of demand 2, each vertex has one winner, and whatever other words hold winning sets,
+-- Zielonka's and promotion's, are the same words; and any two results that meet the contract are equal.
 use mathlib.Core.Bool.{true}
 use mathlib.Core.List.{List, _++_}
 use mathlib.Core.Logic.{_⊎_, inl, inr, ⊎-elim}
@@ -56,7 +56,9 @@ words-same t won won′ c {xs} {ys} n n′ w w′ h h′ =
       clear = h′ .clear;
     })
 
-answer-holds : {t : Tables} {before after : LentSets} (a : OpinionAnswered t before after) (c : Player) → Holds (vertices t) (a .won c) (setFor after c)
+answer-holds :
+    {t : Tables} {before after : LentSets} (a : OpinionAnswered t before after) (c : Player) →
+    Holds (vertices t) (a .won c) (setFor after c)
 answer-holds a Even = a .even
 answer-holds a Odd = a .odd
 

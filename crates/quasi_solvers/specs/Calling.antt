@@ -14,8 +14,8 @@ use Rattle.separation.specs.Stages.{raised}
 use Rattle.quasi_level.specs.Level.{onLevel, Stays}
 use Rattle.quasi_level.specs.declared.passes.Sharp.{Sharp}
 
--- accepted tables with their predecessor table, V total and below n, every priority in V below the height, which has the opponent's
--- parity, and room for a level of eight sets for each height down to 0
+-- accepted tables with their predecessor table, V total and below n, every priority in V below the height, which has the
+-- opponent's parity, and room for a level of eight sets for each height down to 0
 pub record Called (t : Tables) (a : Player) (base height : ℕ) (work : List ℕ) : Type 0 where
   pub accepted : Accepted t
   pub table : Listed (vertices t) (t .offsets) (t .targets) work

@@ -16,7 +16,8 @@ use Rattle.rules.specs.Tables.{Tables, gameOf, vertices, edgesIn, words, tables
 use Rattle.rules.specs.Attractor.{attractor}
 use Rattle.rules.specs.Zielonka.{withPriority}
 use Rattle.sets.specs.After.{Combined, Cleared, other}
-use Rattle.theory.specs.Basics.{bool-cases, clash, not-true-is-false, and-left, and-intro, opponent-differs, opponent-twice, without-left, without-right}
+use Rattle.theory.specs.Basics.{bool-cases, clash, not-true-is-false, and-left}
+use Rattle.theory.specs.Basics.{and-intro, opponent-differs, opponent-twice, without-left, without-right}
 use Rattle.theory.specs.Basics.{count-some, count-zero, count-mono, count-strict, count-le}
 use Rattle.theory.specs.Attractor.{Fits, attractor-is}
 use Rattle.theory.specs.AttractorComplement.{TotalIn, rest-total}
@@ -30,7 +31,8 @@ use Rattle.separation.specs.Passing.{Pass, found-inside}
 use Rattle.separation.specs.Stages.{raised, precisionAt, nextStage, Standing, stage-begins, stage-found, stage-nothing}
 use Rattle.separation.specs.Stages.{stage-found-rises, stage-nothing-rises, cut-enough}
 use Rattle.zielonka_level.specs.Parts.{highestOf}
-use Rattle.quasi_level.specs.Level.{nextLevel, onLevel, Held, Ready, Stays, TopCut, Droppable, Dropped, FoundSome, FoundNothing, Settled, GaveUp, TurnedOver}
+use Rattle.quasi_level.specs.Level.{nextLevel, onLevel, Held, Ready, Stays, TopCut}
+use Rattle.quasi_level.specs.Level.{Droppable, Dropped, FoundSome, FoundNothing, Settled, GaveUp, TurnedOver}
 use Rattle.quasi_level.specs.Pieces.{stays-on, stays-under, level-stays}
 use Rattle.quasi_level.specs.Standing.{Began, AfterFound, AfterNothing, Ended}
 use Rattle.quasi_level.specs.declared.passes.Passes.{Passes}
@@ -95,12 +97,6 @@ stays-same = record { long = refl; table = λ i l. refl; lower = λ i f l. refl 
 module _ {t : Tables} {a : Player} {base height : ℕ} {w₀ : List ℕ} (called : Called t a base height w₀)
     {s : ℕ} (size : s ≡ words (vertices t))
   where
-    abbrev g : Game
-    g = gameOf t
-
-    abbrev V₀ : Set
-    V₀ = onLevel t base w₀
-
     -- V stands at the base
     pub called-held : Held (vertices t) s base w₀
     called-held =
@@ -247,7 +243,8 @@ module _ {t : Tables} {a : Player} {base height : ℕ} {w₀ : List ℕ} (called
                   });
               parts =
                   rw (over .keeps, over .drops)
-                  (separates-over (λ v. refl) (λ v. sym (left v)) (passed-over (separates-over same-set (λ v. refl) (solved .parts))));
+                  (separates-over (λ v. refl) (λ v. sym (left v))
+                  (passed-over (separates-over same-set (λ v. refl) (solved .parts))));
             }
           where
             reduced′ : Combined _-_ base (base + 8 * words (vertices t)) (words (vertices t)) w₂ w₃
@@ -297,7 +294,8 @@ module _ {t : Tables} {a : Player} {base height : ℕ} {w₀ : List ℕ} (called
           record {
             accepted = called .accepted;
             table =
-                listed-kept (vertices t) (t .offsets) (t .targets) w₀ w (going .stays .long) (going .stays .table) (called .table);
+                listed-kept (vertices t) (t .offsets) (t .targets) w₀ w (going .stays .long) (going .stays .table)
+                (called .table);
             size = size;
             low = called .low;
             high = omega (arith, called-high called size top, going .stays .long);
@@ -314,7 +312,8 @@ module _ {t : Tables} {a : Player} {base height : ℕ} {w₀ : List ℕ} (called
             cut .rest v ∙
             ap
             (λ (c : Player).
-            without (onLevel t base w) (attractor (gameOf t) c (onLevel t base w) (withPriority (gameOf t) (onLevel t base w) p)) v)
+            without (onLevel t base w)
+            (attractor (gameOf t) c (onLevel t base w) (withPriority (gameOf t) (onLevel t base w) p)) v)
             ours
 
         fits : Fits (gameOf t) (onLevel t base w) (withPriority (gameOf t) (onLevel t base w) p)
@@ -333,12 +332,14 @@ module _ {t : Tables} {a : Player} {base height : ℕ} {w₀ : List ℕ} (called
                   (called .table);
               low = omega (arith, called .low);
               room =
-                  let down = room-down (words (vertices t)) p height base (length w₀) (top-lower called size top) (called .room) in
+                  let down = room-down (words (vertices t)) p height base (length w₀) (top-lower called size top)
+                  (called .room) in
                   omega (arith, cut .stays .long, going .stays .long, size);
               below = λ v q. called .below v (inside v (without-left (onLevel t base w) A v (sym (rest v) ∙ q)));
               total =
                   subst (λ (S : Set). TotalIn (gameOf t) S) (sym (fun-ext rest))
-                  (rest-total (attractor-is (gameOf t) a (onLevel t base w) (withPriority (gameOf t) (onLevel t base w) p) fits .closed)
+                  (rest-total
+                  (attractor-is (gameOf t) a (onLevel t base w) (withPriority (gameOf t) (onLevel t base w) p) fits .closed)
                   (going .standing .narrowed .total));
               under = under;
               turn = ours ∙ sym (opponent-twice a);
@@ -352,7 +353,8 @@ module _ {t : Tables} {a : Player} {base height : ℕ} {w₀ : List ℕ} (called
                 let differs : gameOf t .priority v ≡ p → ⊥ =
                 λ e.
                 clash
-                (attractor-is (gameOf t) a (onLevel t base w) (withPriority (gameOf t) (onLevel t base w) p) fits .closed .target v
+                (attractor-is (gameOf t) a (onLevel t base w)
+                (withPriority (gameOf t) (onLevel t base w) p) fits .closed .target v
                 (and-intro in-V (eq-eqb _ p e)))
                 (without-right (onLevel t base w) A v in-rest) in
                 omega (arith, differs)
@@ -369,7 +371,8 @@ module _ {t : Tables} {a : Player} {base height : ℕ} {w₀ : List ℕ} (called
           S = onLevel t (base + 8 * s) w₂
 
           -- what a pass knows
-          pass : Pass (gameOf t) a (raised (vertices t) (sub .drops) mine) (raised (vertices t) (sub .keeps) k) (onLevel t base w) S
+          pass :
+              Pass (gameOf t) a (raised (vertices t) (sub .drops) mine) (raised (vertices t) (sub .keeps) k) (onLevel t base w) S
           unfolding gameOf
           pass =
               record {
@@ -435,7 +438,8 @@ module _ {t : Tables} {a : Player} {base height : ℕ} {w₀ : List ℕ} (called
                       Standing (gameOf t) a mine full half (onLevel t base w₀) (r .stage) (r .keeps) (r .drops) X)
                       (sym (fun-ext (left f)))
                       (rw (f .stand .stage, f .stand .keeps, f .stand .drops)
-                      (stage-found (omega arith) (passes .stage) (sub .keeps) (sub .drops) early (going .standing) (rw at at pass)));
+                      (stage-found (omega arith) (passes .stage) (sub .keeps) (sub .drops) early (going .standing)
+                      (rw at at pass)));
                 }
             going-on halved at (inr f) =
                 record {
@@ -447,7 +451,8 @@ module _ {t : Tables} {a : Player} {base height : ℕ} {w₀ : List ℕ} (called
                       Standing (gameOf t) a mine full half (onLevel t base w₀) (r .stage) (r .keeps) (r .drops) X)
                       (sym (fun-ext level₂))
                       (rw (f .stand .stage, f .stand .keeps, f .stand .drops)
-                      (stage-nothing (omega arith) (passes .stage) (sub .keeps) (sub .drops) early (going .standing) (rw at at pass)
+                      (stage-nothing (omega arith) (passes .stage) (sub .keeps) (sub .drops) early (going .standing)
+                      (rw at at pass)
                       (λ v. sym (next-set v) ∙ f .nothing v))));
                 }
 
@@ -490,7 +495,8 @@ module _ {t : Tables} {a : Player} {base height : ℕ} {w₀ : List ℕ} (called
                 let rises = stage-nothing-rises (passes .stage) (sub .keeps) half early in
                 let stage = f .stand .stage in
                 let same : count (vertices t) (onLevel t base w₃) ≡ count (vertices t) (onLevel t base w) =
-                ap (λ (X : Set). count (vertices t) X) (fun-ext (λ v. ap (λ (x : List ℕ). onLevel t base x v) (f .same) ∙ level₂ v)) in
+                ap (λ (X : Set). count (vertices t) X)
+                (fun-ext (λ v. ap (λ (x : List ℕ). onLevel t base x v) (f .same) ∙ level₂ v)) in
                 omega arith
 
       -- **At the end V is what the solver gives.**

@@ -34,7 +34,8 @@ pub fn solve_even(
     even: usize,
     odd: usize,
 ) -> Sharp
-    requires { ⌜ Called (tablesOf (now owners) (now priorities) (now offsets) (now targets)) Even base height (now work) ⌝ }
+    requires { ⌜ Called (tablesOf (now owners) (now priorities) (now offsets) (now targets)) Even base height
+        (now work) ⌝ }
     ensures { λ r.
         ⌜ Solved (tablesOf (now (owners .entry)) (now (priorities .entry)) (now (offsets .entry))
         (now (targets .entry))) Even base even odd (now (work .entry)) (now (work .exit)) r ⌝ }
@@ -86,7 +87,8 @@ pub fn solve_odd(
     even: usize,
     odd: usize,
 ) -> Sharp
-    requires { ⌜ Called (tablesOf (now owners) (now priorities) (now offsets) (now targets)) Odd base height (now work) ⌝ }
+    requires { ⌜ Called (tablesOf (now owners) (now priorities) (now offsets) (now targets)) Odd base height
+        (now work) ⌝ }
     ensures { λ r.
         ⌜ Solved (tablesOf (now (owners .entry)) (now (priorities .entry)) (now (offsets .entry))
         (now (targets .entry))) Odd base odd even (now (work .entry)) (now (work .exit)) r ⌝ }

@@ -1,5 +1,5 @@
--- "A second opinion": a solver that gives the winning sets alone. What it gives back and leaves is said by demand 2 itself; how it
--- finds the sets is not said here. It takes no budget, hands out no strategy, and asks for a larger work area.
+-- "A second opinion": a solver that gives the winning sets alone. What it gives back and leaves is said by demand 2 itself; how
+-- it finds the sets is not said here. It takes no budget, hands out no strategy, and asks for a larger work area.
 use mathlib.Core.List.{List, [], _∷_, _++_}
 use mathlib.Core.Path.{_≡_}
 use Prim.Native.Nat.{ℕ, _+_, _*_}

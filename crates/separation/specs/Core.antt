@@ -1,6 +1,6 @@
--- The core of a dominion D of the opponent's: its vertices from which no vertex of the highest priority h can be reached along the
--- dominion's choice. It is a dominion too, misses what a draws to h, and has a vertex where D has one: else a cycle of D would have
--- the highest priority h, which is a's.
+-- The core of a dominion D of the opponent's: its vertices from which no vertex of the highest priority h can be reached along
+-- the dominion's choice. It is a dominion too, misses what a draws to h, and has a vertex where D has one: else a cycle of D
+-- would have the highest priority h, which is a's.
 use mathlib.Core.Bool.{true, false, cond}
 use mathlib.Core.List.{[], _∷_, List·Memᴰ, List·Memᴰ·head, List·Memᴰ·eq-of-singleton}
 use mathlib.Core.Logic.{_⊎_, inl, inr, ⊎-elim}
@@ -57,8 +57,8 @@ edge-step g a b σ v w own e =
     (λ theirs. record { edge = rw (false-same (g .owner v) b theirs) at e; fixed = λ m. absurd (theirs m) })
     (owner-cases g b v)
 
--- what is to be found in a dominion D of the opponent's that has a vertex: a part of it that has one too, is the opponent's dominion
--- in V, and is one in what a does not draw to h
+-- what is to be found in a dominion D of the opponent's that has a vertex: a part of it that has one too, is the opponent's
+-- dominion in V, and is one in what a does not draw to h
 pub record Core (g : Game) (a : Player) (V' D : Set) (σ : ℕ → ℕ) (h : ℕ) : Type 0 where
   pub set : Set
   pub part : Subset set D
@@ -202,7 +202,8 @@ module _ {g : Game} {a : Player} {V' D : Set} {σ : ℕ → ℕ} {h : ℕ}
       unfolding Onward
       never v p =
           let (u, m, reach, cycle) =
-          comes-back (g .priority) (λ x y. D x ≡ true → Onward x y) (g .size) (λ x. moves x .0) (λ x l. moves x .2) (λ x l. moves x .1 l)
+          comes-back (g .priority) (λ x y. D x ≡ true → Onward x y) (g .size) (λ x. moves x .0) (λ x l. moves x .2)
+          (λ x l. moves x .1 l)
           v
           (below v (dom .within v p)) in
           let kept : (x y : ℕ) → (D x ≡ true → Onward x y) → D x ≡ true → D y ≡ true = λ x y s q. s q .0 .end in
@@ -211,17 +212,25 @@ module _ {g : Game} {a : Player} {V' D : Set} {σ : ℕ → ℕ} {h : ℕ}
           walk-map (λ x y s. s .edge (s .start)) (stays (λ x. D x ≡ true) kept there cycle) in
           ⊎-elim
           (λ (x, l, q).
-          let is : m ≡ h = highest-is h (λ y z s. most y (dom .within y (s .0 .start))) c x l (eqb-true _ h (and-right (D x) _ q)) in
+          let is : m ≡ h = highest-is h (λ y z s. most y (dom .within y (s .0 .start))) c x l
+          (eqb-true _ h (and-right (D x) _ q)) in
           opponent-differs a (sym (ap parity is ∙ mine) ∙ dom .cycles u m (walk-map (λ y z s. s .0) c)))
           (λ e. no-falling-cycle (certificate .rank) (λ y z s. s .edge .1 (s .start)) e)
           (hits U c)
+
+    -- where the core has no vertex, h can be reached from all of D
+    everywhere-reaching : some (g .size) core ≡ false → (u : ℕ) → D u ≡ true → reaching u ≡ true
+    everywhere-reaching none u q =
+        not-false-is-true (reaching u)
+        (λ o.
+        clash (without-intro D reaching u q o) (some-false (g .size) core none u (below u (dom .within u q))))
 
     -- where D has a vertex, so has its core
     core-some : (v : ℕ) → D v ≡ true → (u : ℕ) × (core u ≡ true)
     core-some v p =
         ⊎-elim
         (λ yes'. let (u, l, q) = some-elim (g .size) core yes' in (u, q))
-        (λ none. absurd (never (λ u q. not-false-is-true (reaching u) (λ o. clash (without-intro D reaching u q o) (some-false (g .size) core none u (below u (dom .within u q))))) v p))
+        (λ none. absurd (never (everywhere-reaching none) v p))
         (bool-cases (some (g .size) core))
 
     -- **A dominion of the opponent's that has a vertex has a core.**

@@ -1,5 +1,5 @@
--- One pass of a solver for a over a set V that shrinks: it keeps a's small dominions; where it finds nothing, no small dominion of the
--- opponent's is there; and where none of half the size is there, a pass at full precision leaves at most half of each.
+-- One pass of a solver for a over a set V that shrinks: it keeps a's small dominions; where it finds nothing, no small dominion
+-- of the opponent's is there; and where none of half the size is there, a pass at full precision leaves at most half of each.
 use mathlib.Core.Bool.{Bool, true, false, _&&_, cond}
 use mathlib.Core.Logic.{_⊎_, inl, inr, ⊎-elim}
 use mathlib.Core.Path.{_≡_, refl, sym, ap, subst, fun-ext, _∙_}
@@ -13,7 +13,8 @@ use Rattle.rules.specs.Game.{Player, opponent, Game, Edge, parity}
 use Rattle.rules.specs.Attractor.{IsAttractor, attractor}
 use Rattle.rules.specs.Zielonka.{withPriority}
 use Rattle.theory.specs.Basics.{bool-cases, clash, bool-ext, not-true-is-false, and-left, and-right, and-intro, lt-or-ge, Subset}
-use Rattle.theory.specs.Basics.{without-intro, without-left, without-right, opponent-differs, opponent-twice, other-player, count-some}
+use Rattle.theory.specs.Basics.{without-intro, without-left, without-right}
+use Rattle.theory.specs.Basics.{opponent-differs, opponent-twice, other-player, count-some}
 use Rattle.theory.specs.Dominion.{Dominion, dominion-cong, dominion-without, held-narrower}
 use Rattle.theory.specs.Attractor.{Fits, attractor-is}
 use Rattle.theory.specs.AttractorComplement.{TotalIn, own-stays-out, rest-total, trap-missed}
@@ -109,8 +110,8 @@ Barren g a V' k = (D : Set) → Small g (opponent a) V' k D → (v : ℕ) → D 
 abbrev pub Halved : Game → Player → ℕ → ℕ → Set → Set → Type 0
 Halved g a full half V₀ V' = (D : Set) → Small g (opponent a) V₀ full D → count (g .size) (both D V') ≤ half
 
--- what a pass at precision k knows: h is a's and the highest priority in V at most, and S is what the opponent's solver gave on what
--- a does not draw to h
+-- what a pass at precision k knows: h is a's and the highest priority in V at most, and S is what the opponent's solver gave on
+-- what a does not draw to h
 pub record Pass (g : Game) (a : Player) (own k : ℕ) (V' S : Set) : Type 0 where
   pub top : ℕ
   pub mine : parity top ≡ a
@@ -185,7 +186,8 @@ module _ {g : Game} {a : Player} {own k : ℕ} {V' S : Set} (pass : Pass g a own
         inside = without-left V' B;
         keeps =
             λ D small v p.
-            without-intro V' B v (small .dominion .within v p) (not-true-is-false (B v) (λ q. clash p (drawn-misses D small v q)));
+            without-intro V' B v (small .dominion .within v p)
+            (not-true-is-false (B v) (λ q. clash p (drawn-misses D small v q)));
         rests =
             λ D σ dom.
             dominion-cong (without V' B) (both D (without V' B)) σ (λ v. refl)
@@ -234,9 +236,6 @@ module _ {g : Game} {a : Player} {own k : ℕ} {V' S : Set} (pass : Pass g a own
       (λ less. less)
       (lt-or-ge half (count (g .size) (both D (without V' B))))
     where
-      left : Set
-      left = both D (without V' B)
-
       too-many : half < count (g .size) (both D (without V' B)) → ⊥
       too-many more =
           let (v, l, p) = count-some (g .size) (both D (without V' B)) (omega arith) in

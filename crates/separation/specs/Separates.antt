@@ -1,5 +1,5 @@
--- Sets that part the small dominions of the two players: what a solver for a gives, at a precision for its own dominions and one for
--- the opponent's. Giving up, a precision above the number of vertices, and a height that no vertex has.
+-- Sets that part the small dominions of the two players: what a solver for a gives, at a precision for its own dominions and
+-- one for the opponent's. Giving up, a precision above the number of vertices, and a height that no vertex has.
 use mathlib.Core.Bool.{true, false}
 use mathlib.Core.Path.{_≡_, sym, subst, subst₂, fun-ext, _∙_}
 use Prim.Native.Nat.{ℕ, _≤_, _<_}

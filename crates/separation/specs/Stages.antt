@@ -14,7 +14,8 @@ use Rattle.rules.specs.Attractor.{attractor}
 use Rattle.theory.specs.Basics.{bool-cases, and-left, and-right, and-intro, Subset, without-left, count-le}
 use Rattle.theory.specs.AttractorComplement.{TotalIn}
 use Rattle.separation.specs.Separates.{Small, Separates, fewer, precision-cut}
-use Rattle.separation.specs.Passing.{both, Narrowed, narrowed-not, narrowed-then, Barren, Halved, Pass, left-small, barren-none}
+use Rattle.separation.specs.Passing.{both, Narrowed, narrowed-not, narrowed-then}
+use Rattle.separation.specs.Passing.{Barren, Halved, Pass, left-small, barren-none}
 use Rattle.separation.specs.Passing.{pass-narrows, pass-barren, pass-halves, ends-full, ends-half}
 
 -- a precision, raised to n where an answer is sharp: no dominion has more than n vertices, so it is about them all
@@ -36,14 +37,6 @@ separates-asked {g} {V' = V'} {own = own} {other = other} e f s =
     (λ k l h. raised-enough (g .size) e own k (le-trans l (count-le (g .size) V')) h)
     (λ k l h. raised-enough (g .size) f other k (le-trans l (count-le (g .size) V')) h)
     s
-
--- and where it is sharp at its own or the other precision alone
-other-asked :
-    {g : Game} {a : Player} {V' R : Set} {own other : ℕ} (f : Bool) →
-    Separates g a V' own (raised (g .size) f other) R →
-    Separates g a V' own other R
-other-asked {g} {V' = V'} {other = other} f s =
-    precision-cut (λ k l h. h) (λ k l h. raised-enough (g .size) f other k (le-trans l (count-le (g .size) V')) h) s
 
 -- a sharp narrowing is one at the precision asked for
 narrowed-asked :
@@ -111,8 +104,8 @@ nextStage stage found sharp half =
     (cond (eqb stage 0) 0 (cond (eqb half 0) 3 2))
     (cond sharp 3 (cond (eqb stage 0) 1 3))
 
--- how the passes over V stand at a stage: whether all of a's dominions were kept, and at the end whether all of the opponent's were
--- dropped
+-- how the passes over V stand at a stage: whether all of a's dominions were kept, and at the end whether all of the opponent's
+-- were dropped
 pub record Standing
     (g : Game)
     (a : Player)

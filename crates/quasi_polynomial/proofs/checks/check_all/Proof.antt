@@ -125,7 +125,8 @@ number-requires-3 c κs = search needs
 returns-3 : tie.Need-returns-3
 returns-3 c =
     let g = past2 (c .before .before .before) in
-    stopped (c .before .before .check-set2 .result) (check3 g) (left3 g) (answered 0) (c .if3 .taken) (c .before .number3 .ensures)
+    stopped (c .before .before .check-set2 .result) (check3 g) (left3 g) (answered 0) (c .if3 .taken)
+    (c .before .number3 .ensures)
     (c .before .before .check-set2 .ensures) ∙
     out (is2 (c .before .before .before))
 

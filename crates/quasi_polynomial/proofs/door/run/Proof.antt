@@ -52,7 +52,9 @@ few g =
     (f .few-vertices, f .few-edges, omega (arith, g .pre .even-size))
 
 -- both sets stand in the work area
-fits : (g : tie.Start) → allAt (tables g) + length (g .args .even .now) + length (g .args .even .now) ≤ length (g .args .work .now)
+fits :
+    (g : tie.Start) →
+    allAt (tables g) + length (g .args .even .now) + length (g .args .even .now) ≤ length (g .args .work .now)
 fits g = run-fits (g .pre)
 
 -- the work area stays as long

@@ -44,7 +44,8 @@ passed :
     Passed (tables g) (length (g .args .even .now)) (length (g .args .odd .now)) (length (g .args .work .now))
 passed d =
     let g = start d in
-    checks-passed (tables g) (length (g .args .even .now)) (length (g .args .odd .now)) (length (g .args .work .now)) (no-refusal d)
+    checks-passed (tables g) (length (g .args .even .now)) (length (g .args .odd .now)) (length (g .args .work .now))
+    (no-refusal d)
 
 check-all-requires : tie.Need-check-all-requires
 check-all-requires c κs = search needs

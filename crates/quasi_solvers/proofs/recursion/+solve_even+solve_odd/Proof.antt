@@ -1,5 +1,6 @@
--- `solve_even` and `solve_odd` meet their contracts together. The number that falls from call to call is the height; in the loop of
--- passes it is made of the vertices of V and the stages that are left. Each answer cites the law of the piece, for either player.
+-- `solve_even` and `solve_odd` meet their contracts together. The number that falls from call to call is the height; in the
+-- loop of passes it is made of the vertices of V and the stages that are left. Each answer cites the law of the piece, for
+-- either player.
 use mathlib.Core.List.{List}
 use mathlib.Core.Logic.{inl, inr}
 use mathlib.Core.Path.{_≡_, refl, ap, _∙_}
@@ -14,7 +15,8 @@ use Rattle.quasi_solvers.specs.Calling.{Called}
 use Rattle.quasi_solvers.specs.Passing.{Going, toGo, called-held, called-searched, called-gives-up}
 use Rattle.quasi_solvers.specs.Passing.{called-top, top-lower, called-high, parity-even, parity-odd}
 use Rattle.quasi_solvers.specs.Passing.{turned-less, turned-called, turned-solved}
-use Rattle.quasi_solvers.specs.Passing.{going-first, going-ready, going-called, going-droppable, going-on, going-less, going-ends}
+use Rattle.quasi_solvers.specs.Passing.{going-first, going-ready, going-called}
+use Rattle.quasi_solvers.specs.Passing.{going-droppable, going-on, going-less, going-ends}
 use borrow.Author.Needs.{needs}
 use borrow.Fn.Kinds.{In, Out}
 use borrow.Fn.PlainCycle.{Measures, is, falls, and}
@@ -164,7 +166,8 @@ module _ (t : ℕ) where
   even-top c =
       let d = even-sized c in
       let e = c .before .before in
-      called-top (even-called d) (even-words d) (even-start d .args .even) (d .size-at .ensures) (e .before .least .ensures) (e .if1 .left)
+      called-top (even-called d) (even-words d) (even-start d .args .even) (d .size-at .ensures) (e .before .least .ensures)
+      (e .if1 .left)
       (c .highest-at .ensures)
 
   -- there is room for the next level
@@ -236,7 +239,8 @@ module _ (t : ℕ) where
       let h = even-topped copied in
       let d = even-sized h in
       let theirs = even-theirs (copied .before .before) in (
-        omega (arith, turned-less (even-called d) (even-words d) (even-top h) theirs (copied .copy-with .ensures), even-start d .pre .0),
+        omega
+            (arith, turned-less (even-called d) (even-words d) (even-top h) theirs (copied .copy-with .ensures), even-start d .pre .0),
         turned-called (even-called d) (even-words d) (even-top h) theirs (copied .copy-with .ensures),
       )
 
@@ -254,7 +258,8 @@ module _ (t : ℕ) where
       let turned = c .before .before in
       let solved = turned .before .before .before .before in
       let copied = even-copied solved in
-      omega (arith, turned .turn-over .ensures .reduced .long, solved .solve-odd .ensures .stays .long, copied .copy-with .ensures .long)
+      omega
+      (arith, turned .turn-over .ensures .reduced .long, solved .solve-odd .ensures .stays .long, copied .copy-with .ensures .long)
 
   even-returns-2 : even-At solve-even-lts.Need-returns-2
   even-returns-2 c =
@@ -263,7 +268,8 @@ module _ (t : ℕ) where
       let copied = even-copied solved in
       let h = even-topped copied in
       let d = even-sized h in
-      turned-solved (even-called d) (even-words d) (even-top h) (even-theirs (copied .before .before)) (copied .copy-with .ensures)
+      turned-solved (even-called d) (even-words d) (even-top h) (even-theirs (copied .before .before))
+      (copied .copy-with .ensures)
       (solved .solve-odd .ensures)
       (turned .turn-over .ensures)
 
@@ -468,7 +474,8 @@ module _ (t : ℕ) where
   odd-top c =
       let d = odd-sized c in
       let e = c .before .before in
-      called-top (odd-called d) (odd-words d) (odd-start d .args .odd) (d .size-at .ensures) (e .before .least .ensures) (e .if1 .left)
+      called-top (odd-called d) (odd-words d) (odd-start d .args .odd) (d .size-at .ensures) (e .before .least .ensures)
+      (e .if1 .left)
       (c .highest-at .ensures)
 
   -- there is room for the next level
@@ -540,7 +547,8 @@ module _ (t : ℕ) where
       let h = odd-topped copied in
       let d = odd-sized h in
       let theirs = odd-theirs (copied .before .before) in (
-        omega (arith, turned-less (odd-called d) (odd-words d) (odd-top h) theirs (copied .copy-with .ensures), odd-start d .pre .0),
+        omega
+            (arith, turned-less (odd-called d) (odd-words d) (odd-top h) theirs (copied .copy-with .ensures), odd-start d .pre .0),
         turned-called (odd-called d) (odd-words d) (odd-top h) theirs (copied .copy-with .ensures),
       )
 
@@ -558,7 +566,8 @@ module _ (t : ℕ) where
       let turned = c .before .before in
       let solved = turned .before .before .before .before in
       let copied = odd-copied solved in
-      omega (arith, turned .turn-over .ensures .reduced .long, solved .solve-even .ensures .stays .long, copied .copy-with .ensures .long)
+      omega
+      (arith, turned .turn-over .ensures .reduced .long, solved .solve-even .ensures .stays .long, copied .copy-with .ensures .long)
 
   odd-returns-2 : odd-At solve-odd-lts.Need-returns-2
   odd-returns-2 c =
