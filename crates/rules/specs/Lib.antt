@@ -21,3 +21,4 @@ pub mod Decimal
 pub mod Writing
 pub mod Printing
 pub mod Mending
+pub mod Record

@@ -1,0 +1,169 @@
+-- The game record of document 02's A7: sizes, tables with room to spare, and the kept numbers: how many vertices have each priority,
+-- how many different ones there are, and the highest. The three edits of a record, their refusals, and what each function gives
+-- back and leaves, for every input.
+use mathlib.Core.Bool.{Bool, not, cond, _||_, _&&_}
+use mathlib.Core.List.{List, [], _∷_, _++_}
+use mathlib.Core.Path.{_≡_}
+use Prim.Native.Nat.{ℕ, _+_}
+use lib.Dec.{eqb, ltb, leb}
+use lib.ListN.{length, getD, take, set}
+use Rattle.rules.specs.Counting.{Set, every, count, times, listed, greatest}
+use Rattle.rules.specs.Outcome.{Outcome, Verdict, none, refused, given, outcome, answered, _then_}
+use Rattle.rules.specs.Tables.{Tables, tablesOf, check1, tableChecks}
+
+pub record Record : Type 0 where
+  pub n : ℕ
+  pub m : ℕ
+  pub owners : List ℕ
+  pub priorities : List ℕ
+  pub offsets : List ℕ
+  pub targets : List ℕ
+  pub kept : List ℕ
+
+-- only the first n, n, n + 1 and m entries count
+abbrev pub tablesIn : Record → Tables
+tablesIn r = tablesOf (take (r .n) (r .owners)) (take (r .n) (r .priorities)) (take (r .n + 1) (r .offsets)) (take (r .m) (r .targets))
+
+-- how many vertices have priority 0 to 255
+unfoldable pub countsOf : List ℕ → List ℕ
+countsOf priorities = listed 256 (λ p. times p priorities)
+
+-- the priorities that some vertex has, by the counts
+abbrev pub counted : List ℕ → Set
+counted counts p = not (eqb (getD counts p 0) 0)
+
+-- how many different ones there are
+unfoldable pub differentIn : List ℕ → ℕ
+differentIn counts = count 256 (counted counts)
+
+-- the highest, or 0 where there is no vertex
+unfoldable pub highestIn : List ℕ → ℕ
+highestIn counts = greatest 256 (counted counts) (λ p. p)
+
+-- the counts, then those two
+unfoldable pub keptFor : List ℕ → List ℕ
+keptFor counts = counts ++ (differentIn counts ∷ (highestIn counts ∷ []))
+
+-- what a fresh count of priorities gives: 258 numbers
+unfoldable pub freshCount : List ℕ → List ℕ
+freshCount priorities = keptFor (countsOf priorities)
+
+-- two lists of numbers are the same
+unfoldable pub sameList : List ℕ → List ℕ → Bool
+sameList xs ys = eqb (length xs) (length ys) && every (length ys) (λ i. eqb (getD xs i 0) (getD ys i 0))
+
+-- 2: n above the room of owners or priorities, or n + 1 above that of offsets
+unfoldable pub room2 : Record → Verdict
+room2 r =
+    given 2 0
+    (ltb (length (r .owners)) (r .n) ||
+    ltb (length (r .priorities)) (r .n) ||
+    ltb (length (r .offsets)) (r .n + 1))
+
+-- 3: m above 16,384 or above the room of targets
+unfoldable pub room3 : Record → Verdict
+room3 r = given 3 0 (ltb 16384 (r .m) || ltb (length (r .targets)) (r .m))
+
+-- 1 to 3, by the sizes and the room
+unfoldable pub sizeChecks : Record → Verdict
+sizeChecks r = check1 (r .n) then room2 r then room3 r
+
+-- 1 to 8
+unfoldable pub recordTables : Record → Verdict
+recordTables r = sizeChecks r then tableChecks (tablesIn r)
+
+-- 47: kept numbers that a fresh count does not give
+unfoldable pub check47 : Record → Verdict
+check47 r = given 47 0 (not (sameList (r .kept) (freshCount (take (r .n) (r .priorities)))))
+
+-- 1 to 8, then 47
+unfoldable pub recordChecks : Record → Verdict
+recordChecks r = recordTables r then check47 r
+
+pub data Edit : Type 0 where
+  setPriority : ℕ → ℕ → Edit
+  setOwner : ℕ → ℕ → Edit
+  turnEdge : ℕ → ℕ → Edit
+
+-- 41: no such vertex or edge; 42: a priority above 255; 48: an owner not 0 or 1; 43: a target not below n
+unfoldable pub ownChecks : Edit → Record → Verdict
+ownChecks (setPriority v p) r = given 41 v (leb (r .n) v) then given 42 v (ltb 255 p)
+ownChecks (setOwner v o) r = given 41 v (leb (r .n) v) then given 48 v (ltb 1 o)
+ownChecks (turnEdge e w) r = given 41 e (leb (r .m) e) then given 43 e (leb (r .n) w)
+
+unfoldable pub editChecks : Edit → Record → Verdict
+editChecks e r = recordChecks r then ownChecks e r
+
+-- a record with other priorities, which are counted anew, with other owners, or with other targets
+abbrev pub withPriorities : Record → List ℕ → Record
+withPriorities r priorities =
+    record {
+      n = r .n;
+      m = r .m;
+      owners = r .owners;
+      priorities = priorities;
+      offsets = r .offsets;
+      targets = r .targets;
+      kept = freshCount (take (r .n) priorities);
+    }
+
+abbrev pub withOwners : Record → List ℕ → Record
+withOwners r owners =
+    record {
+      n = r .n;
+      m = r .m;
+      owners = owners;
+      priorities = r .priorities;
+      offsets = r .offsets;
+      targets = r .targets;
+      kept = r .kept;
+    }
+
+abbrev pub withTargets : Record → List ℕ → Record
+withTargets r targets =
+    record {
+      n = r .n;
+      m = r .m;
+      owners = r .owners;
+      priorities = r .priorities;
+      offsets = r .offsets;
+      targets = targets;
+      kept = r .kept;
+    }
+
+-- the one entry replaced
+abbrev pub changed : Edit → Record → Record
+changed (setPriority v p) r = withPriorities r (set (r .priorities) v p)
+changed (setOwner v o) r = withOwners r (set (r .owners) v o)
+changed (turnEdge e w) r = withTargets r (set (r .targets) e w)
+
+-- what a verdict leaves: a refused edit changes nothing
+abbrev pub leftBy : Verdict → Edit → Record → Record
+leftBy none e r = changed e r
+leftBy (refused k p) e r = r
+
+unfoldable pub edited : Edit → Record → Record
+edited e r = leftBy (editChecks e r) e r
+
+-- a sequence of edits, refused ones included
+unfoldable pub editedBy : List Edit → Record → Record
+editedBy [] r = r
+editedBy (e ∷ es) r = editedBy es (edited e r)
+
+-- the public functions that edit
+pub record Edits (e : Edit) (before after : Record) (o : Outcome) : Type 0 where
+  pub gives : o ≡ outcome (editChecks e before) (answered 0)
+  pub leaves : after ≡ edited e before
+
+-- a fresh count: 1 to 8, then 9 for a kept that is not 258 long; kept is an output, so there is no 47
+unfoldable pub freshChecks : Record → Verdict
+freshChecks r = recordTables r then given 9 0 (not (eqb (length (r .kept)) 258))
+
+abbrev pub keptBy : Verdict → Record → List ℕ
+keptBy none r = freshCount (take (r .n) (r .priorities))
+keptBy (refused k p) r = r .kept
+
+-- the public function that counts
+pub record CountsFresh (before : Record) (kept : List ℕ) (o : Outcome) : Type 0 where
+  pub gives : o ≡ outcome (freshChecks before) (answered 0)
+  pub leaves : kept ≡ keptBy (freshChecks before) before
