@@ -20,6 +20,18 @@ pub record Record : Type 0 where
   pub targets : List ℕ
   pub kept : List ℕ
 
+abbrev pub recordOf : ℕ → ℕ → List ℕ → List ℕ → List ℕ → List ℕ → List ℕ → Record
+recordOf n m owners priorities offsets targets kept =
+    record {
+      n = n;
+      m = m;
+      owners = owners;
+      priorities = priorities;
+      offsets = offsets;
+      targets = targets;
+      kept = kept;
+    }
+
 -- only the first n, n, n + 1 and m entries count
 abbrev pub tablesIn : Record → Tables
 tablesIn r = tablesOf (take (r .n) (r .owners)) (take (r .n) (r .priorities)) (take (r .n + 1) (r .offsets)) (take (r .m) (r .targets))
@@ -53,28 +65,30 @@ unfoldable pub sameList : List ℕ → List ℕ → Bool
 sameList xs ys = eqb (length xs) (length ys) && every (length ys) (λ i. eqb (getD xs i 0) (getD ys i 0))
 
 -- 2: n above the room of owners or priorities, or n + 1 above that of offsets
-unfoldable pub room2 : Record → Verdict
-room2 r =
-    given 2 0
-    (ltb (length (r .owners)) (r .n) ||
-    ltb (length (r .priorities)) (r .n) ||
-    ltb (length (r .offsets)) (r .n + 1))
+unfoldable pub room2 : ℕ → ℕ → ℕ → ℕ → Verdict
+room2 n ownerRoom priorityRoom offsetRoom = given 2 0 (ltb ownerRoom n || ltb priorityRoom n || ltb offsetRoom (n + 1))
 
 -- 3: m above 16,384 or above the room of targets
-unfoldable pub room3 : Record → Verdict
-room3 r = given 3 0 (ltb 16384 (r .m) || ltb (length (r .targets)) (r .m))
+unfoldable pub room3 : ℕ → ℕ → Verdict
+room3 m targetRoom = given 3 0 (ltb 16384 m || ltb targetRoom m)
 
 -- 1 to 3, by the sizes and the room
-unfoldable pub sizeChecks : Record → Verdict
-sizeChecks r = check1 (r .n) then room2 r then room3 r
+abbrev pub sizeChecks : Record → Verdict
+sizeChecks r =
+    check1 (r .n) then
+    room2 (r .n) (length (r .owners)) (length (r .priorities)) (length (r .offsets)) then
+    room3 (r .m) (length (r .targets))
 
 -- 1 to 8
 unfoldable pub recordTables : Record → Verdict
 recordTables r = sizeChecks r then tableChecks (tablesIn r)
 
--- 47: kept numbers that a fresh count does not give
-unfoldable pub check47 : Record → Verdict
-check47 r = given 47 0 (not (sameList (r .kept) (freshCount (take (r .n) (r .priorities)))))
+-- 47: kept numbers that a fresh count of the priorities does not give
+unfoldable pub keptCheck : List ℕ → List ℕ → Verdict
+keptCheck priorities kept = given 47 0 (not (sameList kept (freshCount priorities)))
+
+abbrev pub check47 : Record → Verdict
+check47 r = keptCheck (take (r .n) (r .priorities)) (r .kept)
 
 -- 1 to 8, then 47
 unfoldable pub recordChecks : Record → Verdict
@@ -97,39 +111,13 @@ editChecks e r = recordChecks r then ownChecks e r
 -- a record with other priorities, which are counted anew, with other owners, or with other targets
 abbrev pub withPriorities : Record → List ℕ → Record
 withPriorities r priorities =
-    record {
-      n = r .n;
-      m = r .m;
-      owners = r .owners;
-      priorities = priorities;
-      offsets = r .offsets;
-      targets = r .targets;
-      kept = freshCount (take (r .n) priorities);
-    }
+    recordOf (r .n) (r .m) (r .owners) priorities (r .offsets) (r .targets) (freshCount (take (r .n) priorities))
 
 abbrev pub withOwners : Record → List ℕ → Record
-withOwners r owners =
-    record {
-      n = r .n;
-      m = r .m;
-      owners = owners;
-      priorities = r .priorities;
-      offsets = r .offsets;
-      targets = r .targets;
-      kept = r .kept;
-    }
+withOwners r owners = recordOf (r .n) (r .m) owners (r .priorities) (r .offsets) (r .targets) (r .kept)
 
 abbrev pub withTargets : Record → List ℕ → Record
-withTargets r targets =
-    record {
-      n = r .n;
-      m = r .m;
-      owners = r .owners;
-      priorities = r .priorities;
-      offsets = r .offsets;
-      targets = targets;
-      kept = r .kept;
-    }
+withTargets r targets = recordOf (r .n) (r .m) (r .owners) (r .priorities) (r .offsets) targets (r .kept)
 
 -- the one entry replaced
 abbrev pub changed : Edit → Record → Record

@@ -13,7 +13,7 @@ use lib.Seq.{getD-set-same, getD-set-other, take-set-lt, drop-set-lt, length-tak
 use Rattle.rules.specs.Outcome.{Verdict, none, refused, given, _then_}
 use Rattle.rules.specs.Tables.{Tables, tablesOf, vertices, edgesIn, check1, tableChecks, Accepted}
 use Rattle.rules.specs.Record.{Record, Edit, setPriority, setOwner, turnEdge, tablesIn, freshCount, sameList, withPriorities, withOwners, withTargets}
-use Rattle.rules.specs.Record.{room2, room3, sizeChecks, recordTables, check47, recordChecks, ownChecks, editChecks, changed, leftBy, edited, editedBy}
+use Rattle.rules.specs.Record.{room2, room3, sizeChecks, recordTables, keptCheck, check47, recordChecks, ownChecks, editChecks, changed, leftBy, edited, editedBy}
 use Rattle.theory.specs.Basics.{bool-cases, or-false-both}
 use Rattle.theory.specs.Counts.{same-equal, equal-same}
 use Rattle.theory.specs.MendingAccepted.{sound-accepted}
@@ -30,32 +30,27 @@ pub record Roomy (r : Record) : Type 0 where
   pub few-edges : r .m ≤ 16384
   pub target-room : r .m ≤ length (r .targets)
 
-room2-none :
-    (r : Record) →
-    room2 r ≡ none →
-    (r .n ≤ length (r .owners)) × (r .n ≤ length (r .priorities)) × (r .n + 1 ≤ length (r .offsets))
+room2-none : (n o p f : ℕ) → room2 n o p f ≡ none → (n ≤ o) × (n ≤ p) × (n + 1 ≤ f)
 unfolding room2
-room2-none r e =
-    let owner = ltb (length (r .owners)) (r .n) in
-    let priority = ltb (length (r .priorities)) (r .n) in
-    let offset = ltb (length (r .offsets)) (r .n + 1) in
-    let (both, c) = or-false-both (owner || priority) offset (given-none 2 0 (owner || priority || offset) e) in
-    let (a, b) = or-false-both owner priority both in (ltb-false _ _ a, ltb-false _ _ b, ltb-false _ _ c)
+room2-none n o p f e =
+    let tests = ltb o n || ltb p n || ltb f (n + 1) in
+    let (both, c) = or-false-both (ltb o n || ltb p n) (ltb f (n + 1)) (given-none 2 0 tests e) in
+    let (a, b) = or-false-both (ltb o n) (ltb p n) both in (ltb-false _ _ a, ltb-false _ _ b, ltb-false _ _ c)
 
-room3-none : (r : Record) → room3 r ≡ none → (r .m ≤ 16384) × (r .m ≤ length (r .targets))
+room3-none : (m t : ℕ) → room3 m t ≡ none → (m ≤ 16384) × (m ≤ t)
 unfolding room3
-room3-none r e =
-    let many = ltb 16384 (r .m) in
-    let target = ltb (length (r .targets)) (r .m) in
-    let (a, b) = or-false-both many target (given-none 3 0 (many || target) e) in (ltb-false _ _ a, ltb-false _ _ b)
+room3-none m t e =
+    let (a, b) = or-false-both (ltb 16384 m) (ltb t m) (given-none 3 0 (ltb 16384 m || ltb t m) e) in
+    (ltb-false _ _ a, ltb-false _ _ b)
 
 pub roomy : (r : Record) → sizeChecks r ≡ none → Roomy r
-unfolding sizeChecks
 roomy r e =
-    let (one, rest) = then-none (check1 (r .n)) (room2 r then room3 r) e in
-    let (two, three) = then-none (room2 r) (room3 r) rest in
-    let (a, b, c) = room2-none r two in
-    let (d, f) = room3-none r three in
+    let second = room2 (r .n) (length (r .owners)) (length (r .priorities)) (length (r .offsets)) in
+    let third = room3 (r .m) (length (r .targets)) in
+    let (one, rest) = then-none (check1 (r .n)) (second then third) e in
+    let (two, three) = then-none second third rest in
+    let (a, b, c) = room2-none (r .n) _ _ _ two in
+    let (d, f) = room3-none (r .m) _ three in
     record {
       few-vertices = check1-none (r .n) one;
       owner-room = a;
@@ -66,7 +61,7 @@ roomy r e =
     }
 
 pub roomy-passes : (r : Record) → Roomy r → sizeChecks r ≡ none
-unfolding sizeChecks check1 room2 room3
+unfolding check1 room2 room3
 roomy-passes r h =
     rw (
       le-ltb 4096 (r .n) (h .few-vertices),
@@ -92,11 +87,11 @@ unfolding recordTables Accepted
 tables-passing r room ok = rw (roomy-passes r room) ok
 
 pub fresh-none : (r : Record) → check47 r ≡ none → r .kept ≡ freshCount (take (r .n) (r .priorities))
-unfolding check47
+unfolding keptCheck
 fresh-none r e = same-equal (r .kept) (freshCount (take (r .n) (r .priorities))) (not-false _ (given-none 47 0 _ e))
 
 pub fresh-passes : (r : Record) → r .kept ≡ freshCount (take (r .n) (r .priorities)) → check47 r ≡ none
-unfolding check47
+unfolding keptCheck
 fresh-passes r e = rw (equal-same (r .kept) (freshCount (take (r .n) (r .priorities))) e)
 
 pub passing : (r : Record) → recordChecks r ≡ none → Passing r
