@@ -3,16 +3,19 @@
 use mathlib.Core.Bool.{not, _||_}
 use mathlib.Core.List.{List, []}
 use mathlib.Core.Path.{_≡_, refl, sym, ap, _∙_}
-use Prim.Native.Nat.{ℕ, _+_}
+use Prim.Native.Nat.{ℕ, _+_, _-_}
+use native.Mathlib.Nat.{sub-zero}
 use native.Mathlib.Omega.{arith}
+use borrow.Author.Tests.{eq-eqb, ne-eqb}
 use lib.Dec.{eqb, ltb}
-use lib.ListN.{length, take}
+use lib.ListN.{length, take, drop}
 use lib.Seq.{length-take-le}
 use Rattle.rules.specs.Outcome.{Outcome, Verdict, none, refused, given, outcome, answered, _then_}
 use Rattle.rules.specs.Record.{Record, recordOf, room2, room3, sizeChecks, recordTables, keptCheck, check47, recordChecks, tablesIn, sameList}
 use Rattle.rules.specs.Record.{freshCount, freshChecks, keptBy, CountsFresh}
-use Rattle.rules.specs.Tables.{Accepted, check1, tableChecks}
+use Rattle.rules.specs.Tables.{tablesOf, check1, tableChecks}
 use Rattle.parity_game.specs.Laws.{Numbered, numbered-then, numbered-given, numbered-check1, numbered-tables, accepted-sound}
+use Rattle.parity_game.specs.Said.{refusal}
 use Rattle.theory.specs.Edits.{Roomy, tables-pass}
 use Rattle.kept_numbers.specs.Steps.{Small}
 
@@ -81,3 +84,31 @@ pub fresh-written :
     kept ≡ freshCount (take (r .n) (r .priorities)) →
     CountsFresh r kept (answered 0)
 fresh-written r kept ok e = record { gives = rw ok; leaves = rw ok e }
+
+-- a part from 0 on is the front
+pub part-front : (n : ℕ) (xs : List ℕ) → take (n - 0) (drop 0 xs) ≡ take n xs
+part-front n xs = simp sub-zero
+
+pub part-fronts :
+    (r : Record) →
+    tablesOf (take (r .n - 0) (drop 0 (r .owners))) (take (r .n - 0) (drop 0 (r .priorities)))
+    (take (r .n + 1 - 0) (drop 0 (r .offsets)))
+    (take (r .m - 0) (drop 0 (r .targets))) ≡
+    tablesIn r
+part-fronts r = simp sub-zero
+
+-- 9 for kept numbers of another length, and none for 258 of them
+pub fresh-nine :
+    (r : Record) →
+    recordTables r ≡ none →
+    (length (r .kept) ≡ 258 → ⊥) →
+    CountsFresh r (r .kept) (refusal 9 0)
+unfolding freshChecks
+fresh-nine r ok n =
+    fresh-refused r (refusal 9 0)
+    (rw (ok, ne-eqb (length (r .kept)) 258 n))
+    (λ z. absurd (omega arith))
+
+pub fresh-passes : (r : Record) → recordTables r ≡ none → length (r .kept) ≡ 258 → freshChecks r ≡ none
+unfolding freshChecks
+fresh-passes r ok e = rw (ok, eq-eqb (length (r .kept)) 258 e)
