@@ -14,7 +14,14 @@ ghost use Rattle.parity_game.specs.Said.{said};
 ghost use Rattle.theory.specs.Edits.{Roomy};
 
 // 1 to 3, by the sizes and the room.
-fn check_sizes(n: usize, m: usize, owners: usize, priorities: usize, offsets: usize, targets: usize) -> Answer
+fn check_sizes(
+    n: usize,
+    m: usize,
+    owners: usize,
+    priorities: usize,
+    offsets: usize,
+    targets: usize,
+) -> Answer
     ensures { λ r.
         ⌜ said r
         ≡ outcome (check1 n then room2 n owners priorities offsets then room3 m targets) (answered 0) ⌝ }
@@ -41,7 +48,14 @@ fn check_sizes(n: usize, m: usize, owners: usize, priorities: usize, offsets: us
 }
 
 // 1 to 8 of the entries that count.
-fn check_fronts(n: usize, m: usize, owners: &[u8], priorities: &[u16], offsets: &[u16], targets: &[u16]) -> Answer
+fn check_fronts(
+    n: usize,
+    m: usize,
+    owners: &[u8],
+    priorities: &[u16],
+    offsets: &[u16],
+    targets: &[u16],
+) -> Answer
     requires { ⌜ Roomy (recordOf n m (now owners) (now priorities) (now offsets) (now targets) []) ⌝ }
     ensures { λ r.
         ⌜ said r
@@ -60,7 +74,14 @@ fn check_fronts(n: usize, m: usize, owners: &[u8], priorities: &[u16], offsets: 
 }
 
 // 1 to 8, which look at no kept numbers.
-pub fn check_room(n: usize, m: usize, owners: &[u8], priorities: &[u16], offsets: &[u16], targets: &[u16]) -> Answer
+pub fn check_room(
+    n: usize,
+    m: usize,
+    owners: &[u8],
+    priorities: &[u16],
+    offsets: &[u16],
+    targets: &[u16],
+) -> Answer
     ensures { λ r.
         ⌜ said r
         ≡ outcome
@@ -68,7 +89,14 @@ pub fn check_room(n: usize, m: usize, owners: &[u8], priorities: &[u16], offsets
         (recordOf n m (now (owners .entry)) (now (priorities .entry)) (now (offsets .entry)) (now (targets .entry)) []))
         (answered 0) ⌝ }
 {
-    let r = check_sizes(n, m, owners.len(), priorities.len(), offsets.len(), targets.len());
+    let r = check_sizes(
+        n,
+        m,
+        owners.len(),
+        priorities.len(),
+        offsets.len(),
+        targets.len(),
+    );
     if r.number() != 0 {
         return r;
     }

@@ -29,7 +29,6 @@ returns c =
     (kept-differs (args .priorities .now) (args .kept .now)
     (λ e. c .if1 .taken (ap (λ (l : List ℕ). length l) e ∙ length-fresh (args .priorities .now))))
 
-
 fresh-requires : tie.Need-fresh-requires Inv-loop μ-loop
 fresh-requires c κs = search needs
 
@@ -58,7 +57,6 @@ returns-2 c =
     entry-differs (c .before .before .before .loop .i) (args .kept .now) (counted .fresh .result) (c .if2 .taken)
     (e ∙ sym (counted .fresh .ensures))))
 
-
 add-i : tie.Need-add-i Inv-loop μ-loop
 add-i c = search needs
 
@@ -73,7 +71,6 @@ loop-again c =
           (c .if2 .left),
     )
 
-
 returns-3 : tie.Need-returns-3 Inv-loop μ-loop
 returns-3 c =
     let at = c .before in
@@ -86,7 +83,6 @@ returns-3 c =
     (long ∙ sym (ap (λ (l : List ℕ). length l) (counted .fresh .ensures) ∙ length-fresh (args .priorities .now)))
     (λ k l. at .loop .inv .1 k (omega arith)) ∙
     counted .fresh .ensures))
-
 
 pub check-kept-spec : {M : Type 1} → statement M
 check-kept-spec =

@@ -22,6 +22,5 @@ returns c =
     (tallied .tally .ensures)
     (c .before .sum-up .ensures)
 
-
 pub fresh-spec : {M : Type 1} → statement M
 fresh-spec = tie.close (tie.spec tally-requires slice-aggregate-sum-up sum-up-requires returns)

@@ -52,7 +52,6 @@ loop-again c =
     ))
     (c .if1 .came)
 
-
 slice-write-kept : tie.Need-slice-write-kept Inv-loop μ-loop
 slice-write-kept c = search needs
 
@@ -67,7 +66,6 @@ returns c =
     let at = c .before in
     let done : at .loop .p ≡ 256 = omega arith in
     summed-all (at .before .args .kept .now) (at .loop .different) (at .loop .highest) (at .before .pre) (rw done at (at .loop .inv .2))
-
 
 pub sum-up-spec : {M : Type 1} → statement M
 sum-up-spec =

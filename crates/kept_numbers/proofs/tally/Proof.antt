@@ -51,7 +51,6 @@ array-read-counts c = omega (arith, small c)
 add-counts : tie.Need-add-counts Inv-loop μ-loop
 add-counts c = record { fits = omega (arith, few c, c .before .before .before .pre .few) }
 
-
 array-write-counts : tie.Need-array-write-counts Inv-loop μ-loop
 array-write-counts c = omega (arith, small c)
 
@@ -70,14 +69,12 @@ loop-again c =
           (omega (arith, small c)),
     )
 
-
 returns : tie.Need-returns Inv-loop μ-loop
 returns c =
     let at = c .before in
     let ps = at .before .args .priorities .now in
     let done : at .loop .v ≡ length ps = omega arith in
     tallied-all ps (at .loop .counts) (rw done at (at .loop .inv .2))
-
 
 pub tally-spec : {M : Type 1} → statement M
 tally-spec =

@@ -49,7 +49,6 @@ loop-again c =
       agree-set (at .loop .i) (at .loop .kept) (at .before .fresh .result) (omega arith) (at .loop .inv .2),
     )
 
-
 same-length : tie.Need-same-length Inv-loop μ-loop
 same-length c = search needs
 
@@ -60,7 +59,6 @@ returns c =
     let long = ap (λ (l : List ℕ). length l) (counted .fresh .ensures) ∙ length-fresh (counted .before .before .before .args .priorities .now) in
     agree-all (at .loop .kept) (counted .fresh .result) (at .loop .inv .1 ∙ sym long) (λ k l. at .loop .inv .2 k (omega arith)) ∙
     counted .fresh .ensures
-
 
 pub write-fresh-spec : {M : Type 1} → statement M
 write-fresh-spec =

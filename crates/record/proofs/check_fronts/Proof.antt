@@ -60,7 +60,6 @@ returns c =
     (part-fronts
     (recordOf (args .n) (args .m) (args .owners .now) (args .priorities .now) (args .offsets .now) (args .targets .now) []))
 
-
 pub check-fronts-spec : {M : Type 1} → statement M
 check-fronts-spec =
     tie.close

@@ -47,7 +47,6 @@ returns c =
     stopped (called .result) (recordTables r) (check47 r) (answered 0) (c .if1 .taken) (c .before .number .ensures)
     (rw (tables-unkept r) at (called .ensures))
 
-
 sub-check-kept : tie.Need-sub-check-kept
 sub-check-kept c = search needs
 
@@ -61,7 +60,6 @@ check-kept-requires : tie.Need-check-kept-requires
 check-kept-requires c κs =
     let r = lent (c .before .before .before .before .before .before .before .before .before) in rw (part-front (r .n) (r .priorities)) (countable r (tables-ok (c .before)))
 
-
 returns-2 : tie.Need-returns-2
 unfolding recordChecks
 returns-2 c =
@@ -69,7 +67,6 @@ returns-2 c =
     c .check-kept .ensures ∙
     ap (λ (ps : List ℕ). outcome (keptCheck ps (r .kept)) (answered 0)) (part-front (r .n) (r .priorities)) ∙
     sym (outcome-pass (recordTables r) (check47 r) (answered 0) (tables-ok (c .before .before)))
-
 
 pub check-record-spec : {M : Type 1} → statement M
 check-record-spec =

@@ -41,17 +41,14 @@ returns c =
     stopped (called .result) (sizeChecks r) (tableChecks (tablesIn r)) (answered 0) (c .if1 .taken) (c .before .number .ensures)
     (called .ensures)
 
-
 check-fronts-requires : tie.Need-check-fronts-requires
 check-fronts-requires c κs = roomy (lent (c .before .before .before .before .before .before .before)) (sizes-pass c)
-
 
 returns-2 : tie.Need-returns-2
 unfolding recordTables
 returns-2 c =
     let r = lent (c .before .before .before .before .before .before .before .before) in
     c .check-fronts .ensures ∙ sym (outcome-pass (sizeChecks r) (tableChecks (tablesIn r)) (answered 0) (sizes-pass (c .before)))
-
 
 pub check-room-spec : {M : Type 1} → statement M
 check-room-spec =

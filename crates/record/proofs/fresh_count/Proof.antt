@@ -54,10 +54,8 @@ returns c =
     (rw (tables-unkept r) at (called .ensures)))
     (refusal-not-zero (called .result) (c .if1 .taken) (c .before .number .ensures))
 
-
 returns-2 : tie.Need-returns-2
 returns-2 c = fresh-nine (lent (c .before .before .before .before .before .before .before .before .before)) (tables-ok (c .before)) (c .if2 .taken)
-
 
 sub-write-fresh : tie.Need-sub-write-fresh
 sub-write-fresh c = search needs
@@ -73,7 +71,6 @@ write-fresh-requires c κs =
     let r = lent (c .before .before .before .before .before .before .before .before .before .before .before) in
     (rw (part-front (r .n) (r .priorities)) (countable r (tables-ok (c .before .before .before))), c .before .before .if2 .left)
 
-
 same-length : tie.Need-same-length
 same-length c = search needs
 
@@ -84,7 +81,6 @@ returns-3 c =
     let sized = wrote .before .before .before in
     fresh-written r (wrote .write-fresh .last .1 .0) (fresh-passes r (tables-ok (sized .before)) (sized .if2 .left))
     (wrote .write-fresh .ensures ∙ ap (λ (ps : List ℕ). freshCount ps) (part-front (r .n) (r .priorities)))
-
 
 pub fresh-count-spec : {M : Type 1} → statement M
 fresh-count-spec =
