@@ -67,6 +67,16 @@ pub enum Refusal {
     NoStrategy(usize),
     /// 35: an output or a list shorter than needed.
     ShortOutput,
+    /// 41: no such vertex or edge, the one asked for.
+    NoSuchEntry(usize),
+    /// 42: a priority above 255, for this vertex.
+    HighPriority(usize),
+    /// 43: a target that is no vertex, for this edge.
+    NoSuchTarget(usize),
+    /// 47: kept numbers that a fresh count does not give. [`Game`](crate::Game) keeps its own and never gives it.
+    KeptDiffer,
+    /// 48: an owner that is neither 0 nor 1, for this vertex.
+    NoSuchOwner(usize),
     /// A number that this crate does not know. The library that it is made for gives none.
     Unknown {
         /// The number.
@@ -104,6 +114,11 @@ impl Refusal {
             Refusal::ShortText(length) => (34, length),
             Refusal::NoStrategy(vertex) => (25, vertex),
             Refusal::ShortOutput => (35, 0),
+            Refusal::NoSuchEntry(entry) => (41, entry),
+            Refusal::HighPriority(vertex) => (42, vertex),
+            Refusal::NoSuchTarget(edge) => (43, edge),
+            Refusal::KeptDiffer => (47, 0),
+            Refusal::NoSuchOwner(vertex) => (48, vertex),
             Refusal::Unknown { number, place } => (number, place),
         }
     }
@@ -139,6 +154,11 @@ impl Answer {
             34 => Refusal::ShortText(place),
             25 => Refusal::NoStrategy(place),
             35 => Refusal::ShortOutput,
+            41 => Refusal::NoSuchEntry(place),
+            42 => Refusal::HighPriority(place),
+            43 => Refusal::NoSuchTarget(place),
+            47 => Refusal::KeptDiffer,
+            48 => Refusal::NoSuchOwner(place),
             number => Refusal::Unknown { number, place },
         })
     }
@@ -172,6 +192,11 @@ impl fmt::Display for Refusal {
             Refusal::ShortText(_) => (Some("length"), "the text is shorter than needed"),
             Refusal::NoStrategy(_) => (Some("vertex"), "an entry is needed, and the strategy has none at all"),
             Refusal::ShortOutput => (None, "an output or the list is too short"),
+            Refusal::NoSuchEntry(_) => (Some("vertex or edge"), "there is none"),
+            Refusal::HighPriority(_) => (Some("vertex"), "the new priority is above 255"),
+            Refusal::NoSuchTarget(_) => (Some("edge"), "the new target is no vertex"),
+            Refusal::KeptDiffer => (None, "the kept numbers are not a fresh count's"),
+            Refusal::NoSuchOwner(_) => (Some("vertex"), "the new owner is neither 0 nor 1"),
             Refusal::Unknown { .. } => (Some("place"), "a number that this crate does not know"),
         };
         let (number, place) = self.number_and_place();

@@ -2,7 +2,7 @@
 #![forbid(unsafe_code)]
 
 use crate::doors::{self, set_words, work_words};
-use crate::{Answer, Refusal, MAX_TEXT, NONE};
+use crate::{Answer, Refusal, KEPT, MAX_TEXT, NONE};
 
 /// Even or Odd; `player as u8` is the number in the tables.
 #[derive(Clone, Copy, Debug, PartialEq, Eq, Hash)]
@@ -46,6 +46,8 @@ pub struct Game {
     priorities: Vec<u16>,
     offsets: Vec<u16>,
     targets: Vec<u16>,
+    // a fresh count of the priorities
+    kept: Vec<u64>,
 }
 
 /// Who wins where, by which choices.
@@ -125,9 +127,49 @@ impl Game {
         offsets: Vec<u16>,
         targets: Vec<u16>,
     ) -> Result<Game, Refusal> {
-        let game = Game { owners, priorities, offsets, targets };
-        doors::check_tables(game.tables()).result()?;
+        doors::check_tables(Tables { owners: &owners, priorities: &priorities, offsets: &offsets, targets: &targets }).result()?;
+        Game::counted(owners, priorities, offsets, targets)
+    }
+
+    // From tables whose lengths agree, with their fresh count.
+    fn counted(owners: Vec<u8>, priorities: Vec<u16>, offsets: Vec<u16>, targets: Vec<u16>) -> Result<Game, Refusal> {
+        let mut game = Game { owners, priorities, offsets, targets, kept: vec![0; KEPT] };
+        let (n, m) = game.sizes();
+        doors::fresh_count(n, m, &game.owners, &game.priorities, &game.offsets, &game.targets, &mut game.kept).result()?;
         Ok(game)
+    }
+
+    fn sizes(&self) -> (u64, u64) {
+        (self.owners.len() as u64, self.targets.len() as u64)
+    }
+
+    /// Sets the priority of a vertex; refuses by [`Refusal::NoSuchEntry`] and [`HighPriority`](Refusal::HighPriority), and
+    /// changes nothing then.
+    pub fn set_priority(&mut self, vertex: usize, priority: u16) -> Result<(), Refusal> {
+        let (n, m) = self.sizes();
+        let Game { owners, priorities, offsets, targets, kept } = self;
+        let (vertex, priority) = (vertex as u64, u64::from(priority));
+        doors::set_priority(n, m, owners, priorities, offsets, targets, kept, vertex, priority).result().map(|_| ())
+    }
+
+    /// Sets the owner of a vertex; refuses by [`Refusal::NoSuchEntry`], and changes nothing then.
+    pub fn set_owner(&mut self, vertex: usize, owner: Player) -> Result<(), Refusal> {
+        let (n, m) = self.sizes();
+        let Game { owners, priorities, offsets, targets, kept } = self;
+        doors::set_owner(n, m, owners, priorities, offsets, targets, kept, vertex as u64, owner as u64).result().map(|_| ())
+    }
+
+    /// Turns an edge, by its index among the targets, to another target; refuses by [`Refusal::NoSuchEntry`] and
+    /// [`NoSuchTarget`](Refusal::NoSuchTarget), and changes nothing then.
+    pub fn turn_edge(&mut self, edge: usize, target: usize) -> Result<(), Refusal> {
+        let (n, m) = self.sizes();
+        let Game { owners, priorities, offsets, targets, kept } = self;
+        doors::turn_edge(n, m, owners, priorities, offsets, targets, kept, edge as u64, target as u64).result().map(|_| ())
+    }
+
+    /// The kept numbers: how many vertices have priority 0 to 255, how many different ones there are, the highest.
+    pub fn kept(&self) -> &[u64] {
+        &self.kept
     }
 
     /// Reads a game from PGSolver text of up to 16 MiB, with at most 4,096 vertices and 16,384 edges.
@@ -141,25 +183,21 @@ impl Game {
     /// ```
     pub fn read(text: &[u8]) -> Result<Game, Refusal> {
         let (vertices, edges) = (crate::MAX_VERTICES, crate::MAX_EDGES);
-        let mut game = Game {
-            owners: vec![0; vertices],
-            priorities: vec![0; vertices],
-            offsets: vec![0; vertices + 1],
-            targets: vec![0; edges],
-        };
+        let (mut owners, mut priorities) = (vec![0; vertices], vec![0; vertices]);
+        let (mut offsets, mut targets) = (vec![0; vertices + 1], vec![0; edges]);
         let rooms = doors::Rooms {
-            owners: &mut game.owners,
-            priorities: &mut game.priorities,
-            offsets: &mut game.offsets,
-            targets: &mut game.targets,
+            owners: &mut owners,
+            priorities: &mut priorities,
+            offsets: &mut offsets,
+            targets: &mut targets,
         };
         let (answer, n, m) = doors::read(text, crate::MAX_READ, rooms, &mut vec![0; vertices + edges]);
         answer.result()?;
-        game.owners.truncate(n);
-        game.priorities.truncate(n);
-        game.offsets.truncate(n + 1);
-        game.targets.truncate(m);
-        Ok(game)
+        owners.truncate(n);
+        priorities.truncate(n);
+        offsets.truncate(n + 1);
+        targets.truncate(m);
+        Game::counted(owners, priorities, offsets, targets)
     }
 
 
@@ -190,7 +228,7 @@ impl Game {
         Ok(Mended {
             dropped: dropped.iter().map(|edge| usize::from(*edge)).collect(),
             altered: pairs.chunks(2).map(|pair| (usize::from(pair[0]), pair[1])).collect(),
-            game: Game { owners: tables.owners.to_vec(), priorities, offsets, targets },
+            game: Game::counted(tables.owners.to_vec(), priorities, offsets, targets)?,
         })
     }
 
