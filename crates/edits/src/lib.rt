@@ -1,5 +1,5 @@
-// The three edits of a game record: one priority, one owner, or one edge's target. Each checks the record, then its own two
-// refusals, and writes the one entry that it names; the kept numbers follow a changed priority.
+// The three edits of a game record: one priority, one owner, or one edge's target. Each checks the record, then its own
+// two refusals, and writes the one entry that it names; the kept numbers follow a changed priority.
 use parity_game::Answer;
 use parity_game::HIGH_PRIORITY;
 use parity_game::NO_SUCH_ENTRY;

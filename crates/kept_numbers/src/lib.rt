@@ -1,5 +1,5 @@
-// The kept numbers of a game record: a fresh count of the priorities, its comparison with what is kept, and one vertex moved
-// from a priority to another. What is told of the counts, how many differ and the highest, is in `sum_up` alone.
+// The kept numbers of a game record: a fresh count of the priorities, its comparison with what is kept, and one vertex
+// moved from a priority to another. What is told of the counts, how many differ and the highest, is in `sum_up` alone.
 use parity_game::Answer;
 use parity_game::KEPT_DIFFER;
 ghost use mathlib.Core.Path.{_≡_};

@@ -1,5 +1,6 @@
-// The game record's own checks: `check_record` is the one stage that every function that takes a record calls first. Where it lets
-// the record pass, the first n, n, n + 1 and m entries are accepted tables, and what is kept is a fresh count of them.
+// The game record's own checks: `check_record` is the one stage that every function that takes a record calls first.
+// Where it lets the record pass, the first n, n, n + 1 and m entries are accepted tables, and what is kept is a fresh
+// count of them.
 use parity_game::Answer;
 use parity_game::BAD_SIZE;
 use parity_game::TABLE_LENGTHS;

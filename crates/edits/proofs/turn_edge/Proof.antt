@@ -10,7 +10,8 @@ use Rattle.parity_game.specs.Said.{said}
 use Rattle.parity_game.proofs.Matched.{went-on, stopped, refusal-not-zero}
 use Rattle.theory.specs.Edits.{Roomy, passing}
 use Rattle.record.specs.Laws.{numbered-record}
-use Rattle.edits.specs.Laws.{ownAsks, numbered-own, own-none, asks-target, refused-record, refused-own, edit-made}
+use Rattle.edits.specs.Laws.{ownAsks, numbered-own, own-none, asks-target}
+use Rattle.edits.specs.Laws.{refused-record, refused-own, edit-made}
 use borrow.Author.Needs.{needs}
 use Rattle.edits.proofs.turn_edge.Statement.{statement}
 use Rattle.edits.proofs.turn_edge.Tie as tie
@@ -21,7 +22,8 @@ use Rattle.record.proofs.check_record.Reads as check-record-reads
 -- the record as lent, and the edit asked for
 abbrev lent : tie.Start → Record
 lent c =
-    recordOf (c .args .n) (c .args .m) (c .args .owners .now) (c .args .priorities .now) (c .args .offsets .now) (c .args .targets .now)
+    recordOf (c .args .n) (c .args .m) (c .args .owners .now) (c .args .priorities .now) (c .args .offsets .now)
+    (c .args .targets .now)
     (c .args .kept .now)
 
 abbrev asked : tie.Start → Edit
@@ -30,26 +32,32 @@ asked c = turnEdge (c .args .edge) (c .args .target)
 abbrev own : tie.Start → Verdict
 own c = ownAsks (c .args .m) (c .args .edge) (c .args .target) (c .args .n) 43
 
+abbrev start1 : tie.Else1 → tie.Start
+start1 c = c .before .before .before .before .before .before .before .before .before
+
+abbrev start2 : tie.Else2 → tie.Start
+start2 c = start1 (c .before .before .before)
+
 -- past the first check the record passes, and past the second the edit's own checks do
-checked : (c : tie.Else1) → recordChecks (lent (c .before .before .before .before .before .before .before .before .before)) ≡ none
+checked : (c : tie.Else1) → recordChecks (lent (start1 c)) ≡ none
 checked c =
     let called = c .before .before .check-record in
-    let r = lent (c .before .before .before .before .before .before .before .before .before) in
+    let r = lent (start1 c) in
     went-on (called .result) (recordChecks r) (c .if1 .left) (c .before .number .ensures) (numbered-record r) (called .ensures)
 
-own-passes : (c : tie.Else2) → own (c .before .before .before .before .before .before .before .before .before .before .before .before) ≡ none
+own-passes : (c : tie.Else2) → own (start2 c) ≡ none
 own-passes c =
     let called = c .before .before .check-own in
-    let at = c .before .before .before .before .before .before .before .before .before .before .before .before in
+    let at = start2 c in
     went-on (called .result) (own at) (c .if2 .left) (c .before .number2 .ensures)
     (numbered-own (at .args .m) (at .args .edge) (at .args .target) (at .args .n) 43 (omega arith))
     (called .ensures)
 
-there : (c : tie.Else2) → let at = c .before .before .before .before .before .before .before .before .before .before .before .before in (at .args .edge < (at .args .m)) × (at .args .target < (at .args .n))
-there c = let at = c .before .before .before .before .before .before .before .before .before .before .before .before in own-none (at .args .m) (at .args .edge) (at .args .target) (at .args .n) 43 (own-passes c)
+there : (c : tie.Else2) → let at = start2 c in (at .args .edge < (at .args .m)) × (at .args .target < (at .args .n))
+there c = let at = start2 c in own-none (at .args .m) (at .args .edge) (at .args .target) (at .args .n) 43 (own-passes c)
 
-room : (c : tie.Else2) → Roomy (lent (c .before .before .before .before .before .before .before .before .before .before .before .before))
-room c = passing (lent (c .before .before .before .before .before .before .before .before .before .before .before .before)) (checked (c .before .before .before)) .room
+room : (c : tie.Else2) → Roomy (lent (start2 c))
+room c = passing (lent (start2 c)) (checked (c .before .before .before)) .room
 
 check-record-requires : tie.Need-check-record-requires
 check-record-requires c κs = search needs
@@ -102,7 +110,7 @@ same-length-3 c = search needs
 
 returns-3 : tie.Need-returns-3
 returns-3 c =
-    let at = c .before .before .before .before .before .before .before .before .before .before .before .before in
+    let at = start2 c in
     edit-made (asked at) (lent at) (changed (asked at) (lent at)) (own at) (checked (c .before .before .before))
     (asks-target (at .args .edge) (at .args .target) (lent at))
     (own-passes c)
