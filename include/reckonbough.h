@@ -90,9 +90,17 @@
 #define RECKONBOUGH_NO_VERTEX 33        /* write: n is 0 */
 #define RECKONBOUGH_SHORT_TEXT 34       /* write: a text shorter than needed; place: the length needed */
 #define RECKONBOUGH_SHORT_OUTPUT 35     /* mend: an output or the list is shorter than needed */
+#define RECKONBOUGH_NO_SUCH_ENTRY 41    /* edits: no such vertex or edge; place: the one asked for, as for 42, 43 and 48 */
+#define RECKONBOUGH_HIGH_PRIORITY 42    /* edits: a priority above 255 */
+#define RECKONBOUGH_NO_SUCH_TARGET 43   /* edits: a target not below n */
 #define RECKONBOUGH_NO_SUCH_VERTEX 44   /* show_loop: the vertex is not below n; place: its number */
 #define RECKONBOUGH_SHORT_LIST 45       /* show_loop: a list shorter than 2 * n entries */
 #define RECKONBOUGH_NO_LOOP 46          /* show_loop: no cycle of the owner's parity can be reached; place: the vertex */
+#define RECKONBOUGH_KEPT_DIFFER 47      /* a record: kept numbers that a fresh count does not give */
+#define RECKONBOUGH_NO_SUCH_OWNER 48    /* edits: an owner that is not 0 or 1 */
+
+/* The kept numbers of a record: how many vertices have priority 0 to 255, how many different ones there are, the highest. */
+#define RECKONBOUGH_KEPT 258
 
 #ifdef __cplusplus
 extern "C" {
@@ -391,6 +399,69 @@ uint64_t reckonbough_write(
     const uint16_t *offsets, size_t offsets_length,
     const uint16_t *targets, size_t targets_length,
     uint8_t *text, size_t text_length,
+    uint64_t *place, uint64_t *count);
+
+/*
+ * A record: the sizes n and m, the four tables with room to spare, of which only the first n, n, n + 1 and m entries count, and
+ * the kept numbers, RECKONBOUGH_KEPT of them. 2 is given where n is above the room of owners or priorities or n + 1 above that
+ * of offsets, 3 where m is above 16384 or above the room of targets; 47, after 8, for kept numbers that a fresh count does not give.
+ *
+ * Counts the priorities of a record afresh.
+ * Writes kept, RECKONBOUGH_KEPT numbers.
+ * Gives 0, 1 to 8, or 9 for a kept of another length. The count is 0.
+ */
+uint64_t reckonbough_fresh_count(
+    uint64_t n, uint64_t m,
+    const uint8_t *owners, size_t owners_room,
+    const uint16_t *priorities, size_t priorities_room,
+    const uint16_t *offsets, size_t offsets_room,
+    const uint16_t *targets, size_t targets_room,
+    uint64_t *kept, size_t kept_length,
+    uint64_t *place, uint64_t *count);
+
+/*
+ * Sets the priority of a vertex.
+ * Writes that entry of priorities, and kept, which is then a fresh count. A refusal writes nothing.
+ * Gives 0, 1 to 8, 47, 41 or 42. The count is 0.
+ */
+uint64_t reckonbough_set_priority(
+    uint64_t n, uint64_t m,
+    const uint8_t *owners, size_t owners_room,
+    uint16_t *priorities, size_t priorities_room,
+    const uint16_t *offsets, size_t offsets_room,
+    const uint16_t *targets, size_t targets_room,
+    uint64_t *kept, size_t kept_length,
+    uint64_t vertex, uint64_t priority,
+    uint64_t *place, uint64_t *count);
+
+/*
+ * Sets the owner of a vertex, 0 or 1.
+ * Writes that entry of owners. A refusal writes nothing.
+ * Gives 0, 1 to 8, 47, 41 or 48. The count is 0.
+ */
+uint64_t reckonbough_set_owner(
+    uint64_t n, uint64_t m,
+    uint8_t *owners, size_t owners_room,
+    const uint16_t *priorities, size_t priorities_room,
+    const uint16_t *offsets, size_t offsets_room,
+    const uint16_t *targets, size_t targets_room,
+    const uint64_t *kept, size_t kept_length,
+    uint64_t vertex, uint64_t owner,
+    uint64_t *place, uint64_t *count);
+
+/*
+ * Turns an edge to another target.
+ * Writes that entry of targets. A refusal writes nothing.
+ * Gives 0, 1 to 8, 47, 41 or 43. The count is 0.
+ */
+uint64_t reckonbough_turn_edge(
+    uint64_t n, uint64_t m,
+    const uint8_t *owners, size_t owners_room,
+    const uint16_t *priorities, size_t priorities_room,
+    const uint16_t *offsets, size_t offsets_room,
+    uint16_t *targets, size_t targets_room,
+    const uint64_t *kept, size_t kept_length,
+    uint64_t edge, uint64_t target,
     uint64_t *place, uint64_t *count);
 
 #ifdef __cplusplus

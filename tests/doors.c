@@ -1,6 +1,7 @@
 /*
  * The names of the numbers; what only C can pass: null pointers for empty slices, and players other than 0 and 1; results
- * without a strategy; a second opinion; an export that is mended; a game as text; and the largest game. Every function is called.
+ * without a strategy; a second opinion; an export that is mended; a game as text; a record that is edited; and the largest game.
+ * Every function is called.
  * Each line is what was asked and the number, the place and the count given; tests/doors compares them.
  */
 #include <inttypes.h>
@@ -46,9 +47,14 @@ static void names(void)
         RECKONBOUGH_NO_VERTEX,
         RECKONBOUGH_SHORT_TEXT,
         RECKONBOUGH_SHORT_OUTPUT,
+        RECKONBOUGH_NO_SUCH_ENTRY,
+        RECKONBOUGH_HIGH_PRIORITY,
+        RECKONBOUGH_NO_SUCH_TARGET,
         RECKONBOUGH_NO_SUCH_VERTEX,
         RECKONBOUGH_SHORT_LIST,
         RECKONBOUGH_NO_LOOP,
+        RECKONBOUGH_KEPT_DIFFER,
+        RECKONBOUGH_NO_SUCH_OWNER,
     };
     printf("numbers:");
     for (size_t i = 0; i < sizeof numbers / sizeof *numbers; i++)
@@ -247,6 +253,38 @@ static void in_portions(void)
     printf("  %u vertices, %u edges, priority %u\n", (unsigned)n, (unsigned)m, (unsigned)priorities[0]);
 }
 
+/* C7 as a record with room for one vertex and one edge more: each edit and each of its refusals, and what is kept. */
+static void edits(void)
+{
+    uint8_t owners[3] = {0, 1, 9};
+    uint16_t priorities[3] = {2, 0, 9}, offsets[4] = {0, 1, 3, 9}, targets[4] = {1, 0, 1, 9};
+    uint64_t kept[RECKONBOUGH_KEPT] = {7};
+#define RECORD(n, m) n, m, owners, 3, priorities, 3, offsets, 4, targets, 4, kept, RECKONBOUGH_KEPT
+    print("set_owner before the count", reckonbough_set_owner(RECORD(2, 3), 0, 1, &place, &count));
+    print("fresh_count, 257 kept",
+          reckonbough_fresh_count(2, 3, owners, 3, priorities, 3, offsets, 4, targets, 4, kept, 257, &place, &count));
+    print("fresh_count of 4 vertices", reckonbough_fresh_count(RECORD(4, 3), &place, &count));
+    print("fresh_count of 5 edges", reckonbough_fresh_count(RECORD(2, 5), &place, &count));
+    print("fresh_count", reckonbough_fresh_count(RECORD(2, 3), &place, &count));
+    printf("  %u %u %u, %u different, highest %u\n", (unsigned)kept[0], (unsigned)kept[1], (unsigned)kept[2], (unsigned)kept[256],
+           (unsigned)kept[257]);
+    print("set_priority of vertex 2", reckonbough_set_priority(RECORD(2, 3), 2, 256, &place, &count));
+    print("set_priority to 256", reckonbough_set_priority(RECORD(2, 3), 1, 256, &place, &count));
+    print("set_priority to 1", reckonbough_set_priority(RECORD(2, 3), 0, 1, &place, &count));
+    printf("  %u %u %u, %u different, highest %u\n", (unsigned)kept[0], (unsigned)kept[1], (unsigned)kept[2], (unsigned)kept[256],
+           (unsigned)kept[257]);
+    print("set_owner of vertex 2^64 - 1", reckonbough_set_owner(RECORD(2, 3), UINT64_MAX, 2, &place, &count));
+    print("set_owner to 2", reckonbough_set_owner(RECORD(2, 3), 1, 2, &place, &count));
+    print("set_owner to 1", reckonbough_set_owner(RECORD(2, 3), 0, 1, &place, &count));
+    print("turn_edge of edge 3", reckonbough_turn_edge(RECORD(2, 3), 3, 2, &place, &count));
+    print("turn_edge to 2", reckonbough_turn_edge(RECORD(2, 3), 2, 2, &place, &count));
+    print("turn_edge to 0", reckonbough_turn_edge(RECORD(2, 3), 2, 0, &place, &count));
+    printf("  owners %u %u %u, priorities %u %u %u, targets %u %u %u %u\n", owners[0], owners[1], owners[2], priorities[0],
+           priorities[1], priorities[2], targets[0], targets[1], targets[2], targets[3]);
+    kept[9] = 1;
+    print("set_priority, one kept number wrong", reckonbough_set_priority(RECORD(2, 3), 0, 0, &place, &count));
+}
+
 /*
  * The largest game, 2,048 pairs: E2 to the pair's other; E1 to itself and to the next pair. Zielonka's recursion nests 2,049
  * deep in it. One vertex more is refused.
@@ -294,6 +332,7 @@ int main(void)
     as_text();
     loops();
     in_portions();
+    edits();
     most_vertices();
     return 0;
 }

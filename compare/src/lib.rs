@@ -3,6 +3,8 @@
 
 pub mod compare;
 pub mod definition;
+#[cfg(feature = "port")]
+pub mod edits;
 pub mod game;
 pub mod generate;
 pub mod hard;

@@ -15,6 +15,10 @@ const SHOWN: u64 = 10;
 #[cfg(feature = "port")]
 const TRIPS: u64 = 20_000;
 
+/// How many sequences of edits are made.
+#[cfg(feature = "port")]
+const SEQUENCES: u64 = 20_000;
+
 /// How many damaged exports are mended.
 #[cfg(feature = "port")]
 const DAMAGED: u64 = 20_000;
@@ -52,6 +56,7 @@ fn all(random: u64, large: u64, allowed: u64) -> i32 {
     let families = [
         boundaries(),
         damaged(),
+        edited(),
         family("worked games C2 to C9", worked().into_iter().map(|(_, game)| game).filter(|game| game.n() > 0)),
         family("two vertices", generate::two_vertices()),
         family("three vertices", generate::three_vertices()),
@@ -84,6 +89,30 @@ fn boundaries() -> Family {
         println!("DIFFERENCE at the limits: {what}");
         return Family { differ: 1, ..Family::default() };
     }
+    Family::default()
+}
+
+/// Sequences of edits, on the port alone: the oracle edits none.
+fn edited() -> Family {
+    #[cfg(feature = "port")]
+    {
+        let (start, mut refused, mut differ) = (Instant::now(), 0, 0);
+        for number in 0..SEQUENCES {
+            match compare::edits::compare(number) {
+                Ok(more) => refused += more,
+                Err(what) => {
+                    differ += 1;
+                    if differ <= SHOWN {
+                        println!("DIFFERENCE in the sequence of edits {number}: {what}");
+                    }
+                }
+            }
+        }
+        let seconds = start.elapsed().as_secs_f64();
+        println!("sequences of edits: {SEQUENCES}, {refused} edits refused alike, {differ} differ, {seconds:.1} s");
+        return Family { differ, ..Family::default() };
+    }
+    #[cfg(not(feature = "port"))]
     Family::default()
 }
 

@@ -235,3 +235,55 @@ pub fn mend(game: &Game, lent: &mut Outputs) -> Answer {
 pub fn write(game: &Game, text: &mut [u8]) -> Answer {
     door!(reckonbough_write(game, text.as_mut_ptr() => *mut u8, text.len() => usize))
 }
+
+/// A game record: sizes, tables with room to spare, and the kept numbers.
+#[derive(Clone, Debug, PartialEq, Eq)]
+pub struct Record {
+    pub n: u64,
+    pub m: u64,
+    pub tables: Game,
+    pub kept: Vec<u64>,
+}
+
+/// Declares a door that takes a record and gives the answer of calling it. The doors write through some of the pointers only.
+macro_rules! editing {
+    ($name:ident($record:expr $(, $value:expr)*)) => {{
+        extern "C" {
+            fn $name(
+                n: u64, m: u64,
+                owners: *mut u8, owners_len: usize, priorities: *mut u16, priorities_len: usize,
+                offsets: *mut u16, offsets_len: usize, targets: *mut u16, targets_len: usize,
+                kept: *mut u64, kept_len: usize, $(_: editing!(@kind $value),)* place: *mut u64, count: *mut u64,
+            ) -> u64;
+        }
+        let Record { n, m, tables, kept } = $record;
+        let (mut place, mut count) = (u64::MAX, u64::MAX);
+        // Every pointer goes with the length of the slice it was taken from.
+        let number = unsafe {
+            $name(
+                *n, *m,
+                tables.owners.as_mut_ptr(), tables.owners.len(), tables.priorities.as_mut_ptr(), tables.priorities.len(),
+                tables.offsets.as_mut_ptr(), tables.offsets.len(), tables.targets.as_mut_ptr(), tables.targets.len(),
+                kept.as_mut_ptr(), kept.len(), $($value,)* &mut place, &mut count,
+            )
+        };
+        Answer { number, place, count }
+    }};
+    (@kind $value:expr) => { u64 };
+}
+
+pub fn fresh_count(record: &mut Record) -> Answer {
+    editing!(reckonbough_fresh_count(record))
+}
+
+pub fn set_priority(record: &mut Record, vertex: u64, priority: u64) -> Answer {
+    editing!(reckonbough_set_priority(record, vertex, priority))
+}
+
+pub fn set_owner(record: &mut Record, vertex: u64, owner: u64) -> Answer {
+    editing!(reckonbough_set_owner(record, vertex, owner))
+}
+
+pub fn turn_edge(record: &mut Record, edge: u64, target: u64) -> Answer {
+    editing!(reckonbough_turn_edge(record, edge, target))
+}

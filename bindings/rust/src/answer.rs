@@ -67,12 +67,22 @@ pub enum Refusal {
     NoStrategy(usize),
     /// 35: an output or a list shorter than needed.
     ShortOutput,
+    /// 41: no such vertex or edge, the one asked for.
+    NoSuchEntry(usize),
+    /// 42: a priority above 255, for this vertex.
+    HighPriority(usize),
+    /// 43: a target that is no vertex, for this edge.
+    NoSuchTarget(usize),
     /// 44: a vertex that is not below n.
     NoSuchVertex(usize),
     /// 45: a list shorter than 2·n entries.
     ShortList,
     /// 46: a vertex from which no cycle of the owner's parity can be reached.
     NoLoop(usize),
+    /// 47: kept numbers that a fresh count does not give. [`Game`](crate::Game) keeps its own and never gives it.
+    KeptDiffer,
+    /// 48: an owner that is neither 0 nor 1, for this vertex.
+    NoSuchOwner(usize),
     /// A number that this crate does not know. The library that it is made for gives none.
     Unknown {
         /// The number.
@@ -110,9 +120,14 @@ impl Refusal {
             Refusal::ShortText(length) => (34, length),
             Refusal::NoStrategy(vertex) => (25, vertex),
             Refusal::ShortOutput => (35, 0),
+            Refusal::NoSuchEntry(entry) => (41, entry),
+            Refusal::HighPriority(vertex) => (42, vertex),
+            Refusal::NoSuchTarget(edge) => (43, edge),
             Refusal::NoSuchVertex(vertex) => (44, vertex),
             Refusal::ShortList => (45, 0),
             Refusal::NoLoop(vertex) => (46, vertex),
+            Refusal::KeptDiffer => (47, 0),
+            Refusal::NoSuchOwner(vertex) => (48, vertex),
             Refusal::Unknown { number, place } => (number, place),
         }
     }
@@ -148,9 +163,14 @@ impl Answer {
             34 => Refusal::ShortText(place),
             25 => Refusal::NoStrategy(place),
             35 => Refusal::ShortOutput,
+            41 => Refusal::NoSuchEntry(place),
+            42 => Refusal::HighPriority(place),
+            43 => Refusal::NoSuchTarget(place),
             44 => Refusal::NoSuchVertex(place),
             45 => Refusal::ShortList,
             46 => Refusal::NoLoop(place),
+            47 => Refusal::KeptDiffer,
+            48 => Refusal::NoSuchOwner(place),
             number => Refusal::Unknown { number, place },
         })
     }
@@ -184,9 +204,14 @@ impl fmt::Display for Refusal {
             Refusal::ShortText(_) => (Some("length"), "the text is shorter than needed"),
             Refusal::NoStrategy(_) => (Some("vertex"), "an entry is needed, and the strategy has none at all"),
             Refusal::ShortOutput => (None, "an output or the list is too short"),
+            Refusal::NoSuchEntry(_) => (Some("vertex or edge"), "there is none"),
+            Refusal::HighPriority(_) => (Some("vertex"), "the new priority is above 255"),
+            Refusal::NoSuchTarget(_) => (Some("edge"), "the new target is no vertex"),
             Refusal::NoSuchVertex(_) => (Some("vertex"), "there is no such vertex"),
             Refusal::ShortList => (None, "a list is shorter than twice the vertices"),
             Refusal::NoLoop(_) => (Some("vertex"), "no cycle that the owner wins can be reached"),
+            Refusal::KeptDiffer => (None, "the kept numbers are not a fresh count's"),
+            Refusal::NoSuchOwner(_) => (Some("vertex"), "the new owner is neither 0 nor 1"),
             Refusal::Unknown { .. } => (Some("place"), "a number that this crate does not know"),
         };
         let (number, place) = self.number_and_place();

@@ -197,6 +197,45 @@ extern "C" {
         text: *mut u8, text_length: usize,
         place: *mut u64, count: *mut u64,
     ) -> u64;
+    fn reckonbough_fresh_count(
+        n: u64, m: u64,
+        owners: *const u8, owners_room: usize,
+        priorities: *const u16, priorities_room: usize,
+        offsets: *const u16, offsets_room: usize,
+        targets: *const u16, targets_room: usize,
+        kept: *mut u64, kept_length: usize,
+        place: *mut u64, count: *mut u64,
+    ) -> u64;
+    fn reckonbough_set_priority(
+        n: u64, m: u64,
+        owners: *const u8, owners_room: usize,
+        priorities: *mut u16, priorities_room: usize,
+        offsets: *const u16, offsets_room: usize,
+        targets: *const u16, targets_room: usize,
+        kept: *mut u64, kept_length: usize,
+        vertex: u64, priority: u64,
+        place: *mut u64, count: *mut u64,
+    ) -> u64;
+    fn reckonbough_set_owner(
+        n: u64, m: u64,
+        owners: *mut u8, owners_room: usize,
+        priorities: *const u16, priorities_room: usize,
+        offsets: *const u16, offsets_room: usize,
+        targets: *const u16, targets_room: usize,
+        kept: *const u64, kept_length: usize,
+        vertex: u64, owner: u64,
+        place: *mut u64, count: *mut u64,
+    ) -> u64;
+    fn reckonbough_turn_edge(
+        n: u64, m: u64,
+        owners: *const u8, owners_room: usize,
+        priorities: *const u16, priorities_room: usize,
+        offsets: *const u16, offsets_room: usize,
+        targets: *mut u16, targets_room: usize,
+        kept: *const u64, kept_length: usize,
+        edge: u64, target: u64,
+        place: *mut u64, count: *mut u64,
+    ) -> u64;
 }
 
 /// Calls a C function with the tables, its own arguments, place and count.
@@ -425,4 +464,122 @@ pub fn mend(
 /// length. [`MAX_TEXT`](crate::MAX_TEXT) bytes are enough for every game.
 pub fn write(tables: Tables<'_>, text: &mut [u8]) -> Answer {
     call!(reckonbough_write, tables, text.as_mut_ptr(), text.len())
+}
+
+/// Counts the priorities of a record afresh: 0, 1 to 8, or 9 for a kept that is not [`KEPT`](crate::KEPT) numbers.
+#[rustfmt::skip]
+#[allow(clippy::too_many_arguments)]
+pub fn fresh_count(
+    n: u64,
+    m: u64,
+    owners: &[u8],
+    priorities: &[u16],
+    offsets: &[u16],
+    targets: &[u16],
+    kept: &mut [u64],
+) -> Answer {
+    let (mut place, mut count) = (0, 0);
+    // SAFETY: as for the functions on tables.
+    let number = unsafe {
+        reckonbough_fresh_count(
+            n, m,
+            owners.as_ptr(), owners.len(),
+            priorities.as_ptr(), priorities.len(),
+            offsets.as_ptr(), offsets.len(),
+            targets.as_ptr(), targets.len(),
+            kept.as_mut_ptr(), kept.len(),
+            &mut place, &mut count,
+        )
+    };
+    Answer { number, place, count }
+}
+
+/// Sets the priority of a vertex of a record, and its kept numbers: 0, 1 to 8, 47, 41 or 42.
+#[rustfmt::skip]
+#[allow(clippy::too_many_arguments)]
+pub fn set_priority(
+    n: u64,
+    m: u64,
+    owners: &[u8],
+    priorities: &mut [u16],
+    offsets: &[u16],
+    targets: &[u16],
+    kept: &mut [u64],
+    vertex: u64,
+    priority: u64,
+) -> Answer {
+    let (mut place, mut count) = (0, 0);
+    // SAFETY: as for the functions on tables.
+    let number = unsafe {
+        reckonbough_set_priority(
+            n, m,
+            owners.as_ptr(), owners.len(),
+            priorities.as_mut_ptr(), priorities.len(),
+            offsets.as_ptr(), offsets.len(),
+            targets.as_ptr(), targets.len(),
+            kept.as_mut_ptr(), kept.len(),
+            vertex, priority, &mut place, &mut count,
+        )
+    };
+    Answer { number, place, count }
+}
+
+/// Sets the owner of a vertex of a record: 0, 1 to 8, 47, 41 or 48.
+#[rustfmt::skip]
+#[allow(clippy::too_many_arguments)]
+pub fn set_owner(
+    n: u64,
+    m: u64,
+    owners: &mut [u8],
+    priorities: &[u16],
+    offsets: &[u16],
+    targets: &[u16],
+    kept: &[u64],
+    vertex: u64,
+    owner: u64,
+) -> Answer {
+    let (mut place, mut count) = (0, 0);
+    // SAFETY: as for the functions on tables.
+    let number = unsafe {
+        reckonbough_set_owner(
+            n, m,
+            owners.as_mut_ptr(), owners.len(),
+            priorities.as_ptr(), priorities.len(),
+            offsets.as_ptr(), offsets.len(),
+            targets.as_ptr(), targets.len(),
+            kept.as_ptr(), kept.len(),
+            vertex, owner, &mut place, &mut count,
+        )
+    };
+    Answer { number, place, count }
+}
+
+/// Turns an edge of a record to another target: 0, 1 to 8, 47, 41 or 43.
+#[rustfmt::skip]
+#[allow(clippy::too_many_arguments)]
+pub fn turn_edge(
+    n: u64,
+    m: u64,
+    owners: &[u8],
+    priorities: &[u16],
+    offsets: &[u16],
+    targets: &mut [u16],
+    kept: &[u64],
+    edge: u64,
+    target: u64,
+) -> Answer {
+    let (mut place, mut count) = (0, 0);
+    // SAFETY: as for the functions on tables.
+    let number = unsafe {
+        reckonbough_turn_edge(
+            n, m,
+            owners.as_ptr(), owners.len(),
+            priorities.as_ptr(), priorities.len(),
+            offsets.as_ptr(), offsets.len(),
+            targets.as_mut_ptr(), targets.len(),
+            kept.as_ptr(), kept.len(),
+            edge, target, &mut place, &mut count,
+        )
+    };
+    Answer { number, place, count }
 }

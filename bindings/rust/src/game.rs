@@ -2,7 +2,7 @@
 #![forbid(unsafe_code)]
 
 use crate::doors::{self, opinion_words, set_words, work_words};
-use crate::{Answer, Refusal, MAX_TEXT, NONE};
+use crate::{Answer, Refusal, KEPT, MAX_TEXT, NONE};
 
 /// Even or Odd; `player as u8` is the number in the tables.
 #[derive(Clone, Copy, Debug, PartialEq, Eq, Hash)]
@@ -46,6 +46,8 @@ pub struct Game {
     priorities: Vec<u16>,
     offsets: Vec<u16>,
     targets: Vec<u16>,
+    // a fresh count of the priorities
+    kept: Vec<u64>,
 }
 
 /// Who wins where, by which choices.
@@ -143,9 +145,49 @@ impl Game {
         offsets: Vec<u16>,
         targets: Vec<u16>,
     ) -> Result<Game, Refusal> {
-        let game = Game { owners, priorities, offsets, targets };
-        doors::check_tables(game.tables()).result()?;
+        doors::check_tables(Tables { owners: &owners, priorities: &priorities, offsets: &offsets, targets: &targets }).result()?;
+        Game::counted(owners, priorities, offsets, targets)
+    }
+
+    // From tables whose lengths agree, with their fresh count.
+    fn counted(owners: Vec<u8>, priorities: Vec<u16>, offsets: Vec<u16>, targets: Vec<u16>) -> Result<Game, Refusal> {
+        let mut game = Game { owners, priorities, offsets, targets, kept: vec![0; KEPT] };
+        let (n, m) = game.sizes();
+        doors::fresh_count(n, m, &game.owners, &game.priorities, &game.offsets, &game.targets, &mut game.kept).result()?;
         Ok(game)
+    }
+
+    fn sizes(&self) -> (u64, u64) {
+        (self.owners.len() as u64, self.targets.len() as u64)
+    }
+
+    /// Sets the priority of a vertex; refuses by [`Refusal::NoSuchEntry`] and [`HighPriority`](Refusal::HighPriority), and
+    /// changes nothing then.
+    pub fn set_priority(&mut self, vertex: usize, priority: u16) -> Result<(), Refusal> {
+        let (n, m) = self.sizes();
+        let Game { owners, priorities, offsets, targets, kept } = self;
+        let (vertex, priority) = (vertex as u64, u64::from(priority));
+        doors::set_priority(n, m, owners, priorities, offsets, targets, kept, vertex, priority).result().map(|_| ())
+    }
+
+    /// Sets the owner of a vertex; refuses by [`Refusal::NoSuchEntry`], and changes nothing then.
+    pub fn set_owner(&mut self, vertex: usize, owner: Player) -> Result<(), Refusal> {
+        let (n, m) = self.sizes();
+        let Game { owners, priorities, offsets, targets, kept } = self;
+        doors::set_owner(n, m, owners, priorities, offsets, targets, kept, vertex as u64, owner as u64).result().map(|_| ())
+    }
+
+    /// Turns an edge, by its index among the targets, to another target; refuses by [`Refusal::NoSuchEntry`] and
+    /// [`NoSuchTarget`](Refusal::NoSuchTarget), and changes nothing then.
+    pub fn turn_edge(&mut self, edge: usize, target: usize) -> Result<(), Refusal> {
+        let (n, m) = self.sizes();
+        let Game { owners, priorities, offsets, targets, kept } = self;
+        doors::turn_edge(n, m, owners, priorities, offsets, targets, kept, edge as u64, target as u64).result().map(|_| ())
+    }
+
+    /// The kept numbers: how many vertices have priority 0 to 255, how many different ones there are, the highest.
+    pub fn kept(&self) -> &[u64] {
+        &self.kept
     }
 
     /// Reads a game from PGSolver text of up to 16 MiB, with at most 4,096 vertices and 16,384 edges.
@@ -162,7 +204,7 @@ impl Game {
         let mut work = vec![0; game.owners.len() + game.targets.len()];
         let (answer, n, m) = doors::read(text, crate::MAX_READ, game.rooms(), &mut work);
         answer.result()?;
-        Ok(game.cut_to(n, m))
+        game.cut_to(n, m)
     }
 
     /// Tables with room for the largest game.
@@ -173,6 +215,7 @@ impl Game {
             priorities: vec![0; vertices],
             offsets: vec![0; vertices + 1],
             targets: vec![0; edges],
+            kept: vec![0; KEPT],
         }
     }
 
@@ -185,13 +228,13 @@ impl Game {
         }
     }
 
-    /// The tables of n vertices and m edges, without the room behind them.
-    fn cut_to(mut self, n: usize, m: usize) -> Game {
+    /// The tables of n vertices and m edges, without the room behind them, with their fresh count.
+    fn cut_to(mut self, n: usize, m: usize) -> Result<Game, Refusal> {
         self.owners.truncate(n);
         self.priorities.truncate(n);
         self.offsets.truncate(n + 1);
         self.targets.truncate(m);
-        self
+        Game::counted(self.owners, self.priorities, self.offsets, self.targets)
     }
 
     /// From the tables of an incomplete export: drops each edge that ends at no vertex, then gives every vertex without an edge a
@@ -221,7 +264,7 @@ impl Game {
         Ok(Mended {
             dropped: dropped.iter().map(|edge| usize::from(*edge)).collect(),
             altered: pairs.chunks(2).map(|pair| (usize::from(pair[0]), pair[1])).collect(),
-            game: Game { owners: tables.owners.to_vec(), priorities, offsets, targets },
+            game: Game::counted(tables.owners.to_vec(), priorities, offsets, targets)?,
         })
     }
 
@@ -489,7 +532,7 @@ impl Reader {
         let mut work = vec![0; self.game.owners.len() + self.game.targets.len()];
         let (answer, n, m) = doors::read_end(&mut self.state, self.game.rooms(), &mut work);
         answer.result()?;
-        Ok(self.game.cut_to(n, m))
+        self.game.cut_to(n, m)
     }
 }
 

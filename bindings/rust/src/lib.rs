@@ -33,6 +33,8 @@ pub const MAX_VERTICES: usize = 4_096;
 pub const MAX_EDGES: usize = 16_384;
 /// The highest priority of a game.
 pub const MAX_PRIORITY: u16 = 255;
+/// The kept numbers of a record: how many vertices have priority 0 to 255, how many different ones there are, the highest.
+pub const KEPT: usize = 258;
 /// The most bytes that the text of a game needs, as [`Game::write`] writes it.
 pub const MAX_TEXT: usize = 131_085;
 /// The longest text that [`Game::read`] takes, in bytes.

@@ -52,11 +52,21 @@ pub const SHORT_TEXT: u64 = 34;
 
 pub const SHORT_OUTPUT: u64 = 35;
 
+pub const NO_SUCH_ENTRY: u64 = 41;
+
+pub const HIGH_PRIORITY: u64 = 42;
+
+pub const NO_SUCH_TARGET: u64 = 43;
+
 pub const NO_SUCH_VERTEX: u64 = 44;
 
 pub const SHORT_LIST: u64 = 45;
 
 pub const NO_LOOP: u64 = 46;
+
+pub const KEPT_DIFFER: u64 = 47;
+
+pub const NO_SUCH_OWNER: u64 = 48;
 
 pub enum Answer {
     // Calls, rounds, looks, a length, or 0 where nothing is counted.

@@ -24,3 +24,4 @@ pub mod Writing
 pub mod Printing
 pub mod Mending
 pub mod Loop
+pub mod Record

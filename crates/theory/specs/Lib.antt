@@ -55,3 +55,5 @@ pub mod MendingKeeps
 pub mod MendingWinner
 pub mod MendingTold
 pub mod Worked
+pub mod Counts
+pub mod Edits

@@ -1,0 +1,135 @@
+-- `turn_edge` meets its contract: the record's checks, its own, then one target is written.
+use mathlib.Core.List.{List}
+use mathlib.Core.Path.{_≡_, refl, ap, _∙_}
+use Prim.Native.Nat.{ℕ, _<_}
+use native.Mathlib.Omega.{arith}
+use lib.ListN.{set}
+use Rattle.rules.specs.Outcome.{Verdict, none, answered}
+use Rattle.rules.specs.Record.{Record, Edit, turnEdge, recordOf, recordChecks, ownChecks, changed}
+use Rattle.parity_game.specs.Said.{said}
+use Rattle.parity_game.proofs.Matched.{went-on, stopped, refusal-not-zero}
+use Rattle.theory.specs.Edits.{Roomy, passing}
+use Rattle.record.specs.Laws.{numbered-record}
+use Rattle.edits.specs.Laws.{ownAsks, numbered-own, own-none, asks-target}
+use Rattle.edits.specs.Laws.{refused-record, refused-own, edit-made}
+use borrow.Author.Needs.{needs}
+use Rattle.edits.proofs.turn_edge.Statement.{statement}
+use Rattle.edits.proofs.turn_edge.Tie as tie
+use Rattle.edits.proofs.check_own.Reads as check-own-reads
+use Rattle.parity_game.proofs.answer.Answer.number.Reads as number-reads
+use Rattle.record.proofs.check_record.Reads as check-record-reads
+
+-- the record as lent, and the edit asked for
+abbrev lent : tie.Start → Record
+lent c =
+    recordOf (c .args .n) (c .args .m) (c .args .owners .now) (c .args .priorities .now) (c .args .offsets .now)
+    (c .args .targets .now)
+    (c .args .kept .now)
+
+abbrev asked : tie.Start → Edit
+asked c = turnEdge (c .args .edge) (c .args .target)
+
+abbrev own : tie.Start → Verdict
+own c = ownAsks (c .args .m) (c .args .edge) (c .args .target) (c .args .n) 43
+
+abbrev start1 : tie.Else1 → tie.Start
+start1 c = c .before .before .before .before .before .before .before .before .before
+
+abbrev start2 : tie.Else2 → tie.Start
+start2 c = start1 (c .before .before .before)
+
+-- past the first check the record passes, and past the second the edit's own checks do
+checked : (c : tie.Else1) → recordChecks (lent (start1 c)) ≡ none
+checked c =
+    let called = c .before .before .check-record in
+    let r = lent (start1 c) in
+    went-on (called .result) (recordChecks r) (c .if1 .left) (c .before .number .ensures) (numbered-record r) (called .ensures)
+
+own-passes : (c : tie.Else2) → own (start2 c) ≡ none
+own-passes c =
+    let called = c .before .before .check-own in
+    let at = start2 c in
+    went-on (called .result) (own at) (c .if2 .left) (c .before .number2 .ensures)
+    (numbered-own (at .args .m) (at .args .edge) (at .args .target) (at .args .n) 43 (omega arith))
+    (called .ensures)
+
+there : (c : tie.Else2) → let at = start2 c in (at .args .edge < (at .args .m)) × (at .args .target < (at .args .n))
+there c = let at = start2 c in own-none (at .args .m) (at .args .edge) (at .args .target) (at .args .n) 43 (own-passes c)
+
+room : (c : tie.Else2) → Roomy (lent (start2 c))
+room c = passing (lent (start2 c)) (checked (c .before .before .before)) .room
+
+check-record-requires : tie.Need-check-record-requires
+check-record-requires c κs = search needs
+
+number-requires : tie.Need-number-requires
+number-requires c κs = search needs
+
+same-length : tie.Need-same-length
+same-length c = search needs
+
+returns : tie.Need-returns
+returns c =
+    let called = c .before .before .check-record in
+    let at = c .before .before .before .before .before .before .before .before .before in
+    let r = lent at in
+    refused-record (asked at) r (said (called .result))
+    (stopped (called .result) (recordChecks r) (ownChecks (asked at) r) (answered 0) (c .if1 .taken) (c .before .number .ensures)
+    (called .ensures))
+    (refusal-not-zero (called .result) (c .if1 .taken) (c .before .number .ensures))
+
+check-own-requires : tie.Need-check-own-requires
+check-own-requires c κs = search needs
+
+number-requires-2 : tie.Need-number-requires-2
+number-requires-2 c κs = search needs
+
+same-length-2 : tie.Need-same-length-2
+same-length-2 c = search needs
+
+returns-2 : tie.Need-returns-2
+returns-2 c =
+    let called = c .before .before .check-own in
+    let at = c .before .before .before .before .before .before .before .before .before .before .before .before in
+    refused-own (asked at) (lent at) (said (called .result)) (own at) (checked (c .before .before .before))
+    (asks-target (at .args .edge) (at .args .target) (lent at))
+    (called .ensures)
+    (refusal-not-zero (called .result) (c .if2 .taken) (c .before .number2 .ensures))
+
+cast-targets : tie.Need-cast-targets
+cast-targets c = record { fits = omega (arith, there c .1, room c .few-vertices) }
+
+mul-targets : tie.Need-mul-targets
+mul-targets c = record { fits = omega (arith, there c .0, room c .few-edges) }
+
+slice-write-targets : tie.Need-slice-write-targets
+slice-write-targets c = omega (arith, there c .0, room c .target-room)
+
+same-length-3 : tie.Need-same-length-3
+same-length-3 c = search needs
+
+returns-3 : tie.Need-returns-3
+returns-3 c =
+    let at = start2 c in
+    edit-made (asked at) (lent at) (changed (asked at) (lent at)) (own at) (checked (c .before .before .before))
+    (asks-target (at .args .edge) (at .args .target) (lent at))
+    (own-passes c)
+    refl
+
+pub turn-edge-spec : {M : Type 1} → statement M
+turn-edge-spec =
+    tie.close
+    (tie.spec
+    check-record-requires
+    number-requires
+    same-length
+    returns
+    check-own-requires
+    number-requires-2
+    same-length-2
+    returns-2
+    cast-targets
+    mul-targets
+    slice-write-targets
+    same-length-3
+    returns-3)

@@ -1,0 +1,2 @@
+-- What the edits go by.
+pub mod Laws

@@ -1,0 +1,2 @@
+-- What the counting steps promise one another, and what their loops do in one turn.
+pub mod Steps

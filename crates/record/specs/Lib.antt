@@ -1,0 +1,2 @@
+-- What callers of the record's checks go by.
+pub mod Laws
