@@ -48,6 +48,7 @@ fn solve() -> Command {
 fn engine() -> Arg {
     Arg::new("engine")
         .long("engine")
+        .value_name("ENGINE")
         .value_parser(["zielonka", "promotion", "quasi", "both", "all"])
         .default_value("both")
         .help("What solves: one engine, Zielonka's and promotion (both), or the second opinion too (all)")

@@ -58,6 +58,7 @@ fn shown(arg: &Arg) -> Vec<Inline> {
     match arg.get_long() {
         Some(long) if arg.get_action().takes_values() => vec![bold(format!("--{long}")), roman(" "), italic(value)],
         Some(long) => vec![bold(format!("--{long}"))],
+        None if arg.get_num_args().map_or(false, |many| many.max_values() > 1) => vec![italic(value), roman(" ..")],
         None => vec![italic(value)],
     }
 }
