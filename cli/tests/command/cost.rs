@@ -3,7 +3,8 @@
 use crate::made::{game, Numbers};
 use crate::{Bench, Ended};
 use reckonbough::{Game, MAX_EDGES, MAX_VERTICES};
-use std::fs;
+use std::path::Path;
+use std::process::Command;
 use std::time::{Duration, Instant};
 
 const BUDGET: u64 = 65_536;
@@ -48,14 +49,22 @@ fn a_file_of_full_size() {
 fn the_command_costs_little_more_than_the_library() {
     let bench = Bench::new("cost");
     full_size(&bench);
-    let file = bench.0.join("full.pg");
     let (mut reading, mut solving, mut command) = (Duration::MAX, Duration::MAX, Duration::MAX);
     for _ in 0..40 {
-        let (took, game) = timed(|| Game::read(&fs::read(&file).unwrap()).unwrap());
-        reading = reading.min(took);
-        solving = solving.min(timed(|| (game.solve_zielonka(BUDGET), game.solve_priority_promotion(BUDGET))).0);
+        let (read, solved) = library(&bench);
+        reading = reading.min(read);
+        solving = solving.min(solved);
         command = command.min(timed(|| assert_eq!(bench.run(&["solve", "full.pg"]).0, 0)).0);
     }
     println!("reading {reading:?}, solving {solving:?}, the command {command:?}");
     assert!(command <= reading + solving.mul_f64(1.3), "reading {reading:?}, solving {solving:?}, command {command:?}");
+}
+
+/// What the library takes to read and to solve the file, in a process of its own.
+fn library(bench: &Bench) -> (Duration, Duration) {
+    let program = Path::new(env!("CARGO_BIN_EXE_reckonbough")).with_file_name("examples").join("library");
+    let output = Command::new(program).arg("full.pg").current_dir(&bench.0).output().unwrap();
+    let text = String::from_utf8(output.stdout).unwrap();
+    let numbers: Vec<u64> = text.split_whitespace().map(|word| word.parse().unwrap()).collect();
+    (Duration::from_nanos(numbers[0]), Duration::from_nanos(numbers[1]))
 }

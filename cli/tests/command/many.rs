@@ -2,7 +2,7 @@
 
 use crate::made::{game, Numbers};
 use crate::{Bench, Ended};
-use std::process::Command;
+use std::process::{Command, Stdio};
 
 fn folder(name: &str) -> (Bench, Vec<String>) {
     let bench = Bench::new(name);
@@ -35,8 +35,13 @@ fn a_bar_on_a_terminal() {
     let shown = |options: &str| {
         let line = format!("{} {options} solve *.pg >lines", env!("CARGO_BIN_EXE_reckonbough"));
         let mut script = Command::new("script");
-        let output =
-            script.args(["-qec", &line, "/dev/null"]).env("TERM", "xterm").current_dir(&bench.0).output().unwrap();
+        let output = script
+            .stdin(Stdio::null())
+            .args(["-qec", &line, "/dev/null"])
+            .env("TERM", "xterm")
+            .current_dir(&bench.0)
+            .output()
+            .unwrap();
         assert!(output.status.success());
         String::from_utf8_lossy(&output.stdout).into_owned()
     };
