@@ -86,10 +86,13 @@ fn sheet_of_all(given: &ArgMatches, quiet: bool) -> bool {
     }
 }
 
+/// An edit by its two numbers.
+type Kind = fn(u64, u64) -> Edit;
+
 /// The edits in the order of the command line.
 fn edits(given: &ArgMatches) -> Vec<Edit> {
     let mut edits: Vec<(usize, Edit)> = Vec::new();
-    let kinds: [(&str, fn(u64, u64) -> Edit); 3] = [
+    let kinds: [(&str, Kind); 3] = [
         ("priority", |vertex, priority| Edit::Priority { vertex, priority }),
         ("owner", |vertex, owner| Edit::Owner { vertex, owner }),
         ("edge", |edge, target| Edit::Edge { edge, target }),
