@@ -107,6 +107,66 @@ pub struct Run {
     pub cycle: Vec<usize>,
 }
 
+/// One change of a game, with numbers that may be any: [`Game::edit`] refuses what cannot be.
+#[derive(Clone, Copy, Debug, PartialEq, Eq)]
+pub enum Edit {
+    /// Gives the vertex this priority.
+    Priority {
+        /// The vertex.
+        vertex: u64,
+        /// Its new priority.
+        priority: u64,
+    },
+    /// Gives the vertex to this owner, 0 or 1.
+    Owner {
+        /// The vertex.
+        vertex: u64,
+        /// Its new owner.
+        owner: u64,
+    },
+    /// Turns the edge to another target.
+    Edge {
+        /// The edge, by its index among the targets.
+        edge: u64,
+        /// Where it ends from now on.
+        target: u64,
+    },
+}
+
+/// The tables that a text says, also where they are no game: its edges may end at no vertex, its owners and priorities be too high.
+#[derive(Clone, Debug, PartialEq, Eq)]
+pub struct Export {
+    room: Game,
+}
+
+impl Export {
+    /// Reads PGSolver text of up to 16 MiB, with at most 4,096 vertices and 16,384 edges. Refuses by [`Refusal::BadText`],
+    /// [`BadIdentifier`](Refusal::BadIdentifier) and [`BeyondLimit`](Refusal::BeyondLimit).
+    ///
+    /// ```
+    /// use reckonbough::{Export, Game, Refusal};
+    /// let text = b"0 2 0 1; 1 4 1 7;";
+    /// assert_eq!(Game::read(text), Err(Refusal::BadTarget(1)));
+    /// let export = Export::read(text)?;
+    /// assert_eq!(export.tables().targets, [1, 7]);
+    /// assert_eq!(Game::mend(export.tables())?.dropped, [1]);
+    /// # Ok::<(), Refusal>(())
+    /// ```
+    pub fn read(text: &[u8]) -> Result<Export, Refusal> {
+        let mut room = Game::with_room();
+        let mut work = vec![0; room.owners.len() + room.targets.len()];
+        let (answer, n, m) = doors::read_tables(text, crate::MAX_READ, room.rooms(), &mut work);
+        answer.result()?;
+        room.truncate(n, m);
+        Ok(Export { room })
+    }
+
+    /// The four tables as the text says them, for [`Game::mend`].
+    pub fn tables(&self) -> Tables<'_> {
+        self.room.tables()
+    }
+}
+
 /// A mended export: the game, and what was done to get it.
 #[derive(Clone, Debug, PartialEq, Eq)]
 pub struct Mended {
@@ -164,25 +224,42 @@ impl Game {
     /// Sets the priority of a vertex; refuses by [`Refusal::NoSuchEntry`] and [`HighPriority`](Refusal::HighPriority), and
     /// changes nothing then.
     pub fn set_priority(&mut self, vertex: usize, priority: u16) -> Result<(), Refusal> {
-        let (n, m) = self.sizes();
-        let Game { owners, priorities, offsets, targets, kept } = self;
-        let (vertex, priority) = (vertex as u64, u64::from(priority));
-        doors::set_priority(n, m, owners, priorities, offsets, targets, kept, vertex, priority).result().map(|_| ())
+        self.edit(Edit::Priority { vertex: vertex as u64, priority: u64::from(priority) })
     }
 
     /// Sets the owner of a vertex; refuses by [`Refusal::NoSuchEntry`], and changes nothing then.
     pub fn set_owner(&mut self, vertex: usize, owner: Player) -> Result<(), Refusal> {
-        let (n, m) = self.sizes();
-        let Game { owners, priorities, offsets, targets, kept } = self;
-        doors::set_owner(n, m, owners, priorities, offsets, targets, kept, vertex as u64, owner as u64).result().map(|_| ())
+        self.edit(Edit::Owner { vertex: vertex as u64, owner: owner as u64 })
     }
 
     /// Turns an edge, by its index among the targets, to another target; refuses by [`Refusal::NoSuchEntry`] and
     /// [`NoSuchTarget`](Refusal::NoSuchTarget), and changes nothing then.
     pub fn turn_edge(&mut self, edge: usize, target: usize) -> Result<(), Refusal> {
+        self.edit(Edit::Edge { edge: edge as u64, target: target as u64 })
+    }
+
+    /// An edit whose numbers may be any; refuses by [`Refusal::NoSuchEntry`], [`HighPriority`](Refusal::HighPriority),
+    /// [`NoSuchOwner`](Refusal::NoSuchOwner) and [`NoSuchTarget`](Refusal::NoSuchTarget), and changes nothing then.
+    ///
+    /// ```
+    /// # use reckonbough::{Edit, Game, Player::*, Refusal};
+    /// let mut game = Game::new(&[(Even, 2, &[1]), (Odd, 0, &[0, 1])])?;
+    /// assert_eq!(game.edit(Edit::Owner { vertex: 1, owner: 2 }), Err(Refusal::NoSuchOwner(1)));
+    /// game.edit(Edit::Edge { edge: 2, target: 0 })?;
+    /// assert_eq!(game.successors(1), [0, 0]);
+    /// # Ok::<(), Refusal>(())
+    /// ```
+    pub fn edit(&mut self, edit: Edit) -> Result<(), Refusal> {
         let (n, m) = self.sizes();
         let Game { owners, priorities, offsets, targets, kept } = self;
-        doors::turn_edge(n, m, owners, priorities, offsets, targets, kept, edge as u64, target as u64).result().map(|_| ())
+        let answer = match edit {
+            Edit::Priority { vertex, priority } => {
+                doors::set_priority(n, m, owners, priorities, offsets, targets, kept, vertex, priority)
+            }
+            Edit::Owner { vertex, owner } => doors::set_owner(n, m, owners, priorities, offsets, targets, kept, vertex, owner),
+            Edit::Edge { edge, target } => doors::turn_edge(n, m, owners, priorities, offsets, targets, kept, edge, target),
+        };
+        answer.result().map(|_| ())
     }
 
     /// The kept numbers: how many vertices have priority 0 to 255, how many different ones there are, the highest.
@@ -230,11 +307,15 @@ impl Game {
 
     /// The tables of n vertices and m edges, without the room behind them, with their fresh count.
     fn cut_to(mut self, n: usize, m: usize) -> Result<Game, Refusal> {
+        self.truncate(n, m);
+        Game::counted(self.owners, self.priorities, self.offsets, self.targets)
+    }
+
+    fn truncate(&mut self, n: usize, m: usize) {
         self.owners.truncate(n);
         self.priorities.truncate(n);
         self.offsets.truncate(n + 1);
         self.targets.truncate(m);
-        Game::counted(self.owners, self.priorities, self.offsets, self.targets)
     }
 
     /// From the tables of an incomplete export: drops each edge that ends at no vertex, then gives every vertex without an edge a

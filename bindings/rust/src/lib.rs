@@ -23,7 +23,7 @@ pub mod doors;
 mod game;
 
 pub use answer::{Answer, Refusal};
-pub use game::{Attracted, Game, Mended, Opinion, Player, Reader, Run, Solved, Tables};
+pub use game::{Attracted, Edit, Export, Game, Mended, Opinion, Player, Reader, Run, Solved, Tables};
 
 /// A strategy entry that chooses nothing.
 pub const NONE: u16 = 65_535;
@@ -39,3 +39,5 @@ pub const KEPT: usize = 258;
 pub const MAX_TEXT: usize = 131_085;
 /// The longest text that [`Game::read`] takes, in bytes.
 pub const MAX_READ: u64 = 1 << 24;
+/// The version of this crate and of the library that it is made for.
+pub const VERSION: &str = env!("CARGO_PKG_VERSION");

@@ -1,6 +1,6 @@
 //! Edits of a game: each is that of a game made anew, and a refused one changes nothing.
 
-use reckonbough::{Game, Player, Refusal};
+use reckonbough::{Edit, Game, Player, Refusal};
 
 fn c7() -> Game {
     Game::new(&[(Player::Even, 2, &[1]), (Player::Odd, 0, &[0, 1])]).unwrap()
@@ -24,6 +24,8 @@ fn a_refused_edit_changes_nothing() {
     assert_eq!(game.set_owner(7, Player::Even), Err(Refusal::NoSuchEntry(7)));
     assert_eq!(game.turn_edge(3, 0), Err(Refusal::NoSuchEntry(3)));
     assert_eq!(game.turn_edge(0, 2), Err(Refusal::NoSuchTarget(0)));
+    assert_eq!(game.edit(Edit::Owner { vertex: 1, owner: 2 }), Err(Refusal::NoSuchOwner(1)));
+    assert_eq!(game.edit(Edit::Priority { vertex: 0, priority: u64::MAX }), Err(Refusal::HighPriority(0)));
     assert_eq!(game, c7());
 }
 

@@ -1,7 +1,7 @@
 //! Texts: read, written, and mended where an export is only half written.
 
 use reckonbough::doors::{self, Rooms};
-use reckonbough::{Game, Player::*, Refusal, Tables};
+use reckonbough::{Export, Game, Player::*, Refusal, Tables};
 
 const C7: &[u8] = b"parity 1; 0 2 0 1; 1 0 1 0,1;";
 
@@ -62,4 +62,13 @@ fn a_half_written_export_is_read_mended_and_solved() {
     let solved = mended.game.solve_zielonka(u64::MAX).unwrap();
     assert_eq!(solved.even, [true, true]);
     assert_eq!(mended.game.check(&solved.even, &solved.odd, &solved.strategy), Ok(()));
+}
+
+#[test]
+fn an_export_has_what_the_text_says() {
+    let export = Export::read(b"1 300 7 9,0; 0 2 0 1;").unwrap();
+    let said = Tables { owners: &[0, 7], priorities: &[2, 300], offsets: &[0, 1, 3], targets: &[1, 9, 0] };
+    assert_eq!(export.tables(), said);
+    assert_eq!(Export::read(b"0 0 0;"), Err(Refusal::BadText(5)));
+    assert_eq!(Export::read(b"1 0 0 0;"), Err(Refusal::BadIdentifier(0)));
 }
