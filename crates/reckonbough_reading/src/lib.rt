@@ -2,3 +2,4 @@
 // Each returns the number of document 01's table, 0 for an answer, and writes place and count through the last two
 // references. None has a `requires`.
 mod reading;
+mod texts;

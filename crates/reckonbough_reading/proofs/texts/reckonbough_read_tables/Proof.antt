@@ -1,7 +1,7 @@
 -- `reckonbough_read_tables` meets its contract: what is told and written is what `read_tables` answers and writes.
 use borrow.Author.Needs.{needs}
-use Rattle.reckonbough_reading.proofs.reading.reckonbough_read_tables.Statement.{statement}
-use Rattle.reckonbough_reading.proofs.reading.reckonbough_read_tables.Tie as tie
+use Rattle.reckonbough_reading.proofs.texts.reckonbough_read_tables.Statement.{statement}
+use Rattle.reckonbough_reading.proofs.texts.reckonbough_read_tables.Tie as tie
 
 read-tables-requires : tie.Need-read-tables-requires
 read-tables-requires c κs = search needs
