@@ -8,7 +8,7 @@ use crate::compare::{same, Want};
 use crate::game::{won_by, words_of, Game};
 use crate::generate::Numbers;
 use crate::port::{self, Lent};
-use crate::reference::attractor::{attractor, entries_hold, looks};
+use crate::reference::attractor::{attractor, distances, entries, entries_hold, looks};
 use crate::reference::tables::work_words;
 use crate::reference::{compaction, Answer};
 
@@ -127,6 +127,9 @@ fn attract(game: &Game, player: u8, numbers: &mut Numbers) -> Result<(), String>
     same("port: attractor's V kept", &words_of(&within), &within_words)?;
     same("port: attractor's target kept", &words_of(&target), &target_words)?;
     zeroed("port: attractor", game, &lent)?;
+    let wanted = distances(game, player, &within, &target);
+    same("port: attractor's distances", &wanted, &lent.distances)?;
+    same("port: attractor's entries", &entries(game, player, &target, &wanted), &lent.strategy)?;
     if !entries_hold(game, player, &within, &target, &result, &lent.strategy) {
         return Err(format!("port: attractor's entries {:?}", lent.strategy));
     }
