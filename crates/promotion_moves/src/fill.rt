@@ -51,7 +51,17 @@ pub fn assign_missing_strategies(
         let Next::Member(index, rest) = next else {
             return;
         };
-        fill_entry(owners, offsets, targets, alpha, s, work, held, entries, index.0);
+        fill_entry(
+            owners,
+            offsets,
+            targets,
+            alpha,
+            s,
+            work,
+            held,
+            entries,
+            index.0,
+        );
         walk = rest;
     }
 }

@@ -1,7 +1,7 @@
 // What goes over to another region, and what goes back.
+use parity_game::Priority;
 use promotion_tables::regions::reset;
 use promotion_tables::regions::set_region;
-use parity_game::Priority;
 use walk::Members;
 use walk::Next;
 ghost use Rattle.promotion_moves.specs.Promoting.{Promotable, Promoted, PromoteAll, PromotedAll};

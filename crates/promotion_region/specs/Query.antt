@@ -276,112 +276,112 @@ module _ (owners priorities : List ℕ) {offsets targets : List ℕ} (ok : Accep
                   }
 
               module _ {w4 : List ℕ} (c4 : Claimed n p H Rg w3 w4) where
-                  abbrev R : Set
-                  R = setAt n H w4
+                abbrev R : Set
+                R = setAt n H w4
 
-                  held4-at : (v : ℕ) → setAt n H w3 v ≡ R v
-                  held4-at v =
-                      sym (set-kept n H w3 w4 (λ i low high. c4 .keeps .rest i (inl (omega (arith, size)))) v)
+                held4-at : (v : ℕ) → setAt n H w3 v ≡ R v
+                held4-at v =
+                    sym (set-kept n H w3 w4 (λ i low high. c4 .keeps .rest i (inl (omega (arith, size)))) v)
 
-                  long4 : length w4 ≡ length w0
-                  long4 = c4 .keeps .long ∙ long3
+                long4 : length w4 ≡ length w0
+                long4 = c4 .keeps .long ∙ long3
 
-                  pulled4 :
-                      Pulled g (parity p) (upTo (unsolved g T) T p) (atRegion (unsolved g T) T p) R (entryOf n m w2)
-                      (entryOf n m w3)
-                  pulled4 = pulled-as lower2 held2 (λ v. held3 v ∙ held4-at v) drawn3
+                pulled4 :
+                    Pulled g (parity p) (upTo (unsolved g T) T p) (atRegion (unsolved g T) T p) R (entryOf n m w2)
+                    (entryOf n m w3)
+                pulled4 = pulled-as lower2 held2 (λ v. held3 v ∙ held4-at v) drawn3
 
-                  small4 : (v : ℕ) → R v ≡ true → v < n
-                  small4 v i = held-small v (held4-at v ∙ i)
+                small4 : (v : ℕ) → R v ≡ true → v < n
+                small4 v i = held-small v (held4-at v ∙ i)
 
-                  -- the region of v, where b says whether it is in R
-                  abbrev regionWhere : Bool → ℕ → ℕ
-                  regionWhere b v = cond b p (regionAt Rg w0 v)
+                -- the region of v, where b says whether it is in R
+                abbrev regionWhere : Bool → ℕ → ℕ
+                regionWhere b v = cond b p (regionAt Rg w0 v)
 
-                  region4 : (v : ℕ) → v < n → regionAt Rg w4 v ≡ regionWhere (R v) v
-                  region4 v l =
-                      ⊎-elim
-                      (λ (i : R v ≡ true).
-                      c4 .inside v (held4-at v ∙ i) ∙ sym (ap (λ (b : Bool). regionWhere b v) i))
-                      (λ (i : R v ≡ false).
-                      c4 .outside v l (held4-at v ∙ i) ∙ region3 v ∙
-                      sym (ap (λ (b : Bool). regionWhere b v) i))
-                      (bool-cases (R v))
+                region4 : (v : ℕ) → v < n → regionAt Rg w4 v ≡ regionWhere (R v) v
+                region4 v l =
+                    ⊎-elim
+                    (λ (i : R v ≡ true).
+                    c4 .inside v (held4-at v ∙ i) ∙ sym (ap (λ (b : Bool). regionWhere b v) i))
+                    (λ (i : R v ≡ false).
+                    c4 .outside v l (held4-at v ∙ i) ∙ region3 v ∙
+                    sym (ap (λ (b : Bool). regionWhere b v) i))
+                    (bool-cases (R v))
 
-                  -- words of the table of predecessors, of the unsolved set, and behind R
-                  same4 : (i : ℕ) → evenAt n m s ≤ i → Elsewhere n Rg i → getD w4 i 0 ≡ getD w0 i 0
-                  same4 i l o = c4 .keeps .rest i o ∙ same3 i l
+                -- words of the table of predecessors, of the unsolved set, and behind R
+                same4 : (i : ℕ) → evenAt n m s ≤ i → Elsewhere n Rg i → getD w4 i 0 ≡ getD w0 i 0
+                same4 i l o = c4 .keeps .rest i o ∙ same3 i l
 
-                  table4 : (i : ℕ) → i < n + 1 + m → getD w4 i 0 ≡ getD w0 i 0
-                  table4 i l =
-                      c4 .keeps .rest i (inl (omega arith)) ∙ c3 .table i l ∙ same2 i (inl (omega arith))
+                table4 : (i : ℕ) → i < n + 1 + m → getD w4 i 0 ≡ getD w0 i 0
+                table4 i l =
+                    c4 .keeps .rest i (inl (omega arith)) ∙ c3 .table i l ∙ same2 i (inl (omega arith))
 
-                  set4 : (v : ℕ) → setAt n U w4 v ≡ setAt n U w0 v
-                  set4 =
-                      set-kept n U w0 w4
-                      (λ i low high.
-                      c4 .keeps .rest i (inl (omega (arith, size))) ∙ unsolved3 i low (omega (arith, size)))
+                set4 : (v : ℕ) → setAt n U w4 v ≡ setAt n U w0 v
+                set4 =
+                    set-kept n U w0 w4
+                    (λ i low high.
+                    c4 .keeps .rest i (inl (omega (arith, size))) ∙ unsolved3 i low (omega (arith, size)))
 
-                  unsolved4 : (v : ℕ) → setAt n U w4 v ≡ (ltb v n && ltb (tableAt n m s w4 v) 256)
-                  unsolved4 v =
-                      set4 v ∙ ready .unsolved v ∙
-                      ⊎-elim
-                      (λ l. ap (λ (b : Bool). ltb v n && b) (same-side l (bool-cases (R v))))
-                      (λ l. rw (le-ltb v n l))
-                      (lt-or-ge v n)
-                    where
-                      now : v < n → {b : Bool} → R v ≡ b → tableAt n m s w4 v ≡ regionWhere b v
-                      now l i = table-below n m s w4 v l ∙ region4 v l ∙ ap (λ (b : Bool). regionWhere b v) i
+                unsolved4 : (v : ℕ) → setAt n U w4 v ≡ (ltb v n && ltb (tableAt n m s w4 v) 256)
+                unsolved4 v =
+                    set4 v ∙ ready .unsolved v ∙
+                    ⊎-elim
+                    (λ l. ap (λ (b : Bool). ltb v n && b) (same-side l (bool-cases (R v))))
+                    (λ l. rw (le-ltb v n l))
+                    (lt-or-ge v n)
+                  where
+                    now : v < n → {b : Bool} → R v ≡ b → tableAt n m s w4 v ≡ regionWhere b v
+                    now l i = table-below n m s w4 v l ∙ region4 v l ∙ ap (λ (b : Bool). regionWhere b v) i
 
-                      same-side : v < n → (R v ≡ true) ⊎ (R v ≡ false) → ltb (T v) 256 ≡ ltb (tableAt n m s w4 v) 256
-                      same-side l (inl i) =
-                          let up = pulled4 .certificate .inside v i in
-                          let at = ready .unsolved v ∙ refl in
-                          let low =
-                          and-right (ltb v n) (ltb (T v) 256)
-                          (sym at ∙ sym (left-is v) ∙ and-left (unsolved g T v) (leb (T v) p) up) in
-                          low ∙ sym (lt-ltb (tableAt n m s w4 v) 256 (rw (now l i) small))
-                      same-side l (inr i) =
-                          ap (λ (x : ℕ). ltb x 256)
-                          (table-below n m s w0 v l ∙ sym (now l i))
+                    same-side : v < n → (R v ≡ true) ⊎ (R v ≡ false) → ltb (T v) 256 ≡ ltb (tableAt n m s w4 v) 256
+                    same-side l (inl i) =
+                        let up = pulled4 .certificate .inside v i in
+                        let at = ready .unsolved v ∙ refl in
+                        let low =
+                        and-right (ltb v n) (ltb (T v) 256)
+                        (sym at ∙ sym (left-is v) ∙ and-left (unsolved g T v) (leb (T v) p) up) in
+                        low ∙ sym (lt-ltb (tableAt n m s w4 v) 256 (rw (now l i) small))
+                    same-side l (inr i) =
+                        ap (λ (x : ℕ). ltb x 256)
+                        (table-below n m s w0 v l ∙ sym (now l i))
 
-                  entry4 : (v : ℕ) → v < n → entryOf n m w4 v ≡ entryOf n m w3 v
-                  entry4 v l = c4 .keeps .rest (E + v) (inl (omega arith))
+                entry4 : (v : ℕ) → v < n → entryOf n m w4 v ≡ entryOf n m w3 v
+                entry4 v l = c4 .keeps .rest (E + v) (inl (omega arith))
 
-                  attracts4 : Attracts g (unsolved g T) T p R (entryOf n m w0) (entryOf n m w4)
-                  unfolding gameOf
-                  attracts4 =
-                      record {
-                        certificate = pulled4 .certificate;
-                        near = λ v i out o. pulled4 .near v;
-                        pulled = λ v i out o. entry4 v (small4 v i) ∙ pulled4 .entered v i out o;
-                        kept =
-                            λ v i o.
-                            let l = small4 v (pulled4 .certificate .closed .target v i) in
-                            entry4 v l ∙ pulled4 .kept v l (λ r out. absurd (clash i out)) ∙ entry2 v l;
-                        elsewhere =
-                            λ v l out. entry4 v l ∙ pulled4 .kept v l (λ i. absurd (clash i out)) ∙ entry2 v l;
-                      }
+                attracts4 : Attracts g (unsolved g T) T p R (entryOf n m w0) (entryOf n m w4)
+                unfolding gameOf
+                attracts4 =
+                    record {
+                      certificate = pulled4 .certificate;
+                      near = λ v i out o. pulled4 .near v;
+                      pulled = λ v i out o. entry4 v (small4 v i) ∙ pulled4 .entered v i out o;
+                      kept =
+                          λ v i o.
+                          let l = small4 v (pulled4 .certificate .closed .target v i) in
+                          entry4 v l ∙ pulled4 .kept v l (λ r out. absurd (clash i out)) ∙ entry2 v l;
+                      elsewhere =
+                          λ v l out. entry4 v l ∙ pulled4 .kept v l (λ i. absurd (clash i out)) ∙ entry2 v l;
+                    }
 
-                  -- **R, its regions and entries are as a round of the rules asks**
-                  pub queried : Queried owners priorities offsets targets s p w0 w4
-                  queried =
-                      record {
-                        drawn =
-                            record {
-                              long = long4;
-                              ready =
-                                  record {
-                                    size = size;
-                                    edges = ready .edges;
-                                    tallied = c4 .keeps .good;
-                                    listed = listed-kept n offsets targets w0 w4 long4 table4 (ready .listed);
-                                    unsolved = unsolved4;
-                                  };
-                              below = small4;
-                              region = region4;
-                              certificate = pulled4 .certificate;
-                              rest = same4;
-                            };
-                        attracts = attracts4;
-                      }
+                -- **R, its regions and entries are as a round of the rules asks**
+                pub queried : Queried owners priorities offsets targets s p w0 w4
+                queried =
+                    record {
+                      drawn =
+                          record {
+                            long = long4;
+                            ready =
+                                record {
+                                  size = size;
+                                  edges = ready .edges;
+                                  tallied = c4 .keeps .good;
+                                  listed = listed-kept n offsets targets w0 w4 long4 table4 (ready .listed);
+                                  unsolved = unsolved4;
+                                };
+                            below = small4;
+                            region = region4;
+                            certificate = pulled4 .certificate;
+                            rest = same4;
+                          };
+                      attracts = attracts4;
+                    }

@@ -1,6 +1,6 @@
 // The vertices that R is attracted among, and R itself, which gets region p.
-use promotion_tables::regions::set_region;
 use parity_game::Priority;
+use promotion_tables::regions::set_region;
 use walk::Members;
 use walk::Next;
 ghost use mathlib.Core.List.{List};
