@@ -1,5 +1,5 @@
-// Priority compaction: the priorities that are used get the lowest and fewest numbers that keep order, not strictly, and parity.
-// The rule itself is in `next_number` alone.
+// Priority compaction: the priorities that are used get the lowest and fewest numbers that keep order, not
+// strictly, and parity. The rule itself is in `next_number` alone.
 use parity_game::Answer;
 ghost use mathlib.Core.List.{map};
 ghost use mathlib.Core.Path.{_≡_};

@@ -1,5 +1,6 @@
-// Mending an incomplete export: edges that lead to no vertex are dropped, and a vertex that is left without an edge gets a self
-// loop that its owner loses. What is needed of each output is counted first, so that a refusal writes nothing.
+// Mending an incomplete export: edges that lead to no vertex are dropped, and a vertex that is left without an edge
+// gets a self loop that its owner loses. What is needed of each output is counted first, so that a refusal writes
+// nothing.
 
 use mend_counts::counts::altered_vertices;
 use mend_counts::counts::dropped_edges;

@@ -1,4 +1,5 @@
-// The new offsets and targets: a vertex's edges that lead to a vertex stay in order, and one that keeps none gets a self loop.
+// The new offsets and targets: a vertex's edges that lead to a vertex stay in order, and one that keeps none gets a
+// self loop.
 ghost use mathlib.Core.Path.{_≡_};
 ghost use Prim.Native.Nat.{_+_, _<_, _≤_};
 ghost use lib.ListN.{length};

@@ -1,5 +1,5 @@
-// Writes the tables of a game as PGSolver text, in the one form that reading undoes. The length needed is worked out by one
-// pass over the tables, before the first byte is written.
+// Writes the tables of a game as PGSolver text, in the one form that reading undoes. The length needed is worked
+// out by one pass over the tables, before the first byte is written.
 mod length;
 
 use length::text_length;

@@ -1,5 +1,6 @@
-// The pieces of a round of priority promotion: regions and how many vertices each has, the attractor of a region, whether
-// it is open, and what goes over to another region or is solved. The round itself is in `priority_promotion`.
+// The pieces of a round of priority promotion: regions and how many vertices each has, the attractor of a region,
+// whether it is open, and what goes over to another region or is solved. The round itself is in
+// `priority_promotion`.
 mod dominion;
 mod open;
 mod promote;
