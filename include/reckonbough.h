@@ -139,9 +139,11 @@ uint64_t reckonbough_check_tables(
  * The attractor of target in within for a player (0 Even, anything else Odd): the smallest set that contains target, each
  * vertex of the player in within with an edge into it, and each other vertex of within that has an edge inside within and
  * all such edges into it.
- * Reads within and target, s words each; target lies inside within. Writes result, s words, and strategy, n entries: for
- * each vertex of the player that was drawn in, the target of an edge that leads towards target; else none. Works in work,
- * W words or more.
+ * Reads within and target, s words each; target lies inside within. Writes result, s words, and distances and strategy, n
+ * entries each. A distance is 0 in target; for a vertex of the player one more than the least of those that its edges end
+ * in, in the result; for another vertex one more than the greatest of those in within; outside the result 65,535. The entry
+ * of a vertex of the player that was drawn in is the lowest of the least distant that its edges end in; else none. Works in
+ * work, W words or more.
  * Gives 0, 1 to 10 or 12. The count is the looks: how many edges end in the result.
  */
 uint64_t reckonbough_attractor(
@@ -154,6 +156,7 @@ uint64_t reckonbough_attractor(
     const uint64_t *target, size_t target_length,
     uint64_t *result, size_t result_length,
     uint16_t *strategy, size_t strategy_length,
+    uint16_t *distances, size_t distances_length,
     uint64_t *work, size_t work_length,
     uint64_t *place, uint64_t *count);
 

@@ -71,7 +71,7 @@ static void no_vertices(void)
     print("check_tables of nothing", reckonbough_check_tables(NULL, 0, NULL, 0, NULL, 0, NULL, 0, &place, &count));
     print("check_tables of C1", reckonbough_check_tables(C1, &place, &count));
     print("attractor in C1",
-          reckonbough_attractor(C1, 0, NULL, 0, NULL, 0, NULL, 0, NULL, 0, work, w, &place, &count));
+          reckonbough_attractor(C1, 0, NULL, 0, NULL, 0, NULL, 0, NULL, 0, NULL, 0, work, w, &place, &count));
     print("zielonka of C1", reckonbough_zielonka(C1, 1, NULL, 0, NULL, 0, NULL, 0, work, w, &place, &count));
     print("zielonka of C1, budget 0",
           reckonbough_zielonka(C1, 0, NULL, 0, NULL, 0, NULL, 0, work, w, &place, &count));
@@ -130,14 +130,48 @@ static void players(void)
     static const uint8_t numbers[] = {0, 1, 2, 255};
     const uint64_t all = 3, first = 1;
     uint64_t set;
-    uint16_t strategy[2];
+    uint16_t strategy[2], distances[2];
     const size_t w = reckonbough_work_words(2, 3);
     for (size_t i = 0; i < sizeof numbers; i++) {
         printf("with %u\n", (unsigned)numbers[i]);
         print("attractor of 0 in C7",
-              reckonbough_attractor(C7, numbers[i], &all, 1, &first, 1, &set, 1, strategy, 2, work, w, &place, &count));
+              reckonbough_attractor(C7, numbers[i], &all, 1, &first, 1, &set, 1, strategy, 2, distances, 2, work, w, &place,
+                                    &count));
         printf("  set %" PRIu64 ", entries %u %u\n", set, (unsigned)strategy[0], (unsigned)strategy[1]);
     }
+}
+
+/* Even's attractor of target in within, and its distances and entries. */
+static void attract(const char *asked, const uint8_t *owners, size_t n, const uint16_t *offsets, const uint16_t *targets,
+                    size_t m, uint64_t within, uint64_t target)
+{
+    static const uint16_t priorities[5] = {0};
+    uint64_t set;
+    uint16_t strategy[5], distances[5];
+    print(asked, reckonbough_attractor(owners, n, priorities, n, offsets, n + 1, targets, m, 0, &within, 1, &target, 1, &set, 1,
+                                       strategy, n, distances, n, work, reckonbough_work_words(n, m), &place, &count));
+    printf("  distances");
+    for (size_t v = 0; v < n; v++)
+        printf(" %u", (unsigned)distances[v]);
+    printf(", entries");
+    for (size_t v = 0; v < n; v++)
+        printf(" %u", (unsigned)strategy[v]);
+    printf("\n");
+}
+
+/* C8's edges; a tie between two that are as near, the higher one first in the table; and a vertex of Odd's that is drawn in
+ * only once its last edge inside within leads there. */
+static void how_far(void)
+{
+    static const uint8_t c8_owners[] = {0, 0, 0, 0};
+    static const uint16_t c8_offsets[] = {0, 1, 2, 3, 4}, c8_targets[] = {1, 2, 1, 3};
+    attract("attractor of 1 in 0, 1, 2 of C8", c8_owners, 4, c8_offsets, c8_targets, 4, 7, 2);
+    static const uint8_t tie_owners[] = {0, 0, 0, 0};
+    static const uint16_t tie_offsets[] = {0, 3, 4, 5, 6}, tie_targets[] = {0, 2, 1, 3, 3, 3};
+    attract("with a tie", tie_owners, 4, tie_offsets, tie_targets, 6, 15, 8);
+    static const uint8_t late_owners[] = {1, 0, 0, 0, 1};
+    static const uint16_t late_offsets[] = {0, 3, 4, 5, 6, 7}, late_targets[] = {3, 1, 4, 2, 3, 3, 4};
+    attract("with one drawn in late", late_owners, 5, late_offsets, late_targets, 7, 15, 8);
 }
 
 /* C7 is Even's. Without its strategy the result gets 25; with another wrong one 22; and 21 comes first. */
@@ -326,6 +360,7 @@ int main(void)
     names();
     no_vertices();
     players();
+    how_far();
     without_strategy();
     second_opinion();
     mending();

@@ -38,8 +38,25 @@ pub struct Want {
     pub winners: Option<Vec<u8>>,
     pub calls: Option<u64>,
     pub rounds: Option<u64>,
+    /// The entries of Zielonka and of promotion, by A4's definitions.
+    pub zielonka_entries: Option<Vec<u16>>,
+    pub promotion_entries: Option<Vec<u16>>,
     /// None where two owners differ.
     pub solitaire: Option<Vec<bool>>,
+}
+
+impl Want {
+    /// Of the game without a vertex.
+    pub fn of_nothing() -> Want {
+        Want {
+            winners: Some(vec![]),
+            calls: Some(1),
+            rounds: Some(0),
+            zielonka_entries: Some(vec![]),
+            promotion_entries: Some(vec![]),
+            solitaire: Some(vec![]),
+        }
+    }
 }
 
 /// The answers by the rules; calls and rounds are none beyond what the plain reference can count in good time.
@@ -133,6 +150,8 @@ fn wanted(given: &Given, rules: &Rules, defined: Option<&Vec<u8>>) -> Result<Wan
         winners: winners.cloned(),
         calls: given.zielonka.as_ref().map(|solved| solved.count).or(by_zielonka.map(|solved| solved.calls)),
         rounds: given.promotion.as_ref().map(|solved| solved.count).or(by_promotion.map(|solved| solved.rounds)),
+        zielonka_entries: by_zielonka.map(|solved| solved.entries.clone()),
+        promotion_entries: by_promotion.map(|solved| solved.entries.clone()),
         solitaire: rules.solitaire.clone(),
     })
 }

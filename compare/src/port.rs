@@ -36,6 +36,8 @@ pub struct Lent {
     pub odd: Vec<u64>,
     /// Also the new priorities.
     pub strategy: Vec<u16>,
+    /// Of the attractor alone.
+    pub distances: Vec<u16>,
     pub work: Vec<u64>,
 }
 
@@ -47,6 +49,7 @@ impl Lent {
             even: vec![0xa5a5_5a5a_a5a5_5a5a; words],
             odd: vec![0x1234_5678_9abc_def0; words],
             strategy: vec![0x7777; game.n()],
+            distances: vec![0x6666; game.n()],
             work: vec![0xfeed_feed_feed_feed; work_words(game.n(), game.m()) + 3],
         }
     }
@@ -124,6 +127,7 @@ pub fn attractor(game: &Game, player: u8, within: &[u64], target: &[u64], lent: 
         target.as_ptr() => *const u64, target.len() => usize,
         lent.even.as_mut_ptr() => *mut u64, lent.even.len() => usize,
         lent.strategy.as_mut_ptr() => *mut u16, lent.strategy.len() => usize,
+        lent.distances.as_mut_ptr() => *mut u16, lent.distances.len() => usize,
         lent.work.as_mut_ptr() => *mut u64, lent.work.len() => usize))
 }
 

@@ -9,7 +9,7 @@ use crate::compare::{same, Want};
 use crate::game::{won_by, words_of, Game};
 use crate::generate::Numbers;
 use crate::port::{self, Lent};
-use crate::reference::attractor::{attractor, entries_hold, looks};
+use crate::reference::attractor::{attractor, distances, entries, entries_hold, looks};
 use crate::reference::tables::{set_words, work_words};
 use crate::reference::{compaction, Answer};
 
@@ -21,7 +21,9 @@ pub fn compare(game: &Game, want: &Want) -> Result<u64, String> {
     same("port: check_tables", &Answer::yes(0), &port::check_tables(game))?;
     let winners = want.winners.as_deref();
     let zielonka = solver("port: zielonka", port::zielonka, game, winners, want.calls)?;
+    chosen("port: zielonka's entries", &want.zielonka_entries, &zielonka)?;
     let promotion = solver("port: priority_promotion", port::priority_promotion, game, winners, want.rounds)?;
+    chosen("port: priority_promotion's entries", &want.promotion_entries, &promotion)?;
     opinion(game, winners, &[&zielonka, &promotion])?;
     solitaire(game, want)?;
     loops::compare(game, want.solitaire.as_deref())?;
@@ -70,6 +72,14 @@ fn solver(name: &str, door: Door, game: &Game, winners: Option<&[u8]>, counted: 
         too_little(name, game, needed - 1, got, &lent)?;
     }
     Ok(Some(claim))
+}
+
+/// The strategy handed out is the one that A4 fixes, where the plain reference came to it.
+fn chosen(name: &str, entries: &Option<Vec<u16>>, claim: &Option<Lent>) -> Result<(), String> {
+    match (entries, claim) {
+        (Some(entries), Some(claim)) => same(name, entries, &claim.strategy),
+        _ => Ok(()),
+    }
 }
 
 /// 13 with the budget as count, outputs as they were, the work area zeroed.
@@ -151,6 +161,9 @@ fn attract(game: &Game, player: u8, numbers: &mut Numbers) -> Result<(), String>
     same("port: attractor's V kept", &words_of(&within), &within_words)?;
     same("port: attractor's target kept", &words_of(&target), &target_words)?;
     zeroed("port: attractor", game, &lent)?;
+    let wanted = distances(game, player, &within, &target);
+    same("port: attractor's distances", &wanted, &lent.distances)?;
+    same("port: attractor's entries", &entries(game, player, &target, &wanted), &lent.strategy)?;
     if !entries_hold(game, player, &within, &target, &result, &lent.strategy) {
         return Err(format!("port: attractor's entries {:?}", lent.strategy));
     }

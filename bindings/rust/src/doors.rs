@@ -51,6 +51,7 @@ extern "C" {
         target: *const u64, target_length: usize,
         result: *mut u64, result_length: usize,
         strategy: *mut u16, strategy_length: usize,
+        distances: *mut u16, distances_length: usize,
         work: *mut u64, work_length: usize,
         place: *mut u64, count: *mut u64,
     ) -> u64;
@@ -269,12 +270,13 @@ pub fn attractor(
     target: &[u64],
     result: &mut [u64],
     strategy: &mut [u16],
+    distances: &mut [u16],
     work: &mut [u64],
 ) -> Answer {
     call! {
         reckonbough_attractor, tables, player,
         within.as_ptr(), within.len(), target.as_ptr(), target.len(), result.as_mut_ptr(), result.len(),
-        strategy.as_mut_ptr(), strategy.len(), work.as_mut_ptr(), work.len()
+        strategy.as_mut_ptr(), strategy.len(), distances.as_mut_ptr(), distances.len(), work.as_mut_ptr(), work.len()
     }
 }
 

@@ -92,8 +92,11 @@ pub struct Opinion {
 pub struct Attracted {
     /// Whether the vertex is in it, for each vertex.
     pub set: Vec<bool>,
-    /// The chosen target for each vertex of the player that was drawn in.
+    /// The chosen target for each vertex of the player that was drawn in: the lowest of the least distant.
     pub strategy: Vec<Option<usize>>,
+    /// How far each vertex of the set is from the target: 0 in it; for a vertex of the player one more than the least of its
+    /// targets in the set; for another one more than the greatest of its targets in `within`.
+    pub distances: Vec<Option<usize>>,
     /// How many predecessor entries were met: the edges that end in the set.
     pub looks: u64,
 }
@@ -473,12 +476,14 @@ impl Game {
     /// Refuses by [`Refusal::BadSize`] where `within` or `target` has not one entry a vertex, and by [`Refusal::StrayBit`] at the
     /// lowest vertex of `target` that is not in `within`.
     pub fn attractor(&self, player: Player, within: &[bool], target: &[bool]) -> Result<Attracted, Refusal> {
-        let (mut set, mut strategy) = (self.set(), self.strategy());
+        let (mut set, mut strategy, mut distances) = (self.set(), self.strategy(), self.strategy());
         let (within, target) = (self.words(within)?, self.words(target)?);
+        let (player, mut work) = (player as u8, self.work());
         let answer =
-            doors::attractor(self.tables(), player as u8, &within, &target, &mut set, &mut strategy, &mut self.work());
+            doors::attractor(self.tables(), player, &within, &target, &mut set, &mut strategy, &mut distances, &mut work);
         let looks = answer.result()?;
-        Ok(Attracted { set: self.members(&set), strategy: choices(&strategy), looks })
+        let (strategy, distances) = (choices(&strategy), choices(&distances));
+        Ok(Attracted { set: self.members(&set), strategy, distances, looks })
     }
 
     /// Whether Even wins from `even` and Odd from `odd` by the strategy: yes, or the first thing that is wrong.

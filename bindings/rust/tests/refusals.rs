@@ -172,7 +172,7 @@ fn a_word_too_few_gets_10_and_writes_nothing() {
     let solitaire = Tables { owners: &[0, 0], ..C6 };
     assert_eq!(doors::solitaire(solitaire, &mut [0], &mut [0; W - 1]), ten);
     assert_eq!(doors::check(C6, &[0], &[3], &[NONE, 1], &mut [0; W - 1]), ten);
-    assert_eq!(doors::attractor(C6, 0, &[3], &[1], &mut [0], &mut [0; 2], &mut [0; W - 1]), ten);
+    assert_eq!(doors::attractor(C6, 0, &[3], &[1], &mut [0], &mut [0; 2], &mut [0; 2], &mut [0; W - 1]), ten);
 }
 
 #[test]
@@ -196,12 +196,13 @@ fn a_set_or_a_table_of_another_length_gets_9() {
     assert_eq!(doors::compact(C6, &mut [0; 3]), nine);
     assert_eq!(doors::solitaire(C6, &mut [], &mut [0; W]), nine);
     assert_eq!(doors::check(C6, &[0], &[3; 2], &[NONE, 1], &mut [0; W]), nine);
-    assert_eq!(doors::attractor(C6, 0, &[3], &[], &mut [0], &mut [0; 2], &mut [0; W]), nine);
+    assert_eq!(doors::attractor(C6, 0, &[3], &[], &mut [0], &mut [0; 2], &mut [0; 2], &mut [0; W]), nine);
+    assert_eq!(doors::attractor(C6, 0, &[3], &[1], &mut [0], &mut [0; 2], &mut [0; 3], &mut [0; W - 1]), nine);
 }
 
 #[test]
 fn a_bit_at_n_or_above_gets_12_or_21() {
     let number = |number, place| Answer { number, place, count: 0 };
-    assert_eq!(doors::attractor(C6, 0, &[0b111], &[0], &mut [0], &mut [0; 2], &mut [0; W]), number(12, 2));
+    assert_eq!(doors::attractor(C6, 0, &[0b111], &[0], &mut [0], &mut [0; 2], &mut [0; 2], &mut [0; W]), number(12, 2));
     assert_eq!(doors::check(C6, &[1 << 63], &[3], &[NONE, 1], &mut [0; W]), number(21, 63));
 }

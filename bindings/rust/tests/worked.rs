@@ -76,6 +76,7 @@ fn c5_counts_parallel_edges() {
     let attracted = c5().attractor(Even, &[true, true], &[false, true]).unwrap();
     assert_eq!((attracted.set, attracted.looks), (vec![true, true], 3));
     assert_eq!(attracted.strategy, [None, None]);
+    assert_eq!(attracted.distances, [Some(1), Some(0)]);
 }
 
 #[test]
@@ -165,6 +166,7 @@ fn sets_of_two_words() {
     let attracted = game(&ring).attractor(Odd, &[true; 100], &only).unwrap();
     assert_eq!((attracted.set, attracted.looks), (vec![true; 100], 100));
     assert_eq!(attracted.strategy[69..72], [Some(70), None, Some(72)]);
+    assert_eq!(attracted.distances[69..72], [Some(1), Some(0), Some(99)]);
     let attracted = game(&ring).attractor(Even, &thirds, &[false; 100]).unwrap();
     assert_eq!((attracted.set, attracted.looks), (vec![false; 100], 0));
 }

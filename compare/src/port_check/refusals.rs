@@ -42,7 +42,7 @@ pub(super) fn damage(game: &Game, numbers: &mut Numbers) -> Game {
     damaged
 }
 
-/// Sets and strategy one too short or too long, a work area too short. A door that does not take the slice isn't asked.
+/// Sets, strategy and distances one too short or too long, a work area too short. A door that does not take the slice isn't asked.
 fn wrong_sizes(game: &Game) -> Result<(), String> {
     let set: &[Call] = &[zielonka, promotion, attractor, solitaire, check];
     let second_set: &[Call] = &[zielonka, promotion, check];
@@ -55,6 +55,7 @@ fn wrong_sizes(game: &Game) -> Result<(), String> {
     refuse(set, game, Answer::no(9, 0), &with(|lent| lent.even.push(0)))?;
     refuse(second_set, game, Answer::no(9, 0), &with(|lent| lent.odd.push(0)))?;
     refuse(entries, game, Answer::no(9, 0), &with(|lent| lent.strategy.push(0)))?;
+    refuse(&[attractor], game, Answer::no(9, 0), &with(|lent| lent.distances.push(0)))?;
     let longer: &[Call] = &[|game, lent| attractor_of(game, [1, 0], lent), |game, lent| attractor_of(game, [0, 1], lent)];
     refuse(longer, game, Answer::no(9, 0), &Lent::junk(game))?;
     if game.n() > 0 {
@@ -64,6 +65,7 @@ fn wrong_sizes(game: &Game) -> Result<(), String> {
         refuse(set, game, Answer::no(9, 0), &with(|lent| lent.even.truncate(lent.even.len() - 1)))?;
         refuse(second_set, game, Answer::no(9, 0), &with(|lent| lent.odd.truncate(lent.odd.len() - 1)))?;
         refuse(entries, game, Answer::no(9, 0), &with(|lent| lent.strategy.truncate(lent.strategy.len() - 1)))?;
+        refuse(&[attractor], game, Answer::no(9, 0), &with(|lent| lent.distances.truncate(lent.distances.len() - 1)))?;
     }
     let short = with(|lent| lent.work.truncate(lent.work.len() - 4));
     refuse(set, game, Answer::no(10, 0), &short)
@@ -161,5 +163,5 @@ pub fn boundaries() -> Result<(), String> {
     same("port: 16,384 edges", &0, &zielonka(&many, &mut Lent::junk(&many)).number)?;
 
     let c1 = &worked()[0].1;
-    super::compare(c1, &Want { winners: Some(vec![]), calls: Some(1), rounds: Some(0), solitaire: Some(vec![]) }).map(|_| ())
+    super::compare(c1, &Want::of_nothing()).map(|_| ())
 }

@@ -1,12 +1,13 @@
-//! "Priority promotion": regions and rounds.
+//! "Priority promotion": regions, rounds, and the entries that A4 fixes.
 
-use super::attractor::attractor;
-use crate::game::Game;
+use super::attractor::{drawn, lowest_in};
+use crate::game::{Game, NONE};
 
-/// Winners and rounds, and how often "if there is none, p stays" came up.
+/// Winners, their entries and rounds, and how often "if there is none, p stays" came up.
 #[derive(Clone, Debug, PartialEq, Eq)]
 pub struct Solved {
     pub winners: Vec<u8>,
+    pub entries: Vec<u16>,
     pub rounds: u64,
     pub stays: u64,
 }
@@ -20,7 +21,7 @@ pub fn solve(game: &Game, most: u64) -> Option<Solved> {
         }
         state.round();
     }
-    Some(Solved { winners: state.winners, rounds: state.rounds, stays: state.stays })
+    Some(Solved { winners: state.winners, entries: state.entries, rounds: state.rounds, stays: state.stays })
 }
 
 struct State<'a> {
@@ -28,6 +29,7 @@ struct State<'a> {
     /// The region of each unsolved vertex; none where it is solved.
     region: Vec<Option<u16>>,
     winners: Vec<u8>,
+    entries: Vec<u16>,
     p: u16,
     rounds: u64,
     stays: u64,
@@ -37,7 +39,7 @@ impl State<'_> {
     fn start(game: &Game) -> State<'_> {
         let region: Vec<Option<u16>> = game.priorities.iter().copied().map(Some).collect();
         let p = game.priorities.iter().copied().max().unwrap_or(0);
-        State { game, region, winners: vec![0; game.n()], p, rounds: 0, stays: 0 }
+        State { game, region, winners: vec![0; game.n()], entries: vec![NONE; game.n()], p, rounds: 0, stays: 0 }
     }
 
     fn unsolved(&self) -> usize {
@@ -48,7 +50,9 @@ impl State<'_> {
         self.rounds += 1;
         let (p, a) = (self.p, (self.p % 2) as u8);
         let at_most_p = self.members(|region| region <= p);
-        let r = attractor(self.game, a, &at_most_p, &self.members(|region| region == p));
+        let at_p = self.members(|region| region == p);
+        let (r, entries) = drawn(self.game, a, &at_most_p, &at_p);
+        self.take_entries(&entries, |v| r[v] && !at_p[v]);
         self.give_region(&r, p);
 
         let escapes = self.escapes(&r, a);
@@ -57,8 +61,10 @@ impl State<'_> {
             self.stays += below.is_none() as u64;
             self.p = below.unwrap_or(p);
         } else if escapes.is_empty() {
+            self.close(&r, a);
             self.win(&r, a);
         } else {
+            self.close(&r, a);
             let q = escapes.into_iter().filter(|region| *region > p).min().expect("an escape lies above p");
             self.promote(&r, q);
         }
@@ -77,8 +83,25 @@ impl State<'_> {
         own.any(|v| self.game.edges(v).iter().all(|w| !r[*w as usize]))
     }
 
+    /// An own vertex of R that has no entry takes its lowest-numbered successor in R.
+    fn close(&mut self, r: &[bool], a: u8) {
+        for v in (0..r.len()).filter(|v| r[*v] && self.game.owners[*v] == a) {
+            if self.entries[v] == NONE {
+                self.entries[v] = lowest_in(self.game, r, v);
+            }
+        }
+    }
+
+    fn take_entries(&mut self, entries: &[u16], test: impl Fn(usize) -> bool) {
+        for v in (0..entries.len()).filter(|v| test(*v)) {
+            self.entries[v] = entries[v];
+        }
+    }
+
     fn win(&mut self, r: &[bool], a: u8) {
-        let won = attractor(self.game, a, &self.members(|_| true), r);
+        let unsolved = self.members(|_| true);
+        let (won, entries) = drawn(self.game, a, &unsolved, r);
+        self.take_entries(&entries, |v| unsolved[v] && !r[v]);
         for v in 0..won.len() {
             if won[v] {
                 self.winners[v] = a;
@@ -94,6 +117,7 @@ impl State<'_> {
         for v in 0..r.len() {
             if !r[v] && self.region[v].is_some_and(|region| region < q) {
                 self.region[v] = Some(self.game.priorities[v]);
+                self.entries[v] = NONE;
             }
         }
         self.give_region(r, q);

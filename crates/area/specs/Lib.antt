@@ -5,3 +5,4 @@ pub mod SetsAt
 pub mod Walking
 pub mod Walked
 pub mod Alike
+pub mod Sizes

@@ -1,247 +1,154 @@
--- The state at first, when the counters are set and the queue is filled: nothing is taken and no entry was met.
-use mathlib.Core.Bool.{true, false}
-use mathlib.Core.List.{List, [], _∷_}
-use mathlib.Core.Logic.{_⊎_, inl, inr, ⊎-elim}
-use mathlib.Core.Path.{_≡_, refl, sym, ap, subst, _∙_}
-use Prim.Native.Nat.{ℕ, zero, suc, _+_, _-_, _*_, _≤_, _<_, zero-le}
-use native.Mathlib.Nat.{not-suc-le-zero, le-of-suc-le-suc}
+-- The layers at first: the target stands in the first one, marked, and the second is empty.
+use mathlib.Core.Bool.{false}
+use mathlib.Core.List.{List, _++_}
+use mathlib.Core.Logic.{inl, inr, ⊎-elim}
+use mathlib.Core.Path.{_≡_, sym, ap, subst, fun-ext, _∙_}
+use Prim.Native.Nat.{ℕ, suc, _+_, _-_, _*_, _/_, _%_, _≤_, _<_}
 use native.Mathlib.Omega.{arith}
-use borrow.Author.Tests.{eq-eqb, eqb-true}
 use lib.Dec.{eqb}
-use lib.ListN.{length, getD}
-use Rattle.rules.specs.Counting.{Set, some, count}
-use Rattle.rules.specs.Tables.{words, targetsOf}
-use Rattle.theory.specs.Basics.{clash, bool-ext, not-true-is-false, some-intro, some-elim, count-none, count-le, times-member, member-place}
-use Rattle.theory.specs.AttractorBasics.{countOf}
-use Rattle.theory.specs.Basics.{count-on}
-use Rattle.sets.specs.Laws.{bit-member, member-bit}
-use Rattle.walk.specs.MemberLaws.{times-members, members-entry, length-members, Rising, rising-members}
-use Rattle.walk.specs.Walk.{members}
-use Rattle.area.specs.Area.{counters, queue, entries, setAt, wordsAt}
-use Rattle.attractor.specs.Attracted.{Placed, Nested}
-use Rattle.attractor.specs.State.{State}
-use Rattle.attractor.specs.Tally.{tally-nobody}
-use Rattle.attractor.specs.Growth.{Mark, before, place-before, Queue}
-use Rattle.attractor.specs.Taking.{Standing}
-use Rattle.attractor.specs.View.{cells, stateAt, Kept, ownBy}
-use Rattle.attractor.specs.Views.{cells-at, cells-alike}
-use Rattle.area.specs.Lent.{set-alike, words-alike, part-length, words-cover}
-use Rattle.attractor.specs.Counters.{Counted}
-use Rattle.attractor.specs.Filled.{Filled}
+use lib.ListN.{length, getD, take, drop, length-take}
+use lib.Seq.{getD-take, getD-drop}
+use Rattle.rules.specs.Counting.{Set}
+use Rattle.rules.specs.Words.{digit, bit, setOf}
+use Rattle.theory.specs.Basics.{lt-or-ge}
+use Rattle.sets.specs.After.{Combined, Cleared, other}
+use Rattle.sets.specs.Laws.{bit-past, bit-take, bit-other, bit-drop}
+use Rattle.area.specs.Lent.{part-length, back, back-part, slice-alike}
+use Rattle.area.specs.Walked.{Beside}
+use Rattle.layer.specs.Layer.{Lent, Layer, Marked, inLayer, room, marks}
+use Rattle.layer.specs.Laws.{layer-past, layer-bit, zeros-layer, unmarked-empty}
+use Rattle.attractor_step.specs.Views.{Changes, back-changes}
 
--- ---- the members of a set of n vertices
+-- what `begin_layers` asks for: room for two layers before the set
+pub record Beginnable (first set s : ℕ) (work : List ℕ) : Type 0 where
+  pub few : s ≤ 64
+  pub before-set : first + 2 * (s + 1) ≤ set
+  pub high : set + s ≤ length work
 
--- rising entries are apart
-rising-above : (lo : ℕ) (l : List ℕ) → Rising lo l → (k : ℕ) → k < length l → lo ≤ getD l k 0
-rising-above lo [] r k h = absurd (not-suc-le-zero h)
-rising-above lo (x ∷ l) r zero h = r .0
-rising-above lo (x ∷ l) r (suc k) h = let above = rising-above (suc x) l (r .1) k (le-of-suc-le-suc h) in omega (arith, r .0)
+-- s words and one more
+abbrev pub layerOf : ℕ → ℕ → List ℕ → List ℕ
+layerOf s base work = take (s + 1) (drop base work)
 
-rising-apart : (lo : ℕ) (l : List ℕ) → Rising lo l → (j k : ℕ) → j < k → k < length l → getD l j 0 < getD l k 0
-rising-apart lo [] r j k h b = absurd (not-suc-le-zero b)
-rising-apart lo (x ∷ l) r j zero h b = absurd (not-suc-le-zero h)
-rising-apart lo (x ∷ l) r zero (suc k) h b = rising-above (suc x) l (r .1) k (le-of-suc-le-suc b)
-rising-apart lo (x ∷ l) r (suc j) (suc k) h b = rising-apart (suc x) l (r .1) j k (le-of-suc-le-suc h) (le-of-suc-le-suc b)
+-- what it leaves
+pub record Begun (first set s : ℕ) (before after : List ℕ) : Type 0 where
+  pub long : length after ≡ length before
+  pub rest : (i : ℕ) → Beside (2 * (s + 1)) first i → getD after i 0 ≡ getD before i 0
+  pub layer : Layer (layerOf s first after)
+  pub is : inLayer (layerOf s first after) ≡ setOf (take s (drop set before))
+  pub next-layer : Layer (layerOf s (first + s + 1) after)
+  pub next-none : (u : ℕ) → inLayer (layerOf s (first + s + 1) after) u ≡ false
 
-module _ (n base : ℕ) (work : List ℕ) (high : base + words n ≤ length work) (below : (v : ℕ) → setAt n base work v ≡ true → v < n) where
-  abbrev ms : List ℕ
-  ms = members (wordsAt n base work)
+-- a word of a part
+part-word : (k base i : ℕ) (work : List ℕ) → i < k → getD (take k (drop base work)) i 0 ≡ getD work (base + i) 0
+part-word k base i work l = getD-take k (drop base work) i 0 l ∙ getD-drop base work i 0
 
-  -- there are as many as the set has below n
-  pub members-count : length ms ≡ count n (setAt n base work)
-  members-count =
-      length-members (wordsAt n base work) ∙
-      ap (λ (k : ℕ). count k (setAt n base work)) all ∙
-      count-on n (64 * words n - n) (setAt n base work) ∙
-      ap (λ (k : ℕ). count n (setAt n base work) + k) none ∙
-      zero-more
-    where
-      all : 64 * length (wordsAt n base work) ≡ n + (64 * words n - n)
-      all = omega (arith, part-length base (words n) work high, words-cover n)
+of-bit : (xs ys : List ℕ) (u : ℕ) → bit xs u ≡ bit ys u → setOf xs u ≡ setOf ys u
+unfolding setOf
+of-bit xs ys u e = ap (λ (x : ℕ). eqb x 1) e
 
-      none : count (64 * words n - n) (λ k. setAt n base work (n + k)) ≡ 0
-      none =
-          count-none (64 * words n - n) (λ k. setAt n base work (n + k))
-          (λ k l. not-true-is-false (setAt n base work (n + k)) (λ p. let less = below (n + k) p in omega arith))
-
-      zero-more : count n (setAt n base work) + 0 ≡ count n (setAt n base work)
-      zero-more = omega arith
-
-  pub members-few : length ms ≤ n
-  members-few = let most = count-le n (setAt n base work) in omega (arith, members-count)
-
-  -- a number is a member where it stands among the members
-  member-at : (k : ℕ) → k < length ms → setAt n base work (getD ms k 0) ≡ true
-  member-at k l = bit-member (wordsAt n base work) (getD ms k 0) (members-entry (wordsAt n base work) k l)
-
-  at-member : (v : ℕ) → setAt n base work v ≡ true → (k : ℕ) × (k < length ms) × (getD ms k 0 ≡ v)
-  at-member v p =
-      member-place ms
-      (times-member v ms (omega (arith, times-members (wordsAt n base work) v, member-bit (wordsAt n base work) v p)))
-
-  -- a state whose queue is the members of its set
-  pub queue-of-members :
-      (s : State) →
-      s .members ≡ setAt n base work →
-      s .tail ≡ length ms →
-      ((k : ℕ) → k < s .tail → s .order k ≡ getD ms k 0) →
-      Queue n s
-  queue-of-members s same-members all order =
-      record {
-        queued = queued;
-        apart =
-            λ j k l h e.
-            let less = rising-apart 0 ms (rising-members (wordsAt n base work)) j k l (omega arith) in
-            let ej = order j (omega arith) in
-            let ek = order k h in
-            omega arith;
-        room = subst (λ (S : Set). s .tail ≤ count n S) (sym same-members) (omega (arith, members-count));
-      }
-    where
-      is : (u : ℕ) → s .members u ≡ setAt n base work u
-      is u = ap (λ (S : Set). S u) same-members
-
-      queued : (u : ℕ) → s .members u ≡ before (s .tail) s u
-      queued u =
-          bool-ext
-          (s .members u)
-          (before (s .tail) s u)
-          (λ p.
-          let (k, l, e) = at-member u (sym (is u) ∙ p) in
-          let here : k < s .tail = omega arith in
-          some-intro (s .tail) (λ j. eqb u (s .order j)) k here (eq-eqb u (s .order k) (sym (order k here ∙ e))))
-          (λ p.
-          let (k, l, t) = some-elim (s .tail) (λ j. eqb u (s .order j)) p in
-          let e : getD ms k 0 ≡ u = sym (order k l) ∙ sym (eqb-true u (s .order k) t) in
-          is u ∙ subst (λ (x : ℕ). setAt n base work x ≡ true) e (member-at k (omega arith)))
-
--- ---- the state at first
-
-module _ (owners offsets targets : List ℕ) (alpha within set : ℕ) (work between after : List ℕ) (tail : ℕ)
-    (placed : Placed (length owners) (length targets) within set work)
-    (nested : Nested (length owners) within set work)
-    (counted : Counted owners offsets targets alpha within work between)
-    (filled : Filled (queue (length owners) (length targets)) set (words (length owners)) between after tail)
+module _ (first set s : ℕ) (work : List ℕ) (given : Beginnable first set s work)
+    (copied : List ℕ) (copy : Combined other first set s work copied)
   where
-    abbrev n : ℕ
-    n = length owners
+    fits : first + (s + 1) ≤ length copied
+    fits = omega (arith, copy .long, given .before-set, given .high)
 
-    abbrev m : ℕ
-    m = length targets
+    abbrev lent : List ℕ
+    lent = take ((first + s + 1) - first) (drop first copied)
 
-    abbrev V' : Set
-    V' = setAt n within work
+    lent-is : lent ≡ layerOf s first copied
+    lent-is = ap (λ (k : ℕ). take k (drop first copied)) cancels
+      where
+        cancels : (first + s + 1) - first ≡ s + 1
+        cancels = omega arith
 
-    abbrev T : Set
-    T = setAt n set work
+    lent-long : length (layerOf s first copied) ≡ s + 1
+    lent-long = part-length first (s + 1) copied fits
 
-    abbrev own : Set
-    own = ownBy owners alpha
+    pub mark-ready : Lent lent
+    mark-ready = subst Lent (sym lent-is) (record { some = omega (arith, lent-long); few = omega (arith, lent-long, given .few) })
 
-    abbrev begun : State
-    begun = stateAt n m set after tail
+    module _ (ys : List ℕ) (mark' : Marked lent ys) where
+      mark : Marked (layerOf s first copied) ys
+      mark = subst (λ (xs : List ℕ). Marked xs ys) lent-is mark'
 
-    target-below : (v : ℕ) → T v ≡ true → v < n
-    target-below v p = nested .below v (nested .part v p)
+      ys-long : length ys ≡ s + 1
+      ys-long = mark .long ∙ lent-long
 
-    between-words : wordsAt n set between ≡ wordsAt n set work
-    between-words =
-        words-alike n set work between (counted .long) (λ i l. counted .rest (set + i) (inr (omega (arith, placed .set-low))))
+      abbrev marked : List ℕ
+      marked = take first copied ++ (ys ++ drop ((first + s + 1) - first) (drop first copied))
 
-    tail-few : tail ≤ n
-    tail-few =
-        let all = filled .all ∙ ap (λ (l : List ℕ). length (members l)) between-words in
-        omega (arith, members-few n set work (placed .set-high) target-below)
+      is-back : marked ≡ back first (s + 1) copied ys
+      is-back = ap (λ (k : ℕ). take first copied ++ (ys ++ drop k (drop first copied))) one-more
+        where
+          one-more : (first + s + 1) - first ≡ (first + (s + 1)) - first
+          one-more = omega arith
 
-    -- what stands outside the counters and the queue is as it was
-    outside : (i : ℕ) → (i < counters n m) ⊎ (entries n m ≤ i) → getD after i 0 ≡ getD work i 0
-    outside i o =
-        filled .rest i (⊎-elim (λ l. inl (omega arith)) (λ l. inr (omega (arith, tail-few))) o) ∙
-        counted .rest i (⊎-elim (λ l. inl l) (λ l. inr (omega arith)) o)
+      marked-changes : Changes first (s + 1) copied marked
+      marked-changes = subst (Changes first (s + 1) copied) (sym is-back) (back-changes first (s + 1) copied ys fits ys-long)
 
-    pub begun-kept : Kept n m set work after
-    begun-kept =
-        record {
-          long = filled .long ∙ counted .long;
-          rest = λ i o. outside i (⊎-elim (λ l. inl l) (λ l. inr (let h = l .0 in omega arith)) o);
-        }
+      marked-layer : layerOf s first marked ≡ ys
+      marked-layer = ap (λ (l : List ℕ). layerOf s first l) is-back ∙ back-part first (s + 1) copied ys fits ys-long
 
-    pub begun-members : begun .members ≡ T
-    begun-members = set-alike n set work after (begun-kept .long) (λ i l. outside (set + i) (inr (omega (arith, placed .set-low))))
+      pub clear-ready : first + s + 1 + (s + 1) ≤ length marked
+      clear-ready = omega (arith, marked-changes .long, copy .long, given .before-set, given .high)
 
-    begun-queue : Queue n begun
-    begun-queue =
-        queue-of-members n set work (placed .set-high) target-below begun begun-members
-        (filled .all ∙ ap (λ (l : List ℕ). length (members l)) between-words)
-        (λ k l.
-        cells-at n (queue n m) after k (omega (arith, tail-few)) ∙
-        filled .order k l ∙
-        ap (λ (l : List ℕ). getD (members l) k 0) between-words)
+      module _ (after : List ℕ) (clear : Cleared (first + s + 1) (s + 1) marked after) where
+        first-layer : layerOf s first after ≡ ys
+        first-layer =
+            slice-alike (s + 1) first marked after (clear .long) (λ i l. clear .rest (first + i) (inl (omega arith))) ∙
+            marked-layer
 
-    pub begun-inside : setAt n within after ≡ V'
-    begun-inside =
-        set-alike n within work after (begun-kept .long) (λ i l. outside (within + i) (inr (omega (arith, placed .within-low))))
+        second-zero : (i : ℕ) → i < s + 1 → getD (layerOf s (first + s + 1) after) i 0 ≡ 0
+        second-zero i l =
+            part-word (s + 1) (first + s + 1) i after l ∙ clear .zeros (first + s + 1 + i) (omega arith) (omega arith)
 
-    pub begun-entry : cells n (entries n m) after ≡ cells n (entries n m) work
-    begun-entry = cells-alike n (entries n m) work after (λ u l. outside (entries n m + u) (inr (omega arith)))
+        second-long : length (layerOf s (first + s + 1) after) ≡ s + 1
+        second-long = part-length (first + s + 1) (s + 1) after (omega (arith, clear .long, clear-ready))
 
-    begun-in : (u : ℕ) → begun .members u ≡ T u
-    begun-in u = ap (λ (S : Set). S u) begun-members
+        second-layer : Layer (layerOf s (first + s + 1) after)
+        second-layer =
+            zeros-layer (layerOf s (first + s + 1) after)
+            (record { some = omega (arith, second-long); few = omega (arith, second-long, given .few) })
+            (λ i l. second-zero i (omega (arith, second-long)))
 
-    counter-at : (u : ℕ) → V' u ≡ true → own u ≡ false → begun .counter u ≡ countOf (targetsOf offsets targets u) V'
-    counter-at u i o =
-        let small = nested .below u i in
-        cells-at n (counters n m) after u small ∙
-        filled .rest (counters n m + u) (inl (omega arith)) ∙
-        counted .counts u i o
+        -- a bit of the first layer is the target's
+        same-bit : (u : ℕ) → u < 64 * s → bit ys u ≡ bit (drop set work) u
+        unfolding bit
+        same-bit u l =
+            ap (λ (x : ℕ). digit x (u % 64))
+            (mark .same (u / 64) (omega (arith, lent-long)) ∙
+            part-word (s + 1) first (u / 64) copied (omega arith) ∙
+            sym (getD-drop first copied (u / 64) 0)) ∙
+            copy .bits u l
 
-    -- an entry of the queue lies in T
-    queue-in-target : (k : ℕ) → k < tail → T (begun .order k) ≡ false → ⊥
-    queue-in-target k l out =
-        clash
-        (sym (begun-in (begun .order k)) ∙ begun-queue .queued (begun .order k) ∙ place-before tail begun k l)
-        out
+        same-set : (u : ℕ) → inLayer ys u ≡ setOf (take s (drop set work)) u
+        same-set u = ⊎-elim inside past (lt-or-ge u (64 * s))
+          where
+            inside : u < 64 * s → inLayer ys u ≡ setOf (take s (drop set work)) u
+            inside l =
+                layer-bit ys u (omega (arith, ys-long)) ∙ of-bit ys (take s (drop set work)) u (same-bit u l ∙ sym (bit-take s
+                (drop set work) u l))
 
-    -- no entry was met yet
-    unseen : (u : ℕ) → countOf (targetsOf offsets targets u) (before 0 begun) ≡ 0
-    unfolding some
-    unseen u = tally-nobody (targetsOf offsets targets u)
+            past : 64 * s ≤ u → inLayer ys u ≡ setOf (take s (drop set work)) u
+            past l =
+                layer-past ys u (omega (arith, ys-long)) ∙
+                sym
+                (bit-other (take s (drop set work)) u
+                (bit-past (take s (drop set work)) u (omega (arith, length-take s (drop set work)))))
 
-    none-taken : (u : ℕ) → before 0 begun u ≡ true → ⊥
-    unfolding some
-    none-taken u p = clash p refl
-
-    begun-mark :
-        (u : ℕ) →
-        Mark (V' u) (T u) (own u) (countOf (targetsOf offsets targets u) V') (begun .members u) (begun .counter u)
-        (countOf (targetsOf offsets targets u) (before 0 begun))
-    begun-mark u =
-        record {
-          member-inside = λ p. nested .part u (sym (begun-in u) ∙ p);
-          target-in = λ p. begun-in u ∙ p;
-          own-out = λ i o p. unseen u;
-          other-out = λ i o p. let h = counter-at u i p in omega (arith, unseen u);
-          waiting = λ i o p q. absurd (omega (arith, unseen u));
-          in-met = λ p t. absurd (clash (sym (begun-in u) ∙ p) t);
-          other-in = λ p t o. absurd (clash (sym (begun-in u) ∙ p) t);
-        }
-
-    -- **the state at first stands**
-    pub begun-stands : Standing n (targetsOf offsets targets) V' T own (cells n (entries n m) work) 0 begun
-    begun-stands =
-        record {
-          within = zero-le;
-          grown =
-              record {
-                marks = begun-mark;
-                queue = begun-queue;
-                grounds =
-                    record {
-                      pulled = λ k l t o. absurd (queue-in-target k l t);
-                      pushed = λ k l t o u e i. absurd (queue-in-target k l t);
-                      kept =
-                          λ v h. ap (λ (f : ℕ → ℕ). f v) begun-entry;
-                    };
-                early = λ u p. absurd (none-taken u p);
-              };
-        }
+        pub layers-begun : Begun first set s work after
+        layers-begun =
+            record {
+              long = clear .long ∙ marked-changes .long ∙ copy .long;
+              rest =
+                  λ i o.
+                  clear .rest i (⊎-elim (λ l. inl (omega arith)) (λ l. inr (omega arith)) o) ∙
+                  marked-changes .rest i (⊎-elim (λ l. inl (omega arith)) (λ l. inr (omega arith)) o) ∙
+                  copy .rest i (⊎-elim (λ l. inl (omega arith)) (λ l. inr (omega arith)) o);
+              layer = subst Layer (sym first-layer) (mark .layer);
+              is = ap inLayer first-layer ∙ fun-ext same-set;
+              next-layer = second-layer;
+              next-none =
+                  unmarked-empty (layerOf s (first + s + 1) after) second-layer
+                  (second-zero (room (layerOf s (first + s + 1) after)) (omega (arith, second-long)));
+            }

@@ -1,179 +1,105 @@
--- The attractor over the work area, member by member: what holds before each is taken, that it then holds again, and what is left at
--- the end.
-use mathlib.Core.Bool.{true, false}
-use mathlib.Core.List.{List}
-use mathlib.Core.Logic.{_⊎_, inl, inr}
-use mathlib.Core.Path.{_≡_, refl, sym, ap, subst, _∙_}
-use Prim.Native.Nat.{ℕ, zero, suc, _+_, _-_, _*_, _≤_, _<_, zero-le}
-use native.Mathlib.Numerals.{add-one}
+-- The attractor over the work area, member by member: what holds before each is taken, that it then holds again, and what is
+-- left at the end.
+use mathlib.Core.Bool.{Bool, true, false, _&&_, _||_, not, cond, or-false}
+use mathlib.Core.List.{List, _++_}
+use mathlib.Core.Logic.{_⊎_, inl, inr, ⊎-elim}
+use mathlib.Core.Path.{_≡_, refl, sym, ap, subst, subst₂, fun-ext, _∙_}
+use Prim.Native.Nat.{ℕ, suc, _+_, _-_, _*_, _≤_, _<_, zero-le}
 use native.Mathlib.Omega.{arith}
+use borrow.Author.Tests.{eq-eqb}
 use lib.Dec.{eqb}
-use lib.ListN.{length, getD, take, drop, List·getD-eq-default}
-use Rattle.rules.specs.Counting.{Set, some, times}
+use lib.ListN.{length, getD, take, drop}
+use lib.Seq.{getD-take, getD-drop}
+use Rattle.rules.specs.Counting.{Set, count}
 use Rattle.rules.specs.Game.{Player, Game, Edge, playerOf, same}
-use Rattle.rules.specs.Tables.{gameOf, words, targetsOf, Accepted, tablesOf}
-use Rattle.rules.specs.Attractor.{attractor, atFirst, TakesOne, Takes, stop}
-use Rattle.theory.specs.Basics.{not-true-is-false, count-le, member-place, lt-or-ge}
+use Rattle.rules.specs.Tables.{Tables, gameOf, vertices, edgesIn, words, targetsOf, Accepted, tablesOf}
+use Rattle.rules.specs.Words.{Holds}
+use Rattle.rules.specs.Attractor.{attractor, looksOf, atFirst, TakesOne, Takes, Finished}
+use Rattle.rules.specs.Distance.{distance, attractorEntry}
+use Rattle.theory.specs.Basics.{clash, not-true-is-false, count-le, count-strict}
+use Rattle.theory.specs.Basics.{and-intro, or-left, or-right, same-true, true-same}
 use Rattle.theory.specs.Attractor.{Fits, attractor-inside}
-use Rattle.theory.specs.AttractorSteps.{takes-then}
+use Rattle.theory.specs.AttractorSteps.{takes-then, steps-members, steps-looks}
 use Rattle.theory.specs.Tables.{accepted-total}
-use Rattle.parity_game.specs.Laws.{accepted-sound}
 use Rattle.predecessors.specs.Table.{start, row}
 use Rattle.sets.specs.Laws.{other-bit}
-use Rattle.area.specs.Area.{queue, entries, setAt, wordsAt}
-use Rattle.attractor.specs.Attracted.{Listed, Attractable, Attracted}
-use Rattle.attractor.specs.State.{State}
-use Rattle.attractor.specs.Growth.{before as beforeᵠ, place-before}
-use Rattle.attractor.specs.Taking.{Standing, Row, growing, taking-stands-of, taking-safe-of}
-use Rattle.attractor.specs.Ended.{ended-members, ended-looks, ended-certificate, ended-pull, ended-kept}
-use Rattle.attractor.specs.View.{cells, stateAt, Kept, ownBy}
-use Rattle.attractor.specs.Views.{cells-at, kept-set, kept-placed, kept-then}
-use Rattle.area.specs.Lent.{part-length, slice-alike}
-use Rattle.attractor.specs.TakeLoop.{Takeable, Took, row-length}
+use Rattle.area.specs.Area.{counters, distances, entries, layers, layerWords, free, setAt, wordsAt, entryAt, distanceAt}
+use Rattle.area.specs.Lent.{back, back-part, part-length, set-alike, slice-alike}
+use Rattle.area.specs.Walked.{Beside}
+use Rattle.layer.specs.Layer.{Layer, Poppable, Popped, inLayer, room, marks}
+use Rattle.layer.specs.Laws.{unmarked-empty}
+use Rattle.attractor_counters.specs.Counters.{ownBy}
+use Rattle.theory.specs.AttractorBasics.{countOf}
+use Rattle.attractor_step.specs.State.{State, looked}
+use Rattle.attractor_step.specs.Growth.{Mark}
+use Rattle.attractor_step.specs.Looks.{Safe, onward-looked}
+use Rattle.attractor_step.specs.Taking.{Standing, Ready, Row, andOne, growing, taking-safe, taking-stands}
+use Rattle.attractor_step.specs.Layers.{takenOf, butOne, neither, Parts, parts-onward}
+use Rattle.attractor_step.specs.Layers.{taken-onward, Layered, layered-more, layered-turn, taken-turn}
+use Rattle.attractor_step.specs.View.{cells, layerAt, stateAt, Placed, Room}
+use Rattle.attractor_step.specs.Views.{cells-at, cells-alike, Changes, back-changes, changes-cells}
+use Rattle.attractor_step.specs.Views.{changes-set, changes-layer, state-alike, layer-part, layer-long}
+use Rattle.attractor_step.specs.TakeLoop.{Takeable, Took, row-length}
+use Rattle.attractor.specs.Attracted.{Attractable, Attracted, Listed, listed-kept, listed-row, owned}
 
--- ---- the predecessor table is kept
+-- the two places of a layer, either way round
+abbrev pub Sides : ℕ → ℕ → ℕ → ℕ → Type 0
+Sides n m this next =
+    ((this ≡ layers n m) × (next ≡ layers n m + layerWords n)) ⊎ ((this ≡ layers n m + layerWords n) × (next ≡ layers n m))
 
--- the table of another work area whose first words are the same
-pub listed-kept :
-    (n : ℕ) (offsets targets before after : List ℕ) →
-    length after ≡ length before →
-    ((i : ℕ) → i < n + 1 + length targets → getD after i 0 ≡ getD before i 0) →
-    Listed n offsets targets before →
-    Listed n offsets targets after
-listed-kept n offsets targets before after long same listed =
-    record {
-      rising = λ w l. let a = start-kept w (omega arith) in let b = start-kept (w + 1) (omega arith) in let h = listed .rising w l in omega arith;
-      top = λ w l. let a = start-kept w l in let h = listed .top w l in omega arith;
-      rows = λ v w l. ap (times v) (row-kept w l) ∙ listed .rows v w l;
-      sources = λ w k l h. subst (λ (r : List ℕ). k < length r → getD r k 0 < n) (sym (row-kept w l)) (listed .sources w k l) h;
-    }
-  where
-    start-kept : (w : ℕ) → w ≤ n → start after w ≡ start before w
-    start-kept w l = same w (omega arith)
+-- what is left of this layer, and the members taken
+abbrev pub nowAt : ℕ → ℕ → List ℕ → Set
+nowAt n this work = inLayer (layerAt n this work)
 
-    row-kept : (w : ℕ) → w < n → row n after w ≡ row n before w
-    row-kept w l =
-        let a = start-kept w (omega arith) in
-        let b = start-kept (w + 1) (omega arith) in
-        let top = listed .top (w + 1) (omega arith) in
-        ap (λ (x : ℕ). take ((n + 1 + start after (w + 1)) - (n + 1 + x)) (drop (n + 1 + x) after)) a ∙
-        ap (λ (x : ℕ). take ((n + 1 + x) - (n + 1 + start before w)) (drop (n + 1 + start before w) after)) b ∙
-        slice-alike ((n + 1 + start before (w + 1)) - (n + 1 + start before w)) (n + 1 + start before w) before after long
-        (λ i less. same (n + 1 + start before w + i) (omega arith))
+abbrev pub takenAt : ℕ → ℕ → ℕ → ℕ → ℕ → List ℕ → Set
+takenAt n m set this next work = takenOf (nowAt n this work) (stateAt n m set next work)
 
--- the predecessor entries of w
-listed-row : (n : ℕ) (offsets targets work : List ℕ) → Listed n offsets targets work → (w : ℕ) → w < n → Row n (targetsOf offsets targets) w (row n work w)
-listed-row n offsets targets work listed w l =
-    record {
-      small = λ v m. let (k, less, e) = member-place (row n work w) m in rw (← e) (listed .sources w k l less);
-      entries = λ v. listed .rows v w l;
-    }
-
--- ---- before each member is taken
-
--- own vertices are those of player alpha
-pub own-is : (x alpha : ℕ) → x ≤ 1 → alpha ≤ 1 → eqb x alpha ≡ same (playerOf x) (playerOf alpha)
-own-is zero zero h l = refl
-own-is zero (suc zero) h l = refl
-own-is (suc zero) zero h l = refl
-own-is (suc zero) (suc zero) h l = refl
-own-is (suc (suc x)) alpha h l = absurd (omega arith)
-own-is zero (suc (suc y)) h l = absurd (omega arith)
-own-is (suc zero) (suc (suc y)) h l = absurd (omega arith)
-
--- the members before head are taken; every game of these tables has come here by the rules' steps
-pub record Running (owners offsets targets : List ℕ) (alpha within set : ℕ) (before : List ℕ) (head : ℕ) (after : List ℕ) (tail looks : ℕ) : Type 0 where
-  pub kept : Kept (length owners) (length targets) set before after
+-- while a layer is taken: every game of these tables has come here by the rules' steps, layer by layer
+pub record Going (owners offsets targets : List ℕ) (alpha within set : ℕ) (before : List ℕ) (this next far looks : ℕ)
+    (after : List ℕ) : Type 0 where
+  pub long : length after ≡ length before
+  pub table : (i : ℕ) → i < counters (length owners) (length targets) → getD after i 0 ≡ getD before i 0
+  pub rest :
+      (i : ℕ) → free (length owners) (length targets) ≤ i → Beside (words (length owners)) set i →
+      getD after i 0 ≡ getD before i 0
+  pub sides : Sides (length owners) (length targets) this next
+  pub layer : Layer (layerAt (length owners) this after)
+  pub next-layer : Layer (layerAt (length owners) next after)
+  pub parts : Parts (nowAt (length owners) this after) (stateAt (length owners) (length targets) set next after)
   pub stands :
       let n = length owners in
       Standing n (targetsOf offsets targets) (setAt n within before) (setAt n set before) (ownBy owners alpha)
-      (cells n (entries n (length targets)) before) head (stateAt n (length targets) set after tail)
-  pub few : looks ≤ 16384 * head
+      (takenAt n (length targets) set this next after) (stateAt n (length targets) set next after)
+  pub few : looks ≤ 16384 * count (length owners) (takenAt (length owners) (length targets) set this next after)
+  pub far-some : 1 ≤ far
   pub run :
       let n = length owners in
       (priorities : List ℕ) →
       Accepted (tablesOf owners priorities offsets targets) →
       Takes (gameOf (tablesOf owners priorities offsets targets)) (playerOf alpha) (setAt n within before)
       (atFirst (setAt n set before))
-      (growing head looks (stateAt n (length targets) set after tail))
+      (growing (takenAt n (length targets) set this next after) looks (stateAt n (length targets) set next after)) ×
+      Layered (gameOf (tablesOf owners priorities offsets targets)) (playerOf alpha) (setAt n within before) (setAt n set before)
+      (ownBy owners alpha) (cells n (entries n (length targets)) before) (far - 1) (nowAt n this after)
+      (stateAt n (length targets) set next after)
 
--- two work areas in which V, the target and the entries are the same
-pub record Same (n m within set : ℕ) (x y : List ℕ) : Type 0 where
-  pub inside : setAt n within y ≡ setAt n within x
-  pub target : setAt n set y ≡ setAt n set x
-  pub entry : cells n (entries n m) y ≡ cells n (entries n m) x
+-- before each member is taken: where this layer is empty, so is the next
+pub record Running (owners offsets targets : List ℕ) (alpha within set : ℕ) (before : List ℕ) (this next far looks : ℕ)
+    (after : List ℕ) : Type 0 where
+  pub going : Going owners offsets targets alpha within set before this next far looks after
+  pub deep : far ≤ count (length owners) (takenAt (length owners) (length targets) set this next after) + 1
+  pub last : marks (layerAt (length owners) this after) ≡ 0 → (u : ℕ) → nowAt (length owners) next after u ≡ false
 
-pub same-back : {n m within set : ℕ} {x y : List ℕ} → Same n m within set x y → Same n m within set y x
-same-back s = record { inside = sym (s .inside); target = sym (s .target); entry = sym (s .entry) }
-
--- what was reached from one was reached from the other
-pub running-moved :
-    (owners offsets targets : List ℕ) (alpha within set : ℕ) (x y : List ℕ) (head : ℕ) (after : List ℕ) (tail looks : ℕ) →
-    Same (length owners) (length targets) within set x y →
-    Kept (length owners) (length targets) set y after →
-    Running owners offsets targets alpha within set x head after tail looks →
-    Running owners offsets targets alpha within set y head after tail looks
-running-moved owners offsets targets alpha within set x y head after tail looks same kept r =
-    record {
-      kept = kept;
-      stands =
-          subst
-          (λ (S : Set).
-          Standing n (targetsOf offsets targets) S (setAt n set y) (ownBy owners alpha) (cells n (entries n m) y) head now)
-          (sym (same .inside))
-          (subst
-          (λ (S : Set).
-          Standing n (targetsOf offsets targets) (setAt n within x) S (ownBy owners alpha) (cells n (entries n m) y) head now)
-          (sym (same .target))
-          (subst
-          (λ (f : ℕ → ℕ).
-          Standing n (targetsOf offsets targets) (setAt n within x) (setAt n set x) (ownBy owners alpha) f head now)
-          (sym (same .entry))
-          (r .stands)));
-      few = r .few;
-      run =
-          λ priorities ok.
-          subst
-          (λ (S : Set).
-          Takes (gameOf (tablesOf owners priorities offsets targets)) (playerOf alpha) S (atFirst (setAt n set y)) (growing head looks now))
-          (sym (same .inside))
-          (subst
-          (λ (S : Set).
-          Takes (gameOf (tablesOf owners priorities offsets targets)) (playerOf alpha) (setAt n within x) (atFirst S) (growing head looks now))
-          (sym (same .target))
-          (r .run priorities ok));
-    }
+-- the marks of a layer, as they are read
+pub marks-at : (n base : ℕ) (work : List ℕ) → base + layerWords n ≤ length work → marks (layerAt n base work) ≡ getD work
+    (base + words n) 0
+marks-at n base work high =
+    ap (λ (k : ℕ). getD (layerAt n base work) k 0) last-word ∙
+    getD-take (layerWords n) (drop base work) (words n) 0 (omega arith) ∙
+    getD-drop base work (words n) 0
   where
-    n : ℕ
-    n = length owners
-
-    m : ℕ
-    m = length targets
-
-    now : State
-    now = stateAt (length owners) (length targets) set after tail
-
--- what `attract` asks for, of another such work area
-pub attractable-moved :
-    (owners offsets targets : List ℕ) (alpha within set : ℕ) (x y : List ℕ) →
-    Same (length owners) (length targets) within set x y →
-    Kept (length owners) (length targets) set x y →
-    Attractable owners offsets targets alpha within set x →
-    Attractable owners offsets targets alpha within set y
-attractable-moved owners offsets targets alpha within set x y same kept given =
-    record {
-      placed = kept-placed kept (given .placed);
-      nested =
-          record {
-            below = λ v p. given .nested .below v (ap (λ (S : Set). S v) (sym (same .inside)) ∙ p);
-            part =
-                λ v p.
-                ap (λ (S : Set). S v) (same .inside) ∙ given .nested .part v (ap (λ (S : Set). S v) (sym (same .target)) ∙ p);
-          };
-      edges = given .edges;
-      listed = listed-kept (length owners) offsets targets x y (kept .long) (λ i l. kept .rest i (inl l)) (given .listed);
-      side = given .side;
-    }
+    last-word : room (layerAt n base work) ≡ words n
+    last-word = omega (arith, layer-long n base work high)
 
 module _ (owners offsets targets : List ℕ) (alpha within set : ℕ) (before : List ℕ)
     (given : Attractable owners offsets targets alpha within set before) where
@@ -195,176 +121,400 @@ module _ (owners offsets targets : List ℕ) (alpha within set : ℕ) (before : 
   abbrev entry : ℕ → ℕ
   entry = cells n (entries n m) before
 
-  abbrev Runs : ℕ → List ℕ → ℕ → ℕ → Type 0
-  Runs head after tail looks = Running owners offsets targets alpha within set before head after tail looks
-
-  pub owned :
-      (priorities : List ℕ) → Accepted (tablesOf owners priorities offsets targets) → (v : ℕ) →
-      own v ≡ same (gameOf (tablesOf owners priorities offsets targets) .owner v) (playerOf alpha)
+  pub fits :
+      (priorities : List ℕ) → Accepted (tablesOf owners priorities offsets targets) →
+      Fits (gameOf (tablesOf owners priorities offsets targets)) V' T
   unfolding gameOf
-  owned priorities ok v = own-is (getD owners v 0) alpha (small (lt-or-ge v n)) (given .side)
-    where
-      small : (v < n) ⊎ (n ≤ v) → getD owners v 0 ≤ 1
-      small (inl l) = accepted-sound (tablesOf owners priorities offsets targets) ok .owner-small v l
-      small (inr l) = rw (List·getD-eq-default owners 0 l) zero-le
+  fits priorities ok = record { part = given .nested .part; below = given .nested .below }
 
-  -- nothing is taken yet
-  pub running-first :
-      (after : List ℕ) (tail : ℕ) →
-      Kept n m set before after →
-      setAt n set after ≡ T →
-      Standing n (targetsOf offsets targets) V' T own entry 0 (stateAt n m set after tail) →
-      Runs 0 after tail 0
-  unfolding atFirst some
-  running-first after tail kept same-members st =
-      record {
-        kept = kept;
-        stands = st;
-        few = zero-le;
-        run =
-            λ priorities ok.
-            subst
-            (λ (S : Set).
-            Takes (gameOf (tablesOf owners priorities offsets targets)) (playerOf alpha) V' (atFirst T)
-            (record { members = S; taken = λ v. false; looks = 0 }))
-            (sym same-members)
-            stop;
-      }
+  module _ (this next far looks : ℕ) (after : List ℕ)
+      (c : Going owners offsets targets alpha within set before this next far looks after) where
+    abbrev state : State
+    state = stateAt n m set next after
 
-  module _ (head : ℕ) (after : List ℕ) (tail looks : ℕ) (c : Runs head after tail looks) where
-    abbrev now : State
-    now = stateAt n m set after tail
+    abbrev now : Set
+    now = nowAt n this after
 
-    same-inside : setAt n within after ≡ V'
-    same-inside = kept-set n m within set before after (given .placed) (c .kept)
+    abbrev taken : Set
+    taken = takenAt n m set this next after
 
-    listed-now : Listed n offsets targets after
-    listed-now = listed-kept n offsets targets before after (c .kept .long) (λ i l. c .kept .rest i (inl l)) (given .listed)
+    this-high : this + layerWords n ≤ free n m
+    this-high = ⊎-elim (λ e. omega (arith, e .0)) (λ e. omega (arith, e .0)) (c .sides)
 
-    stands-now : Standing n (targetsOf offsets targets) (setAt n within after) T own entry head now
-    stands-now =
-        subst (λ (S : Set). Standing n (targetsOf offsets targets) S T own entry head now) (sym same-inside) (c .stands)
+    this-low : layers n m ≤ this
+    this-low = ⊎-elim (λ e. omega (arith, e .0)) (λ e. omega (arith, e .0)) (c .sides)
 
-    pub tail-few : tail ≤ n
-    tail-few = let most = count-le n (now .members) in omega (arith, c .stands .grown .queue .room)
+    next-high : next + layerWords n ≤ free n m
+    next-high = ⊎-elim (λ e. omega (arith, e .1)) (λ e. omega (arith, e .1)) (c .sides)
 
-    -- one member is taken
-    module _ (left : head < tail) where
-      abbrev w : ℕ
-      w = getD after (queue n m + head) 0
+    next-low : layers n m ≤ next
+    next-low = ⊎-elim (λ e. omega (arith, e .1)) (λ e. omega (arith, e .1)) (c .sides)
 
-      is-next : now .order head ≡ w
-      is-next = cells-at n (queue n m) after head (omega (arith, tail-few))
+    layers-apart : (this + layerWords n ≤ next) ⊎ (next + layerWords n ≤ this)
+    layers-apart = ⊎-elim (λ e. inl (omega (arith, e .0, e .1))) (λ e. inr (omega (arith, e .0, e .1))) (c .sides)
 
-      row-next : w < n → Row n (targetsOf offsets targets) w (row n after w)
-      row-next l = listed-row n offsets targets after listed-now w l
+    pub layer-fits : this + layerWords n ≤ length after
+    layer-fits = omega (arith, this-high, c .long, given .placed .within-low, given .placed .within-high)
 
-      pub next-small : w < n
-      next-small =
-          given .nested .below w
-          (c .stands .grown .marks w .member-inside
-          (c .stands .grown .queue .queued w ∙ subst (λ (x : ℕ). beforeᵠ tail now x ≡ true) is-next (place-before tail now head left)))
+    pub marks-read : marks (layerAt n this after) ≡ getD after (this + words n) 0
+    marks-read = marks-at n this after layer-fits
 
-      -- its place in the queue and its starts in the table lie in the work area
-      pub place-fits : queue n m + head < length after
-      place-fits = omega (arith, tail-few, c .kept .long, given .placed .within-low, given .placed .within-high)
+    -- the lowest member of the layer is taken out
+    module _ (s : ℕ) (size : s ≡ words n) (more : getD after (this + s) 0 ≡ 0 → ⊥) where
+      pub pop-ready : Poppable (take ((this + s + 1) - this) (drop this after))
+      pop-ready =
+          subst Poppable (sym (layer-part n s this after size))
+          (record { layer = c .layer; some = λ z. more (ap (λ (k : ℕ). getD after (this + k) 0) size ∙ sym marks-read ∙ z) })
 
-      pub next-fits : w + 1 < length after
-      next-fits = omega (arith, next-small, c .kept .long, given .placed .within-low, given .placed .within-high)
+      module _ (w : ℕ) (ys : List ℕ) (popped' : Popped w (take ((this + s + 1) - this) (drop this after)) ys) where
+        popped : Popped w (layerAt n this after) ys
+        popped = subst (λ (xs : List ℕ). Popped w xs ys) (layer-part n s this after size) popped'
 
-      pub row-few : length (row n after w) ≤ 16384
-      row-few =
-          omega
-          (arith, row-length n w after row-fits, listed-now .top (w + 1) (omega (arith, next-small)), given .edges .few-edges)
-        where
-          row-fits : n + 1 + start after (w + 1) ≤ length after
-          row-fits =
-              omega
-              (arith, listed-now .top (w + 1) (omega (arith, next-small)), c .kept .long, given .placed .within-low, given .placed .within-high)
+        abbrev pub mid : List ℕ
+        mid = take this after ++ (ys ++ drop ((this + s + 1) - this) (drop this after))
 
-      pub row-is : length (row n after w) ≡ start after (w + 1) - start after w
-      row-is =
-          row-length n w after
-          (omega (arith, listed-now .top (w + 1) (omega (arith, next-small)), c .kept .long, given .placed .within-low, given .placed .within-high))
+        ys-long : length ys ≡ layerWords n
+        ys-long = popped .long ∙ layer-long n this after layer-fits
 
-      pub row-rises : start after w ≤ start after (w + 1)
-      row-rises = listed-now .rising w next-small
+        is-back : mid ≡ back this (layerWords n) after ys
+        is-back = ap (λ (k : ℕ). take this after ++ (ys ++ drop k (drop this after))) one-more
+          where
+            one-more : (this + s + 1) - this ≡ (this + layerWords n) - this
+            one-more = omega arith
 
-      -- the looks stay few
-      pub looks-few : looks + (start after (w + 1) - start after w) ≤ 67108864
-      looks-few = omega (arith, c .few, row-few, row-is, tail-few, given .edges .few-vertices)
+        mid-changes : Changes this (layerWords n) after mid
+        mid-changes = subst (Changes this (layerWords n) after) (sym is-back) (back-changes this (layerWords n)
+            after ys layer-fits ys-long)
 
-      pub take-ready : (s : ℕ) → s ≡ words n → Takeable owners m s alpha within set after w tail
-      take-ready s size =
-          record {
-            size = size;
-            placed = kept-placed (c .kept) (given .placed);
-            small = next-small;
-            rising = row-rises;
-            top = listed-now .top (w + 1) (omega (arith, next-small));
-            safe =
-                taking-safe-of n (targetsOf offsets targets) (setAt n within after) T own entry head w now (row n after w) stands-now left is-next
-                (row-next next-small);
-          }
+        mid-layer : layerAt n this mid ≡ ys
+        mid-layer = ap (λ (l : List ℕ). layerAt n this l) is-back ∙ back-part this (layerWords n) after ys layer-fits ys-long
 
-      pub running-more :
-          (after' : List ℕ) (end : ℕ) →
-          Took owners m alpha within set w after after' tail end →
-          Runs (head + 1) after' end (looks + (start after (w + 1) - start after w))
+        mid-state : stateAt n m set next mid ≡ state
+        mid-state =
+            state-alike
+            (changes-set mid-changes n set (inr (omega (arith, this-high, given .placed .set-low))))
+            (changes-cells mid-changes n (counters n m) (inl (omega (arith, this-low))))
+            (changes-cells mid-changes n (distances n m) (inl (omega (arith, this-low))))
+            (changes-cells mid-changes n (entries n m) (inl (omega (arith, this-low))))
+            (ap inLayer mid-next)
+          where
+            mid-next : layerAt n next mid ≡ layerAt n next after
+            mid-next = changes-layer mid-changes n next (⊎-elim (λ l. inr l) (λ l. inl l) layers-apart)
+
+        mid-now : nowAt n this mid ≡ butOne w now
+        mid-now = ap inLayer mid-layer ∙ fun-ext (popped .set)
+
+        w-member : state .members w ≡ true
+        w-member = c .parts .inside w (popped .member)
+
+        pub next-small : w < n
+        next-small = given .nested .below w (c .stands .marks w .member-inside w-member)
+
+        mid-table : (i : ℕ) → i < counters n m → getD mid i 0 ≡ getD before i 0
+        mid-table i l = mid-changes .rest i (inl (omega (arith, this-low))) ∙ c .table i l
+
+        pub mid-long : length mid ≡ length before
+        mid-long = mid-changes .long ∙ c .long
+
+        listed-now : Listed n offsets targets mid
+        listed-now = listed-kept n offsets targets before mid mid-long mid-table (given .listed)
+
+        pub next-fits : w + 1 < length mid
+        next-fits = omega (arith, next-small, mid-long, given .placed .within-low, given .placed .within-high)
+
+        row-fits : n + 1 + start mid (w + 1) ≤ length mid
+        row-fits = omega (
+          arith,
+          listed-now .top (w + 1) (omega (arith, next-small)),
+          mid-long,
+          given .placed .within-low,
+          given .placed .within-high,
+        )
+
+        row-is : length (row n mid w) ≡ start mid (w + 1) - start mid w
+        row-is = row-length n w mid row-fits
+
+        row-few : length (row n mid w) ≤ 16384
+        row-few = omega (arith, row-is, listed-now .top (w + 1) (omega (arith, next-small)), given .edges .few-edges)
+
+        pub row-rises : start mid w ≤ start mid (w + 1)
+        row-rises = listed-now .rising w next-small
+
+        -- the looks stay few
+        pub looks-few : looks + (start mid (w + 1) - start mid w) ≤ 67125248
+        looks-few = omega (arith, c .few, row-few, row-is, count-le n taken, given .edges .few-vertices)
+
+        inside-mid : setAt n within mid ≡ V'
+        inside-mid =
+            changes-set mid-changes n within (inr (omega (arith, this-high, given .placed .within-low))) ∙
+            set-alike n within before after (c .long)
+            (λ i l.
+            c .rest (within + i) (omega (arith, given .placed .within-low))
+            (⊎-elim (λ h. inl (omega arith)) (λ h. inr (omega arith)) (given .placed .apart)))
+
+        fresh : taken w ≡ false
+        fresh = ap (λ (b : Bool). state .members w && not (b || state .next w)) (popped .member) ∙ and-nothing (state .members w)
+          where
+            and-nothing : (b : Bool) → (b && false) ≡ false
+            and-nothing true = refl
+            and-nothing false = refl
+
+        ready : Ready n (targetsOf offsets targets) taken w (row n mid w) state
+        ready = record { member = w-member; fresh = fresh; listed = listed-row n offsets targets mid listed-now w next-small }
+
+        mid-room : Room n m set next mid
+        mid-room =
+            record {
+              low = given .placed .set-low;
+              high = omega (arith, mid-long, given .placed .set-high);
+              next-low = next-low;
+              next-high = next-high;
+            }
+
+        mid-next-layer : Layer (layerAt n next mid)
+        mid-next-layer =
+            subst Layer (sym (changes-layer mid-changes n next (⊎-elim (λ l. inr l) (λ l. inl l) layers-apart))) (c .next-layer)
+
+        pub take-ready : Takeable owners m s alpha within set next mid w far
+        take-ready =
+            record {
+              size = size;
+              placed =
+                  record {
+                    within-low = given .placed .within-low;
+                    within-high = omega (arith, mid-long, given .placed .within-high);
+                    set-low = given .placed .set-low;
+                    set-high = omega (arith, mid-long, given .placed .set-high);
+                    apart = given .placed .apart;
+                  };
+              room = mid-room;
+              layer = mid-next-layer;
+              small = next-small;
+              rising = row-rises;
+              top = listed-now .top (w + 1) (omega (arith, next-small));
+              safe =
+                  subst
+                  (λ (S : Set).
+                  (k : ℕ) → k < length (row n mid w) →
+                  Safe n S own (looked S own w far (take k (row n mid w)) (stateAt n m set next mid)) (getD (row n mid w) k 0))
+                  (sym inside-mid)
+                  (subst
+                  (λ (x : State).
+                  (k : ℕ) → k < length (row n mid w) →
+                  Safe n V' own (looked V' own w far (take k (row n mid w)) x) (getD (row n mid w) k 0))
+                  (sym mid-state)
+                  (taking-safe n (targetsOf offsets targets) V' T own taken w far (row n mid w) state (c .stands) ready));
+            }
+
+        -- and its row is looked at
+        module _ (fin : List ℕ) (took : Took owners m alpha within set next w far mid fin) where
+          abbrev later : State
+          later = looked V' own w far (row n mid w) state
+
+          fin-state : stateAt n m set next fin ≡ later
+          fin-state =
+              took .becomes .state ∙
+              ap (λ (S : Set). looked S own w far (row n mid w) (stateAt n m set next mid)) inside-mid ∙
+              ap (looked V' own w far (row n mid w)) mid-state
+
+          fin-layer : layerAt n this fin ≡ layerAt n this mid
+          fin-layer =
+              slice-alike (layerWords n) this mid fin (took .becomes .kept .long)
+              (λ i l.
+              took .becomes .kept .rest (this + i)
+              (inr (
+                omega (arith, this-low),
+                inl (omega (arith, this-high, given .placed .set-low)),
+                ⊎-elim (λ h. inl (omega arith)) (λ h. inr (omega arith)) layers-apart,
+              )))
+
+          fin-now : nowAt n this fin ≡ butOne w now
+          fin-now = ap inLayer fin-layer ∙ mid-now
+
+          later-taken : takenOf (butOne w now) later ≡ andOne w taken
+          later-taken = fun-ext (taken-onward (onward-looked V' own w far (row n mid w) state) (c .parts) (popped .member))
+
+          fin-taken : takenAt n m set this next fin ≡ andOne w taken
+          fin-taken =
+              ap (λ (N : Set). takenOf N (stateAt n m set next fin)) fin-now ∙ ap (takenOf (butOne w now)) fin-state ∙ later-taken
+
+          pub taken-grows : count n taken < count n (takenAt n m set this next fin)
+          taken-grows =
+              subst (λ (S : Set). count n taken < count n S) (sym fin-taken)
+              (count-strict n taken (andOne w taken) (λ u l p. or-left (taken u) _ p) w next-small fresh
+              (or-right (taken w) _ (eq-eqb w w refl)))
+
+          later-stands : Standing n (targetsOf offsets targets) V' T own (andOne w taken) later
+          later-stands = taking-stands n (targetsOf offsets targets) V' T own taken w far (row n mid w) state (c .stands) ready
+
+          -- what holds of the state that was made holds of the one that stands there
+          moved : (P : Set → Set → State → Type 0) → P (butOne w now) (andOne w taken) later → P (nowAt n this fin)
+              (takenAt n m set this next fin) (stateAt n m set next fin)
+          moved P p =
+              subst (λ (N : Set). P N (takenAt n m set this next fin) (stateAt n m set next fin)) (sym fin-now)
+              (subst (λ (X : Set). P (butOne w now) X (stateAt n m set next fin)) (sym fin-taken)
+              (subst (P (butOne w now) (andOne w taken)) (sym fin-state) p))
+
+          pub going-more : Going owners offsets targets alpha within set before this next far (looks + (start mid (w + 1)
+              - start mid w)) fin
+          unfolding gameOf
+          going-more =
+              record {
+                long = took .becomes .kept .long ∙ mid-long;
+                table = λ i l. took .becomes .kept .rest i (inl l) ∙ mid-table i l;
+                rest =
+                    λ i l o.
+                    took .becomes .kept .rest i (inr (omega arith, o, inr (omega (arith, next-high)))) ∙
+                    mid-changes .rest i (inr (omega (arith, this-high))) ∙
+                    c .rest i l o;
+                sides = c .sides;
+                layer = subst Layer (sym (fin-layer ∙ mid-layer)) (popped .layer);
+                next-layer = took .becomes .layer mid-next-layer;
+                parts =
+                    moved (λ (N X : Set) (x : State). Parts N x)
+                    (parts-onward (onward-looked V' own w far (row n mid w) state) (c .parts) (popped .member));
+                stands = moved (λ (N X : Set) (x : State). Standing n (targetsOf offsets targets) V' T own X x) later-stands;
+                few = omega (arith, c .few, row-few, row-is, taken-grows);
+                far-some = c .far-some;
+                run = λ priorities ok. (runs priorities ok, lays priorities ok);
+              }
+            where
+              runs :
+                  (priorities : List ℕ) (ok : Accepted (tablesOf owners priorities offsets targets)) →
+                  Takes (gameOf (tablesOf owners priorities offsets targets)) (playerOf alpha) V' (atFirst T)
+                  (growing (takenAt n m set this next fin) (looks + (start mid (w + 1) - start mid w)) (stateAt n m set next fin))
+              runs priorities ok =
+                  let g = gameOf (tablesOf owners priorities offsets targets) in
+                  let a = playerOf alpha in
+                  takes-then (c .run priorities ok .0)
+                  (subst
+                  (λ (X : Set). TakesOne g a V' (growing taken looks state) (growing X (looks + (start mid (w + 1)
+                  - start mid w)) (stateAt n m set next fin)))
+                  (sym fin-taken)
+                  (subst
+                  (λ (k : ℕ). TakesOne g a V' (growing taken looks state) (growing (andOne w taken) (looks + k)
+                  (stateAt n m set next fin)))
+                  row-is
+                  (subst
+                  (λ (x : State). TakesOne g a V' (growing taken looks x) (growing (andOne w taken) (looks + length
+                  (row n mid w)) (stateAt n m set next fin)))
+                  mid-state
+                  (subst
+                  (λ (S : Set).
+                  TakesOne g a S (growing taken looks (stateAt n m set next mid)) (growing (andOne w taken) (looks + length
+                  (row n mid w)) (stateAt n m set next fin)))
+                  inside-mid
+                  (took .step g a T taken looks (owned owners offsets targets alpha (given .side) priorities ok)
+                  (subst (λ (S : Set). Standing n (targetsOf offsets targets) S T own taken (stateAt n m set next mid))
+                  (sym inside-mid)
+                  (subst (Standing n (targetsOf offsets targets) V' T own taken) (sym mid-state) (c .stands)))
+                  (subst (Ready n (targetsOf offsets targets) taken w (row n mid w)) (sym mid-state) ready))))))
+
+              lays :
+                  (priorities : List ℕ) (ok : Accepted (tablesOf owners priorities offsets targets)) →
+                  Layered (gameOf (tablesOf owners priorities offsets targets)) (playerOf alpha) V' T own entry (far - 1)
+                  (nowAt n this fin) (stateAt n m set next fin)
+              lays priorities ok =
+                  let g = gameOf (tablesOf owners priorities offsets targets) in
+                  let a = playerOf alpha in
+                  let back-far : suc (far - 1) ≡ far = omega (arith, c .far-some) in
+                  moved (λ (N X : Set) (x : State). Layered g a V' T own entry (far - 1) N x)
+                  (subst
+                  (λ (k : ℕ). Layered g a V' T own entry (far - 1) (butOne w now) (looked V' own w k (row n mid w) state))
+                  back-far
+                  (layered-more g a V' T own (fits priorities ok) (omega (arith, given .edges .few-vertices))
+                  (owned owners offsets targets alpha (given .side) priorities ok)
+                  entry (far - 1) now state (c .stands) (c .run priorities ok .1) w (row n mid w) (popped .member)
+                  (popped .lowest) ready))
+
+    -- the layer is done: nothing is left in it, and turning to the next takes none
+    layer-done : getD after (this + words n) 0 ≡ 0 → (u : ℕ) → now u ≡ false
+    layer-done z = unmarked-empty (layerAt n this after) (c .layer) (marks-read ∙ z)
+
+    pub turned : getD after (this + words n) 0 ≡ 0 → takenAt n m set next this after ≡ taken
+    turned z =
+        fun-ext
+        (λ u.
+        ap (λ (d : Bool). state .members u && not (state .next u || d)) (layer-done z u) ∙
+        ap (λ (b : Bool). state .members u && not b) (or-false (state .next u)) ∙
+        sym (ap (λ (b : Bool). state .members u && not (b || state .next u)) (layer-done z u)))
+
+    -- the layer has members still, or it is done and the next one is taken
+    module _ (deeper : far ≤ count n taken) where
+      pub running-on : (getD after (this + words n) 0 ≡ 0 → ⊥) →
+          Running owners offsets targets alpha within set before this next far looks after
+      running-on more =
+          record { going = c; deep = omega arith; last = λ z. absurd (more (sym marks-read ∙ z)) }
+
+      pub running-turn : getD after (this + words n) 0 ≡ 0 → Running owners offsets targets alpha within set before next this
+          (far + 1) looks after
       unfolding gameOf
-      running-more after' end took =
+      running-turn z =
           record {
-            kept = kept-then (c .kept) (took .becomes .kept);
-            stands = subst (λ (k : ℕ). Standing n (targetsOf offsets targets) V' T own entry k later) (sym (add-one head)) stands-later;
-            few = omega (arith, c .few, row-few, row-is);
-            run =
-                λ priorities ok.
-                subst
-                (λ (k : ℕ). Takes (gameOf (tablesOf owners priorities offsets targets)) (playerOf alpha) V' (atFirst T)
-                (growing k (looks + (start after (w + 1) - start after w)) later))
-                (sym (add-one head))
-                (subst
-                (λ (k : ℕ). Takes (gameOf (tablesOf owners priorities offsets targets)) (playerOf alpha) V' (atFirst T) (growing (suc head) (looks + k) later))
-                row-is
-                (takes-then (c .run priorities ok) (step-later priorities ok)));
+            going =
+                record {
+                  long = c .long;
+                  table = c .table;
+                  rest = c .rest;
+                  sides = ⊎-elim (λ e. inr (e .1, e .0)) (λ e. inl (e .1, e .0)) (c .sides);
+                  layer = c .next-layer;
+                  next-layer = c .layer;
+                  parts =
+                      record {
+                        inside = λ u p. c .parts .found u p;
+                        found = λ u p. absurd (clash p (layer-done z u));
+                        apart = λ u p. layer-done z u;
+                      };
+                  stands =
+                      record {
+                        marks =
+                            λ u.
+                            subst
+                            (λ (S : Set).
+                            Mark (V' u) (T u) (own u) (countOf (targetsOf offsets targets u) V') (state .members u)
+                            (state .counter u) (countOf (targetsOf offsets targets u) S))
+                            (sym (turned z)) (c .stands .marks u);
+                        early = λ u p. c .stands .early u (ap (λ (S : Set). S u) (sym (turned z)) ∙ p);
+                      };
+                  few = subst (λ (S : Set). looks ≤ 16384 * count n S) (sym (turned z)) (c .few);
+                  far-some = omega arith;
+                  run =
+                      λ priorities ok.
+                      let g = gameOf (tablesOf owners priorities offsets targets) in
+                      let a = playerOf alpha in (
+                        subst
+                            (λ (S : Set). Takes g a V' (atFirst T) (growing S looks (stateAt n m set this after)))
+                            (sym (turned z))
+                            (c .run priorities ok .0),
+                        subst
+                            (λ (k : ℕ). Layered g a V' T own entry k (nowAt n next after) (stateAt n m set this after))
+                            same-far
+                            (turn-lays priorities ok),
+                      );
+                };
+            deep = subst (λ (S : Set). far + 1 ≤ count n S + 1) (sym (turned z)) (omega arith);
+            last = λ e u. layer-done z u;
           }
         where
-          later : State
-          later = stateAt n m set after' end
+          same-far : suc (far - 1) ≡ far + 1 - 1
+          same-far = omega (arith, c .far-some)
 
-          stands-later : Standing n (targetsOf offsets targets) V' T own entry (suc head) later
-          stands-later =
-              subst
-              (λ (S : Set). Standing n (targetsOf offsets targets) S T own entry (suc head) later)
-              same-inside
-              (subst
-              (λ (t : State). Standing n (targetsOf offsets targets) (setAt n within after) T own entry (suc head) t)
-              (sym (took .becomes .state))
-              (taking-stands-of n (targetsOf offsets targets) (setAt n within after) T own entry head w now (row n after w) stands-now left is-next
-              (row-next next-small)))
-
-          step-later :
+          turn-lays :
               (priorities : List ℕ) (ok : Accepted (tablesOf owners priorities offsets targets)) →
-              TakesOne (gameOf (tablesOf owners priorities offsets targets)) (playerOf alpha) V' (growing head looks now)
-              (growing (suc head) (looks + length (row n after w)) later)
-          step-later priorities ok =
-              subst
-              (λ (S : Set).
-              TakesOne (gameOf (tablesOf owners priorities offsets targets)) (playerOf alpha) S (growing head looks now)
-              (growing (suc head) (looks + length (row n after w)) later))
-              same-inside
-              (took .step (gameOf (tablesOf owners priorities offsets targets)) (playerOf alpha) T entry head looks refl (owned priorities ok) stands-now left
-              is-next (row-next next-small))
+              Layered (gameOf (tablesOf owners priorities offsets targets)) (playerOf alpha) V' T own entry (suc (far - 1))
+              (nowAt n next after) (stateAt n m set this after)
+          turn-lays priorities ok =
+              layered-turn (gameOf (tablesOf owners priorities offsets targets)) (playerOf alpha) V' T own (fits priorities ok)
+              (omega (arith, given .edges .few-vertices)) (owned owners offsets targets alpha (given .side) priorities ok)
+              entry (far - 1) now state (c .stands) (c .run priorities ok .1) (layer-done z) (stateAt n m set this after)
+              refl refl refl (layer-done z)
 
     -- no member is left
-    module _ (done : tail ≤ head) where
-      below-only : (v : ℕ) → now .members v ≡ true → v < n
-      below-only v p = given .nested .below v (c .stands .grown .marks v .member-inside p)
+    module _ (done : (u : ℕ) → now u ≡ false) (next-done : (u : ℕ) → state .next u ≡ false) where
+      below-only : (v : ℕ) → state .members v ≡ true → v < n
+      below-only v p = given .nested .below v (c .stands .marks v .member-inside p)
 
-      fits-set : set + words n ≤ length after
-      fits-set = omega (arith, c .kept .long, given .placed .set-high)
-
-      -- **what is left is the attractor**
+      -- **what is left is the attractor, with its distances and entries**
       pub running-all :
           (priorities : List ℕ) →
           Accepted (tablesOf owners priorities offsets targets) →
@@ -372,29 +522,33 @@ module _ (owners offsets targets : List ℕ) (alpha within set : ℕ) (before : 
       unfolding gameOf
       running-all priorities ok =
           record {
-            long = c .kept .long;
+            long = c .long;
             holds =
                 record {
-                  long = part-length set (words n) after fits-set;
-                  bits = λ v l. ended-members g a V' T own entry is starts fits head looks now (c .stands) (c .run priorities ok) done v;
+                  long = part-length set (words n) after (omega (arith, c .long, given .placed .set-high));
+                  bits = λ v l. members-are v;
                   clear =
                       λ v l.
                       other-bit (wordsAt n set after) v
-                      (not-true-is-false (now .members v) (λ p. let less = below-only v p in omega arith));
+                      (not-true-is-false (state .members v) (λ p. let less = below-only v p in omega arith));
                 };
-            met = ended-looks g a V' T own entry is starts fits head looks now (c .stands) (c .run priorities ok) done;
-            certificate = ended-certificate g a V' T own entry is starts fits head looks now (c .stands) (c .run priorities ok) done;
+            met = steps-looks g a V' T starts (fits priorities ok) (c .run priorities ok .0) finished;
+            distances =
+                λ v p t.
+                let i = members-are v ∙ p in
+                sym (cells-at n (distances n m) after v (below-only v i)) ∙ lay .near v i .2 t;
             entered =
-                λ v p t o.
-                sym (cells-at n (entries n m) after v (in-range v p)) ∙
-                sym (ended-pull g a V' T own entry is starts fits head looks now (c .stands) (c .run priorities ok) done v);
+                λ v p.
+                let i = members-are v ∙ p .0 in
+                sym (cells-at n (entries n m) after v (below-only v i)) ∙ lay .entered v i (p .1) (is v ∙ true-same (g .owner v)
+                a (p .2));
             kept =
                 λ v l h.
                 sym (cells-at n (entries n m) after v l) ∙
-                ended-kept g a V' T own entry is starts fits head looks now (c .stands) (c .run priorities ok) done v h ∙
+                lay .kept v (λ i t o. h (sym (members-are v) ∙ i, t, same-true (g .owner v) a (sym (is v) ∙ o))) ∙
                 cells-at n (entries n m) before v l;
-            table = λ i l. c .kept .rest i (inl l);
-            rest = λ i l o. c .kept .rest i (inr (l, o));
+            table = c .table;
+            rest = c .rest;
           }
         where
           g : Game
@@ -404,13 +558,65 @@ module _ (owners offsets targets : List ℕ) (alpha within set : ℕ) (before : 
           a = playerOf alpha
 
           is : (v : ℕ) → own v ≡ same (g .owner v) a
-          is = owned priorities ok
+          is = owned owners offsets targets alpha (given .side) priorities ok
 
           starts : (v w : ℕ) → Edge g v w → v < g .size
           starts = accepted-total (tablesOf owners priorities offsets targets) ok .starts
 
-          fits : Fits g V' T
-          fits = record { part = given .nested .part; below = given .nested .below }
+          lay : Layered g a V' T own entry (far - 1) now state
+          lay = c .run priorities ok .1
 
-          in-range : (v : ℕ) → attractor g a V' T v ≡ true → v < n
-          in-range v p = given .nested .below v (attractor-inside g a V' T fits v p)
+          finished : Finished (growing taken looks state)
+          finished v p = and-intro p (neither (now v) (state .next v) (done v) (next-done v))
+
+          members-are : (v : ℕ) → state .members v ≡ attractor g a V' T v
+          members-are = steps-members g a V' T starts (fits priorities ok) (c .run priorities ok .0) finished
+
+-- two work areas in which V, the target, the entries and all that stays are the same
+pub record Same (n m within set : ℕ) (x y : List ℕ) : Type 0 where
+  pub long : length y ≡ length x
+  pub inside : setAt n within y ≡ setAt n within x
+  pub target : setAt n set y ≡ setAt n set x
+  pub entry : (v : ℕ) → v < n → getD y (entries n m + v) 0 ≡ getD x (entries n m + v) 0
+  pub table : (i : ℕ) → i < counters n m → getD y i 0 ≡ getD x i 0
+  pub rest : (i : ℕ) → free n m ≤ i → getD y i 0 ≡ getD x i 0
+
+-- what an attractor leaves of the one it leaves of the other
+pub attracted-moved :
+    {t : Tables} {a : Player} {within set : ℕ} {x y after : List ℕ} {looks : ℕ} →
+    Same (vertices t) (edgesIn t) within set x y →
+    Attracted t a within set y after looks →
+    Attracted t a within set x after looks
+attracted-moved {t} {a} {within} {set} {x} {y} {after} {looks} same c =
+    record {
+      long = c .long ∙ same .long;
+      holds = subst₂ (λ (V' T : Set). Holds (vertices t) (attractor (gameOf t) a V' T) (wordsAt (vertices t) set after))
+          (same .inside) (same .target) (c .holds);
+      met = subst₂ (λ (V' T : Set). looks ≡ looksOf (gameOf t) (attractor (gameOf t) a V' T)) (same .inside) (same .target)
+          (c .met);
+      distances =
+          subst₂
+          (λ (V' T : Set).
+          (v : ℕ) →
+          attractor (gameOf t) a V' T v ≡ true →
+          T v ≡ false →
+          distanceAt (vertices t) (edgesIn t) after v ≡ distance (gameOf t) a V' T v)
+          (same .inside) (same .target) (c .distances);
+      entered =
+          subst₂
+          (λ (V' T : Set).
+          (v : ℕ) →
+          (attractor (gameOf t) a V' T v ≡ true) × (T v ≡ false) × (gameOf t .owner v ≡ a) →
+          entryAt (vertices t) (edgesIn t) after v ≡ attractorEntry (gameOf t) a V' T v)
+          (same .inside) (same .target) (c .entered);
+      kept =
+          λ v l h.
+          subst₂
+          (λ (V' T : Set).
+          ((attractor (gameOf t) a V' T v ≡ true) × (T v ≡ false) × (gameOf t .owner v ≡ a) → ⊥) →
+          entryAt (vertices t) (edgesIn t) after v ≡ entryAt (vertices t) (edgesIn t) y v)
+          (same .inside) (same .target) (c .kept v l) h ∙
+          same .entry v l;
+      table = λ i l. c .table i l ∙ same .table i l;
+      rest = λ i l o. c .rest i l o ∙ same .rest i l;
+    }

@@ -1,19 +1,33 @@
--- From what `attract` asks for to the state in which its loop begins.
+-- From what `attract` asks for to what holds where its loop begins: nothing is taken and no entry was met.
+use mathlib.Core.Bool.{Bool, true, false, _&&_, _||_, not}
 use mathlib.Core.List.{List}
-use mathlib.Core.Logic.{inr}
-use mathlib.Core.Path.{_≡_, refl, subst}
-use Prim.Native.Nat.{ℕ, _+_}
+use mathlib.Core.Logic.{_⊎_, inl, inr, ⊎-elim}
+use mathlib.Core.Path.{_≡_, refl, sym, ap, ap₂, subst, fun-ext, _∙_}
+use Prim.Native.Nat.{ℕ, _+_, _-_, _*_, _≤_, _<_, zero-le}
 use native.Mathlib.Omega.{arith}
-use lib.ListN.{length}
-use Rattle.rules.specs.Tables.{words}
-use Rattle.area.specs.Area.{queue, wordsAt}
-use Rattle.attractor.specs.Attracted.{Attractable}
-use Rattle.attractor.specs.View.{Kept}
-use Rattle.area.specs.Lent.{words-few, words-alike}
-use Rattle.attractor.specs.Counters.{Countable, Counted}
-use Rattle.attractor.specs.Filled.{Fillable, Filled}
-use Rattle.attractor.specs.Begun.{members-few, begun-kept, begun-members, begun-inside, begun-entry, begun-stands}
-use Rattle.attractor.specs.Running.{Running, running-first, Same, running-moved, attractable-moved}
+use lib.ListN.{length, getD, take, drop}
+use Rattle.rules.specs.Counting.{Set}
+use Rattle.rules.specs.Game.{playerOf}
+use Rattle.rules.specs.Tables.{gameOf, words, targetsOf, Accepted, tablesOf}
+use Rattle.rules.specs.Attractor.{atFirst, Takes, stop}
+use Rattle.rules.specs.Words.{setOf}
+use Rattle.theory.specs.Basics.{bool-cases, clash}
+use Rattle.theory.specs.AttractorBasics.{countOf}
+use Rattle.area.specs.Area.{counters, distances, entries, layers, layerWords, free, setAt}
+use Rattle.area.specs.Lent.{set-alike, words-few}
+use Rattle.area.specs.Walked.{Beside}
+use Rattle.layer.specs.Layer.{Layer, inLayer}
+use Rattle.attractor_counters.specs.Counters.{Countable, Counted, ownBy}
+use Rattle.attractor_counters.specs.Tally.{tally-nobody}
+use Rattle.attractor_step.specs.State.{State}
+use Rattle.attractor_step.specs.Growth.{Mark}
+use Rattle.attractor_step.specs.Taking.{Standing, growing}
+use Rattle.attractor_step.specs.Layers.{takenOf, Layered, layered-first}
+use Rattle.attractor_step.specs.View.{cells, layerAt, stateAt}
+use Rattle.attractor_step.specs.Views.{cells-at}
+use Rattle.attractor.specs.Attracted.{Attractable, listed-kept}
+use Rattle.attractor.specs.Begun.{Beginnable, Begun, layerOf}
+use Rattle.attractor.specs.Running.{Running, nowAt, takenAt, fits, Same}
 
 module _ (owners offsets targets : List ℕ) (alpha within set s : ℕ) (work : List ℕ)
     (given : Attractable owners offsets targets alpha within set work) (size : s ≡ words (length owners))
@@ -23,6 +37,9 @@ module _ (owners offsets targets : List ℕ) (alpha within set s : ℕ) (work : 
 
     abbrev m : ℕ
     m = length targets
+
+    abbrev own : Set
+    own = ownBy owners alpha
 
     pub count-ready : Countable owners offsets targets s within work
     count-ready =
@@ -35,46 +52,188 @@ module _ (owners offsets targets : List ℕ) (alpha within set s : ℕ) (work : 
         }
 
     module _ (between : List ℕ) (counted : Counted owners offsets targets alpha within work between) where
-      pub fill-ready : Fillable (queue n m) set s between
-      fill-ready =
+      pub begin-ready : Beginnable (layers n m) set s between
+      begin-ready =
           record {
             few = rw size (words-few n (given .edges .few-vertices));
+            before-set = omega (arith, size, given .placed .set-low);
             high = omega (arith, size, counted .long, given .placed .set-high);
-            room =
-                rw (size, same-words)
-                (omega (
-                  arith,
-                  given .placed .set-low,
-                  members-few n set work (given .placed .set-high) (λ v p. given .nested .below v (given .nested .part v p)),
-                ));
           }
-        where
-          same-words : wordsAt n set between ≡ wordsAt n set work
-          same-words =
-              words-alike n set work between (counted .long) (λ i l. counted .rest (set + i) (inr (omega (arith, given .placed .set-low))))
 
-      module _ (after : List ℕ) (tail : ℕ) (filled' : Filled (queue n m) set s between after tail) where
-        filled : Filled (queue n m) set (words n) between after tail
-        filled = subst (λ (k : ℕ). Filled (queue n m) set k between after tail) size filled'
+      module _ (after : List ℕ) (begun' : Begun (layers n m) set s between after) where
+        begun : Begun (layers n m) set (words n) between after
+        begun = subst (λ (k : ℕ). Begun (layers n m) set k between after) size begun'
 
-        pub started-kept : Kept n m set work after
-        started-kept = begun-kept owners offsets targets alpha within set work between after tail (given .placed) (given .nested) counted filled
+        abbrev second : ℕ
+        second = layers n m + words n + 1
+
+        abbrev state : State
+        state = stateAt n m set second after
+
+        -- what stands outside the counters and the layers is as it was
+        same : (i : ℕ) → (i < counters n m) ⊎ ((distances n m ≤ i) × Beside (2 * layerWords n) (layers n m) i) →
+            getD after i 0 ≡ getD work i 0
+        same i (inl l) = begun .rest i (inl (omega arith)) ∙ counted .rest i (inl l)
+        same i (inr (l, o)) = begun .rest i o ∙ counted .rest i (inr l)
+
+        all-long : length after ≡ length work
+        all-long = begun .long ∙ counted .long
+
+        abbrev V' : Set
+        V' = setAt n within after
+
+        abbrev T : Set
+        T = setAt n set after
+
+        -- V, the target, the entries and all that is to stay are as they were
+        inside-same : V' ≡ setAt n within work
+        inside-same =
+            set-alike n within work after all-long
+            (λ i l. same (within + i) (inr (
+              omega (arith, given .placed .within-low),
+              inr (omega (
+                arith,
+                given .placed .within-low,
+              )),
+            )))
+
+        target-same : T ≡ setAt n set work
+        target-same =
+            set-alike n set work after all-long
+            (λ i l. same (set + i) (inr (omega (arith, given .placed .set-low), inr (omega (arith, given .placed .set-low)))))
 
         pub started-same : Same n m within set work after
         started-same =
             record {
-              inside = begun-inside owners offsets targets alpha within set work between after tail (given .placed) (given .nested) counted filled;
-              target = begun-members owners offsets targets alpha within set work between after tail (given .placed) (given .nested) counted filled;
-              entry = begun-entry owners offsets targets alpha within set work between after tail (given .placed) (given .nested) counted filled;
+              long = all-long;
+              inside = inside-same;
+              target = target-same;
+              entry = λ v l. same (entries n m + v) (inr (omega arith, inl (omega arith)));
+              table = λ i l. same i (inl l);
+              rest = λ i l. same i (inr (omega arith, inr (omega arith)));
             }
 
-        -- what is asked for holds of the work area where the loop begins
+        -- what is asked for holds where the loop begins
         pub started-given : Attractable owners offsets targets alpha within set after
-        started-given = attractable-moved owners offsets targets alpha within set work after started-same started-kept given
+        started-given =
+            record {
+              placed =
+                  record {
+                    within-low = given .placed .within-low;
+                    within-high = omega (arith, all-long, given .placed .within-high);
+                    set-low = given .placed .set-low;
+                    set-high = omega (arith, all-long, given .placed .set-high);
+                    apart = given .placed .apart;
+                  };
+              nested =
+                  record {
+                    below = λ v p. given .nested .below v (ap (λ (S : Set). S v) (sym inside-same) ∙ p);
+                    part =
+                        λ v p.
+                        ap (λ (S : Set). S v) inside-same ∙ given .nested .part v (ap (λ (S : Set). S v) (sym target-same) ∙ p);
+                  };
+              edges = given .edges;
+              listed = listed-kept n offsets targets work after all-long (λ i l. same i (inl l)) (given .listed);
+              side = given .side;
+            }
 
-        -- and the loop's invariant
-        pub started : Running owners offsets targets alpha within set after 0 after tail 0
+        now-is : nowAt n (layers n m) after ≡ T
+        now-is =
+            begun .is ∙
+            set-alike n set work between (counted .long) (λ i l. counted .rest (set + i) (inr (omega (
+              arith,
+              given .placed .set-low,
+            )))) ∙
+            sym target-same
+
+        none : (u : ℕ) → state .next u ≡ false
+        none u = begun .next-none u
+
+        untaken : takenAt n m set (layers n m) second after ≡ (λ u. false)
+        untaken =
+            fun-ext
+            (λ u.
+            ap (λ (d : Bool). T u && not (d || state .next u)) (ap (λ (S : Set). S u) now-is) ∙
+            neither-way (T u) (state .next u))
+          where
+            neither-way : (b d : Bool) → (b && not (b || d)) ≡ false
+            neither-way true d = refl
+            neither-way false d = refl
+
+        counter-at : (u : ℕ) → V' u ≡ true → own u ≡ false → state .counter u ≡ countOf (targetsOf offsets targets u) V'
+        counter-at u i o =
+            let small = started-given .nested .below u i in
+            cells-at n (counters n m) after u small ∙
+            begun .rest (counters n m + u) (inl (omega arith)) ∙
+            counted .counts u (ap (λ (S : Set). S u) (sym inside-same) ∙ i) o ∙
+            ap (countOf (targetsOf offsets targets u)) (sym inside-same)
+
+        mark-first :
+            (u : ℕ) →
+            Mark (V' u) (T u) (own u) (countOf (targetsOf offsets targets u) V') (state .members u) (state .counter u)
+            (countOf (targetsOf offsets targets u) (λ v. false))
+        mark-first u =
+            let unseen = tally-nobody (targetsOf offsets targets u) in
+            record {
+              member-inside = λ p. started-given .nested .part u p;
+              target-in = λ p. p;
+              own-out = λ i o p. unseen;
+              other-out = λ i o p. let h = counter-at u i p in omega arith;
+              waiting = λ i o p q. absurd (omega arith);
+              in-met = λ p t. absurd (clash p t);
+              other-in = λ p t o. absurd (clash p t);
+            }
+
+        first-stands : Standing n (targetsOf offsets targets) V' T own (λ u. false) state
+        first-stands = record { marks = mark-first; early = λ u p. absurd (clash p refl) }
+
+        begins : Running owners offsets targets alpha within set after (layers n m) second 1 0 after
+        unfolding atFirst gameOf
+        begins =
+            record {
+              going =
+                  record {
+                    long = refl;
+                    table = λ i l. refl;
+                    rest = λ i l o. refl;
+                    sides = inl (refl, second-is);
+                    layer = begun .layer;
+                    next-layer = begun .next-layer;
+                    parts =
+                        record {
+                          inside = λ u p. ap (λ (S : Set). S u) (sym now-is) ∙ p;
+                          found = λ u p. absurd (clash p (none u));
+                          apart = λ u p. none u;
+                        };
+                    stands =
+                        subst (λ (S : Set). Standing n (targetsOf offsets targets) V' T own S state) (sym untaken) first-stands;
+                    few = zero-le;
+                    far-some = omega arith;
+                    run =
+                        λ priorities ok.
+                        let g = gameOf (tablesOf owners priorities offsets targets) in
+                        let a = playerOf alpha in (
+                          subst
+                              (λ (X : Set). Takes g a V' (atFirst T) (growing X 0 state))
+                              (sym untaken)
+                              stop,
+                          subst
+                              (λ (N : Set). Layered g a V' T own (cells n (entries n m) after) 0 N state)
+                              (sym now-is)
+                              (layered-first g a V' T own
+                              (fits owners offsets targets alpha within set after started-given priorities ok)
+                              (cells n (entries n m) after) state refl none refl),
+                        );
+                  };
+              deep = omega arith;
+              last = λ e u. none u;
+            }
+          where
+            second-is : second ≡ layers n m + layerWords n
+            second-is = omega arith
+
+        -- **the loop begins**
+        pub started : Running owners offsets targets alpha within set after (layers n m) (layers n m + s + 1) 1 0 after
         started =
-            running-moved owners offsets targets alpha within set work after 0 after tail 0 started-same (record { long = refl; rest = λ i o. refl })
-            (running-first owners offsets targets alpha within set work given after tail started-kept (started-same .target)
-            (begun-stands owners offsets targets alpha within set work between after tail (given .placed) (given .nested) counted filled))
+            subst (λ (k : ℕ). Running owners offsets targets alpha within set after (layers n m) (layers n m + k + 1) 1 0 after)
+            (sym size) begins

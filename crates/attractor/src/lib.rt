@@ -1,9 +1,7 @@
 // The attractor of document 01, by steps, over one lent work area. It serves every solver. The work area begins with
-// the predecessor table (n + 1 + m words), then a counter, a place in the queue and an entry for each vertex; sets
-// stand at bases that the caller gives.
-mod counters;
-mod queue;
-mod step;
+// the predecessor table (n + 1 + m words), then a counter, a distance and an entry for each vertex, and two layers;
+// sets stand at bases that the caller gives.
+mod begin;
 mod whole;
 
 pub use whole::attract;

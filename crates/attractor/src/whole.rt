@@ -1,12 +1,13 @@
 // The whole attractor: the set at `set` grows from the target to the attractor in the set at `within`. Gives the
 // looks.
-use crate::counters::initialize_attractor_counters;
-use crate::queue::fill_queue;
-use crate::step::take;
+use crate::begin::begin_layers;
+use attractor_counters::counters::initialize_attractor_counters;
+use attractor_step::step::take;
+use layer::marked::pop;
 ghost use mathlib.Core.List.{List};
 ghost use Prim.Native.Nat.{ℕ};
 ghost use Rattle.rules.specs.Game.{playerOf};
-ghost use Rattle.rules.specs.Tables.{Accepted};
+ghost use Rattle.rules.specs.Tables.{Accepted, tablesOf};
 ghost use Rattle.attractor.specs.Attracted.{Attractable, Attracted};
 
 pub fn attract(
@@ -21,34 +22,30 @@ pub fn attract(
     requires { ⌜ Attractable (now owners) (now offsets) (now targets) alpha within set (now work) ⌝ }
     ensures { λ r.
         ⌜ ((priorities : List ℕ) →
-        Accepted (record {
-          owners = now (owners .entry);
-          priorities = priorities;
-          offsets = now (offsets .entry);
-          targets = now (targets .entry);
-        }) →
-        Attracted
-        (record {
-          owners = now (owners .entry);
-          priorities = priorities;
-          offsets = now (offsets .entry);
-          targets = now (targets .entry);
-        })
+        Accepted (tablesOf (now (owners .entry)) priorities (now (offsets .entry)) (now (targets .entry))) →
+        Attracted (tablesOf (now (owners .entry)) priorities (now (offsets .entry)) (now (targets .entry)))
         (playerOf alpha) within set (now (work .entry)) (now (work .exit)) r) ⌝ }
 {
     let n = owners.len();
     let m = targets.len();
     let s = parity_game::set_words(n);
-    let queue = n + 1 + m + n;
+    let first = n + 1 + m + n + n + n;
     initialize_attractor_counters(owners, offsets, targets, s, alpha, work, within);
-    let mut tail = fill_queue(work, queue, set, s);
-    let mut head = 0;
+    begin_layers(work, first, set, s);
+    let mut this = first;
+    let mut next = first + s + 1;
+    let mut far: u64 = 1;
     let mut looks: u64 = 0;
-    while head < tail {
-        let w = work[queue + head] as usize;
+    while work[this + s] != 0 {
+        let w = pop(&mut work[this..this + s + 1]);
         looks += work[w + 1] - work[w];
-        tail = take(owners, m, s, alpha, work, within, set, w, tail);
-        head += 1;
+        take(owners, m, s, alpha, work, within, set, next, w, far);
+        if work[this + s] == 0 {
+            let done = this;
+            this = next;
+            next = done;
+            far += 1;
+        }
     }
     looks
 }

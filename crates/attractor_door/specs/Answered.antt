@@ -1,21 +1,22 @@
 -- From the verdict of the checks to what the public attractor promises: a refusal leaves everything, and past the checks all that the
 -- work asks for is there.
-use mathlib.Core.List.{List, [], _∷_, _++_}
+use mathlib.Core.List.{List, [], _∷_}
 use mathlib.Core.Path.{_≡_, refl, sym, ap, subst, _∙_}
 use Prim.Native.Nat.{ℕ, _+_, _-_, _*_, _≤_}
 use native.Mathlib.Nat.{mul-le-mul-right}
 use native.Mathlib.Omega.{arith}
-use lib.ListN.{length, take, drop, replicate, length-take}
+use lib.ListN.{length, take, drop, length-take}
 use Rattle.rules.specs.Game.{Player}
 use Rattle.rules.specs.Outcome.{Outcome, Verdict, none, refused, outcome, answered, _then_}
 use Rattle.rules.specs.Tables.{Tables, gameOf, vertices, edgesIn, words, workWords, tableChecks, Accepted, check9, check10}
 use Rattle.rules.specs.Attractor.{check12, looksOf}
 use Rattle.parity_game.specs.Laws.{then-none, then-assoc, Numbered, numbered-then, numbered-givenAt, numbered-tables, numbered-check9, numbered-check10}
-use Rattle.parity_game.specs.Laws.{check9-set, check9-set-none, check9-table-none, check10-none}
+use Rattle.parity_game.specs.Laws.{check9-set, check9-set-none, check9-table, check9-table-none, check10-none}
 use Rattle.area.specs.Area.{free}
 use Rattle.rules.specs.Solver.{cleared}
 use Rattle.rules.specs.Attracts.{Lent, attractorChecks, wanted, Leaves, Attracts}
-use Rattle.attractor_door.specs.Door.{sizeChecks, checksBy, Runnable, Ran}
+use Rattle.attractor_run.specs.Work.{Runnable, Ran}
+use Rattle.attractor_door.specs.Door.{sizeChecks, checksBy}
 use Rattle.attractor_door.specs.DoorLaws.{within-below, target-part}
 
 pub numbered-checks : (t : Tables) (V' T : List ℕ) (l : Lent) → Numbered (attractorChecks t V' T l)
@@ -52,7 +53,7 @@ attracts-refused t a V' T l o e h =
 pub attracts-answered :
     (t : Tables) (a : Player) (V' T : List ℕ) (before after : Lent) (looks : ℕ) →
     attractorChecks t V' T before ≡ none →
-    Ran t a V' T (after .result) (after .strategy) looks →
+    Ran t a V' T (after .result) (after .strategy) (after .distances) looks →
     after .work ≡ cleared t (before .work) →
     Attracts t a V' T before after (answered looks)
 attracts-answered t a V' T before after looks passed ran work =
@@ -64,7 +65,7 @@ attracts-answered t a V' T before after looks passed ran work =
           subst
           (λ (v : Verdict). Leaves v t a V' T before after)
           (sym passed)
-          (record { set = ran .set; long = ran .long; entries = ran .entries; work = work });
+          (record { set = ran .set; strategy = ran .entries; distances = ran .far; work = work });
     }
 
 -- ---- past the checks
@@ -73,64 +74,77 @@ attracts-answered t a V' T before after looks passed ran work =
 abbrev oneSet : ℕ → ℕ → Verdict
 oneSet n k = check9 n (k ∷ []) []
 
+-- check 9 of one table
+abbrev oneTable : ℕ → ℕ → Verdict
+oneTable n k = check9 n [] (k ∷ [])
+
 -- what the sizes say
-pub record Sizes (n m within target result strategy work : ℕ) : Type 0 where
+pub record Sizes (n m within target result strategy distances work : ℕ) : Type 0 where
   pub within-size : within ≡ words n
   pub target-size : target ≡ words n
   pub result-size : result ≡ words n
   pub strategy-size : strategy ≡ n
+  pub distances-size : distances ≡ n
   pub work-size : workWords n m ≤ work
 
 pub sizes-right :
-    (n m within target result strategy work : ℕ) → sizeChecks n m within target result strategy work ≡ none → Sizes n m within target result strategy work
-sizes-right n m within target result strategy work e =
-    let both = then-none (check9 n (within ∷ target ∷ result ∷ []) (strategy ∷ [])) (check10 n m work) e in
-    let first = then-none (oneSet n within) _ (sym (check9-set n within (target ∷ result ∷ []) (strategy ∷ [])) ∙ both .0) in
-    let second = then-none (oneSet n target) _ (sym (check9-set n target (result ∷ []) (strategy ∷ [])) ∙ first .1) in
-    let third = then-none (oneSet n result) _ (sym (check9-set n result [] (strategy ∷ [])) ∙ second .1) in
+    (n m within target result strategy distances work : ℕ) →
+    sizeChecks n m within target result strategy distances work ≡ none →
+    Sizes n m within target result strategy distances work
+sizes-right n m within target result strategy distances work e =
+    let tables : List ℕ = strategy ∷ distances ∷ [] in
+    let both = then-none (check9 n (within ∷ target ∷ result ∷ []) tables) (check10 n m work) e in
+    let first = then-none (oneSet n within) _ (sym (check9-set n within (target ∷ result ∷ []) tables) ∙ both .0) in
+    let second = then-none (oneSet n target) _ (sym (check9-set n target (result ∷ []) tables) ∙ first .1) in
+    let third = then-none (oneSet n result) _ (sym (check9-set n result [] tables) ∙ second .1) in
+    let fourth = then-none (oneTable n strategy) (oneTable n distances) (sym (check9-table n strategy (distances ∷ [])) ∙ third .1) in
     record {
       within-size = check9-set-none n within (first .0);
       target-size = check9-set-none n target (second .0);
       result-size = check9-set-none n result (third .0);
-      strategy-size = check9-table-none n strategy (third .1);
+      strategy-size = check9-table-none n strategy (fourth .0);
+      distances-size = check9-table-none n distances (fourth .1);
       work-size = check10-none n m work (both .1);
     }
 
 -- all that the checks say
-pub record Passed (t : Tables) (V' T : List ℕ) (result strategy work : ℕ) : Type 0 where
+pub record Passed (t : Tables) (V' T : List ℕ) (result strategy distances work : ℕ) : Type 0 where
   pub accepted : Accepted t
-  pub sizes : Sizes (vertices t) (edgesIn t) (length V') (length T) result strategy work
+  pub sizes : Sizes (vertices t) (edgesIn t) (length V') (length T) result strategy distances work
   pub bits : check12 (vertices t) V' T ≡ none
 
-pub checks-passed : (t : Tables) (V' T : List ℕ) (result strategy work : ℕ) → checksBy t V' T result strategy work ≡ none → Passed t V' T result strategy work
+pub checks-passed :
+    (t : Tables) (V' T : List ℕ) (result strategy distances work : ℕ) →
+    checksBy t V' T result strategy distances work ≡ none →
+    Passed t V' T result strategy distances work
 unfolding Accepted
-checks-passed t V' T result strategy work e =
+checks-passed t V' T result strategy distances work e =
     let n = vertices t in
-    let nine = check9 n (length V' ∷ length T ∷ result ∷ []) (strategy ∷ []) in
+    let nine = check9 n (length V' ∷ length T ∷ result ∷ []) (strategy ∷ distances ∷ []) in
     let ten = check10 n (edgesIn t) work in
     let twelve = check12 n V' T in
     let first = then-none (tableChecks t) (nine then (ten then twelve)) e in
     let second = then-none (nine then ten) twelve (then-assoc nine ten twelve ∙ first .1) in
     record {
       accepted = first .0;
-      sizes = sizes-right n (edgesIn t) (length V') (length T) result strategy work (second .0);
+      sizes = sizes-right n (edgesIn t) (length V') (length T) result strategy distances work (second .0);
       bits = second .1;
     }
 
--- W words have room for the predecessor table, the counters, the queue, the entries and two sets
+-- W words have room for the predecessor table, the counters, the distances, the entries, the layers and two sets
 work-room : (n m : ℕ) → free n m + words n + words n ≤ workWords n m
 unfolding workWords
 work-room n m =
-    let sets : 2 * words n ≤ 8 * (n + 2) * words n = mul-le-mul-right (words n) (omega arith) in
+    let sets : 4 * words n ≤ 8 * (n + 2) * words n = mul-le-mul-right (words n) (omega arith) in
     omega arith
 
 pub run-ready :
-    (t : Tables) (alpha w : ℕ) (V' T result strategy work : List ℕ) →
+    (t : Tables) (alpha w : ℕ) (V' T result strategy distances work : List ℕ) →
     alpha ≤ 1 →
     w ≡ workWords (vertices t) (edgesIn t) →
-    Passed t V' T (length result) (length strategy) (length work) →
-    Runnable (t .owners) (t .offsets) (t .targets) alpha V' T result strategy (take (w - 0) (drop 0 work))
-run-ready t alpha w V' T result strategy work side is p =
+    Passed t V' T (length result) (length strategy) (length distances) (length work) →
+    Runnable (t .owners) (t .offsets) (t .targets) alpha V' T result strategy distances (take (w - 0) (drop 0 work))
+run-ready t alpha w V' T result strategy distances work side is p =
     record {
       priorities = t .priorities;
       accepted = p .accepted;
@@ -139,6 +153,7 @@ run-ready t alpha w V' T result strategy work side is p =
       target-size = p .sizes .target-size;
       result-size = p .sizes .result-size;
       strategy-size = p .sizes .strategy-size;
+      distances-size = p .sizes .distances-size;
       room = omega (arith, length-take (w - 0) work, p .sizes .work-size, work-room (vertices t) (edgesIn t));
       below = within-below (vertices t) V' T (p .sizes .within-size) (p .sizes .target-size) (p .bits);
       part = target-part (vertices t) V' T (p .sizes .within-size) (p .sizes .target-size) (p .bits);

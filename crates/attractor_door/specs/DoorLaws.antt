@@ -1,24 +1,21 @@
--- Laws for the parts of the public attractor: the test of check 12 and the entry of a vertex by their cases, and what accepted sets say.
+-- Laws for the checks of the public attractor: the test of check 12 and the sizes by their cases, and what accepted sets say.
 use mathlib.Core.Bool.{Bool, true, false, _&&_, not}
 use mathlib.Core.List.{List}
-use mathlib.Core.Logic.{_⊎_, ⊎-elim}
-use mathlib.Core.Path.{_≡_, refl, sym, ap, _∙_}
-use Prim.Native.Nat.{ℕ, _+_, _*_, _≤_, _<_}
-use native.Mathlib.Decide.{ℕ-discrete}
+use mathlib.Core.Logic.{⊎-elim}
+use mathlib.Core.Path.{_≡_, refl, sym, _∙_}
+use Prim.Native.Nat.{ℕ, _*_, _≤_, _<_}
 use native.Mathlib.Omega.{arith}
 use borrow.Author.Tests.{lt-ltb, le-ltb, eq-eqb, ne-eqb}
-use lib.ListN.{length, getD, set}
-use lib.Seq.{getD-set-same, getD-set-other}
+use lib.ListN.{length}
 use Rattle.rules.specs.Counting.{everyOf}
 use Rattle.rules.specs.Outcome.{Verdict, none, refused}
 use Rattle.rules.specs.Tables.{words, workWords, check9, check10}
-use Rattle.rules.specs.Words.{setOf, noEntry}
+use Rattle.rules.specs.Words.{setOf}
 use Rattle.rules.specs.Attractor.{check12}
 use Rattle.theory.specs.Basics.{clash, lt-or-ge, not-false-is-true}
 use Rattle.parity_game.specs.Laws.{givenAt-none}
 use Rattle.sets.specs.Laws.{member-inside}
-use Rattle.attractor_door.specs.Door.{stray, sizeChecks, drawnIn, chosen}
-use Rattle.attractor.specs.View.{ownBy}
+use Rattle.attractor_door.specs.Door.{stray, sizeChecks}
 
 -- ---- check 12
 
@@ -44,9 +41,9 @@ module _ (n : ℕ) (V' T : List ℕ) (b : ℕ) where
   stray-above-asked l o = rw (le-ltb b n l, o)
 
 -- the sizes by cases: each that is wrong refuses, and where all are right the work area's length decides
-module _ (n m within target result strategy work : ℕ) where
+module _ (n m within target result strategy distances work : ℕ) where
   abbrev sizes : Verdict
-  sizes = sizeChecks n m within target result strategy work
+  sizes = sizeChecks n m within target result strategy distances work
 
   pub size-within : (within ≡ words n → ⊥) → refused 9 0 ≡ sizes
   unfolding check9 everyOf
@@ -60,32 +57,49 @@ module _ (n m within target result strategy work : ℕ) where
   unfolding check9 everyOf
   size-result a b d = rw (eq-eqb within (words n) a, eq-eqb target (words n) b, ne-eqb result (words n) d)
 
-  pub size-strategy : within ≡ words n → target ≡ words n → result ≡ words n → (strategy ≡ n → ⊥) → refused 9 0 ≡ sizes
-  unfolding check9 everyOf
-  size-strategy a b c d =
-      rw (eq-eqb within (words n) a, eq-eqb target (words n) b, eq-eqb result (words n) c, ne-eqb strategy n d)
+  -- past the sizes of the sets
+  module _ (a : within ≡ words n) (b : target ≡ words n) (c : result ≡ words n) where
+    pub size-strategy : (strategy ≡ n → ⊥) → refused 9 0 ≡ sizes
+    unfolding check9 everyOf
+    size-strategy d =
+        rw (eq-eqb within (words n) a, eq-eqb target (words n) b, eq-eqb result (words n) c, ne-eqb strategy n d)
 
-  -- past the sizes of the sets and the strategy
-  nine-passed : within ≡ words n → target ≡ words n → result ≡ words n → strategy ≡ n → check10 n m work ≡ sizes
-  unfolding check9 everyOf
-  nine-passed a b c d =
-      rw (eq-eqb within (words n) a, eq-eqb target (words n) b, eq-eqb result (words n) c, eq-eqb strategy n d)
+    pub size-distances : strategy ≡ n → (distances ≡ n → ⊥) → refused 9 0 ≡ sizes
+    unfolding check9 everyOf
+    size-distances d e =
+        rw (
+          eq-eqb within (words n) a,
+          eq-eqb target (words n) b,
+          eq-eqb result (words n) c,
+          eq-eqb strategy n d,
+          ne-eqb distances n e,
+        )
 
-  ten-refuses : work < workWords n m → check10 n m work ≡ refused 10 0
-  unfolding check10
-  ten-refuses l = rw (lt-ltb work (workWords n m) l)
+    -- and of the tables
+    nine-passed : strategy ≡ n → distances ≡ n → check10 n m work ≡ sizes
+    unfolding check9 everyOf
+    nine-passed d e =
+        rw (
+          eq-eqb within (words n) a,
+          eq-eqb target (words n) b,
+          eq-eqb result (words n) c,
+          eq-eqb strategy n d,
+          eq-eqb distances n e,
+        )
 
-  ten-passes : workWords n m ≤ work → check10 n m work ≡ none
-  unfolding check10
-  ten-passes l = rw (le-ltb work (workWords n m) l)
+    ten-refuses : work < workWords n m → check10 n m work ≡ refused 10 0
+    unfolding check10
+    ten-refuses l = rw (lt-ltb work (workWords n m) l)
 
-  pub size-work :
-      within ≡ words n → target ≡ words n → result ≡ words n → strategy ≡ n → work < workWords n m → refused 10 0 ≡ sizes
-  size-work a b c d l = sym (ten-refuses l) ∙ nine-passed a b c d
+    ten-passes : workWords n m ≤ work → check10 n m work ≡ none
+    unfolding check10
+    ten-passes l = rw (le-ltb work (workWords n m) l)
 
-  pub size-right :
-      within ≡ words n → target ≡ words n → result ≡ words n → strategy ≡ n → workWords n m ≤ work → none ≡ sizes
-  size-right a b c d l = sym (ten-passes l) ∙ nine-passed a b c d
+    pub size-work : strategy ≡ n → distances ≡ n → work < workWords n m → refused 10 0 ≡ sizes
+    size-work d e l = sym (ten-refuses l) ∙ nine-passed d e
+
+    pub size-right : strategy ≡ n → distances ≡ n → workWords n m ≤ work → none ≡ sizes
+    size-right d e l = sym (ten-passes l) ∙ nine-passed d e
 
 -- sets that check 12 lets pass: V has no bit at n or above, and holds the target
 module _ (n : ℕ) (V' T : List ℕ) (first : length V' ≡ words n) (second : length T ≡ words n) (passed : check12 n V' T ≡ none) where
@@ -111,24 +125,3 @@ module _ (n : ℕ) (V' T : List ℕ) (first : length V' ≡ words n) (second : l
       (λ l. clash (sym (stray-asked n V' T v l o) ∙ p) (fails v (omega arith)))
       (λ l. clash (sym (stray-above-asked n V' T v l o) ∙ p) (fails v (omega arith)))
       (lt-or-ge v n))
-
--- ---- the entry of a vertex
-
-module _ (owners : List ℕ) (alpha : ℕ) (target result entries : List ℕ) (v : ℕ) where
-  pub chosen-out : setOf result v ≡ false → noEntry ≡ chosen owners alpha target result entries v
-  chosen-out p = rw p
-
-  pub chosen-target : setOf result v ≡ true → setOf target v ≡ true → noEntry ≡ chosen owners alpha target result entries v
-  chosen-target p t = rw (p, t)
-
-  pub chosen-other :
-      setOf result v ≡ true → setOf target v ≡ false → ownBy owners alpha v ≡ false → noEntry ≡ chosen owners alpha target result entries v
-  chosen-other p t o = rw (p, t, o)
-
-  pub drawn-so : setOf result v ≡ true → setOf target v ≡ false → ownBy owners alpha v ≡ true → drawnIn owners alpha target result v ≡ true
-  drawn-so p t o = rw (p, t, o)
-
-  pub chosen-own :
-      setOf result v ≡ true → setOf target v ≡ false → ownBy owners alpha v ≡ true →
-      getD entries v 0 ≡ chosen owners alpha target result entries v
-  chosen-own p t o = rw (p, t, o)

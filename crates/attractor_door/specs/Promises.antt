@@ -1,26 +1,50 @@
--- What a reader may conclude of the public attractor from its contract alone: past the checks its result is the attractor, the smallest set,
--- with the rule's looks and entries; and any two results are the same but for the entries that the rule leaves free.
+-- What a reader may conclude of the public attractor from its contract alone: past the checks its result is the attractor, the
+-- smallest set, with the rule's looks, distances and entries; and any two results are the same.
 use mathlib.Core.Bool.{true, false}
 use mathlib.Core.List.{List}
 use mathlib.Core.Logic.{⊎-elim}
-use mathlib.Core.Path.{_≡_, refl, sym, ap, subst, fun-ext, _∙_}
-use Prim.Native.Nat.{ℕ}
+use mathlib.Core.Path.{_≡_, sym, ap, subst, subst₂, fun-ext, _∙_}
+use Prim.Native.Nat.{ℕ, _≤_, _<_}
 use native.Mathlib.Omega.{arith}
 use lib.Dec.{eqb}
+use lib.ListN.{getD, List·getD-eq-default}
 use Rattle.rules.specs.Attracts.{Lent, attractorChecks, wanted, Answers, Leaves, Attracts}
 use Rattle.rules.specs.Attractor.{IsAttractor, AttractorEntries, looksOf}
-use Rattle.rules.specs.Counting.{Set}
-use Rattle.rules.specs.Game.{Player}
+use Rattle.rules.specs.Counting.{Set, listed}
+use Rattle.rules.specs.Distance.{outside, distance, IsDistance}
+use Rattle.rules.specs.Game.{Player, Game}
 use Rattle.rules.specs.Outcome.{Outcome, Verdict, none, refused, outcome, answered}
 use Rattle.rules.specs.Tables.{Tables, gameOf, vertices}
 use Rattle.rules.specs.Words.{setOf}
-use Rattle.parity_game.specs.Laws.{zero-none}
+use Rattle.theory.specs.Attractor.{Fits, attractor-below, attractor-is}
+use Rattle.theory.specs.Basics.{lt-or-ge, not-true-is-false, getD-listed, length-listed}
+use Rattle.theory.specs.Distance.{distance-is}
+use Rattle.theory.specs.DistanceEntries.{entries-arrive}
+use Rattle.theory.specs.PromotionBasics.{noted-above}
+use Rattle.parity_game.specs.Laws.{zero-none, accepted-sound}
 use Rattle.sets.specs.Same.{Narrow, holds-same}
-use Rattle.theory.specs.Attractor.{attractor-below, attractor-is}
-use Rattle.theory.specs.Basics.{lt-or-ge, not-true-is-false}
-use Rattle.area.specs.Alike.{Alike, alike-same, alike-none, alike-equal}
 use Rattle.attractor_door.specs.Answered.{numbered-checks, checks-passed}
 use Rattle.attractor_door.specs.DoorLaws.{within-below, target-part}
+
+-- no vertex at n or above has another distance than 65,535
+distance-above : (g : Game) (a : Player) (V' T : Set) (v : ℕ) → g .size ≤ v → distance g a V' T v ≡ outside
+unfolding distance
+distance-above g a V' T v l = noted-above outside (g .size) _ v l
+
+-- the table of distances, read with 65,535 past its end, is the distance
+distance-listed :
+    (g : Game) (a : Player) (V' T : Set) (v : ℕ) →
+    getD (listed (g .size) (distance g a V' T)) v outside ≡ distance g a V' T v
+distance-listed g a V' T v =
+    ⊎-elim
+    (λ (l : v < g .size). getD-listed (g .size) (distance g a V' T) v outside l)
+    (λ (l : g .size ≤ v). past l)
+    (lt-or-ge v (g .size))
+  where
+    past : g .size ≤ v → getD (listed (g .size) (distance g a V' T)) v outside ≡ distance g a V' T v
+    past l =
+        List·getD-eq-default (listed (g .size) (distance g a V' T)) outside (rw (length-listed (g .size) (distance g a V' T)) l) ∙
+        sym (distance-above g a V' T v l)
 
 -- the rule's set is the set of the result
 answers-set :
@@ -53,104 +77,93 @@ module _ {t : Tables} {a : Player} {V' T : List ℕ} {before after : Lent} {o : 
     rw passed at (p .leaves),
   )
 
+  -- what the theorems about distances ask for
+  checked :
+      attractorChecks t V' T before ≡ none → Fits (gameOf t) (setOf V') (setOf T) × (gameOf t .size ≤ 65535)
+  unfolding gameOf
+  checked passed =
+      let checked = checks-passed t V' T _ _ _ _ passed in
+      let sizes = checked .sizes in (
+        record {
+          part = target-part (vertices t) V' T (sizes .within-size) (sizes .target-size) (checked .bits);
+          below = within-below (vertices t) V' T (sizes .within-size) (sizes .target-size) (checked .bits);
+        },
+        omega (arith, accepted-sound t (checked .accepted) .few-vertices),
+      )
+
   -- **The result is the attractor of T in V, the smallest set,**
   pub attractor-smallest :
       attractorChecks t V' T before ≡ none → IsAttractor (gameOf t) a (setOf V') (setOf T) (setOf (after .result))
-  unfolding gameOf
   attractor-smallest passed =
-      let checked = checks-passed t V' T _ _ _ passed in
-      let sizes = checked .sizes in
       subst
       (λ (S : Set). IsAttractor (gameOf t) a (setOf V') (setOf T) S)
       (fun-ext (answers-set (attractor-answers passed .1)))
-      (attractor-is (gameOf t) a (setOf V') (setOf T)
-      (record {
-        part = target-part (vertices t) V' T (sizes .within-size) (sizes .target-size) (checked .bits);
-        below = within-below (vertices t) V' T (sizes .within-size) (sizes .target-size) (checked .bits);
-      }))
+      (attractor-is (gameOf t) a (setOf V') (setOf T) (checked passed .0))
 
-  -- **and the entries are the rule's for that result.**
+  -- **the distances are A4's for that result,**
+  pub attractor-distances :
+      attractorChecks t V' T before ≡ none →
+      IsDistance (gameOf t) a (setOf V') (setOf T) (setOf (after .result)) (λ v. getD (after .distances) v outside)
+  unfolding gameOf
+  attractor-distances passed =
+      let (fits, few) = checked passed in
+      subst₂
+      (λ (S : Set) (d : ℕ → ℕ). IsDistance (gameOf t) a (setOf V') (setOf T) S d)
+      (fun-ext (answers-set (attractor-answers passed .1)))
+      (fun-ext read)
+      (distance-is (gameOf t) a (setOf V') (setOf T) fits few)
+    where
+      read : (v : ℕ) → distance (gameOf t) a (setOf V') (setOf T) v ≡ getD (after .distances) v outside
+      read v =
+          sym (distance-listed (gameOf t) a (setOf V') (setOf T) v) ∙
+          sym (ap (λ (l : List ℕ). getD l v outside) (attractor-answers passed .1 .distances))
+
+  -- **and the entries are the rule's: along them no walk of n steps in the result avoids T.**
   pub attractor-entries :
       attractorChecks t V' T before ≡ none →
       AttractorEntries (gameOf t) a (setOf V') (setOf T) (setOf (after .result)) (after .strategy)
+  unfolding gameOf
   attractor-entries passed =
-      subst
-      (λ (S : Set). AttractorEntries (gameOf t) a (setOf V') (setOf T) S (after .strategy))
+      let (fits, few) = checked passed in
+      subst₂
+      (λ (S : Set) (l : List ℕ). AttractorEntries (gameOf t) a (setOf V') (setOf T) S l)
       (fun-ext (answers-set (attractor-answers passed .1)))
-      (attractor-answers passed .1 .entries)
+      (sym (attractor-answers passed .1 .strategy))
+      (entries-arrive (gameOf t) a (setOf V') (setOf T) fits few)
 
 -- ---- two results that meet the contract
 
--- the entry of v is free: in an answer, where v is an own vertex of the result outside the target
-pub record Free (t : Tables) (a : Player) (T : List ℕ) (after : Lent) (o : Outcome) (v : ℕ) : Type 0 where
-  pub answer : o .number ≡ 0
-  pub drawn : setOf (after .result) v ≡ true
-  pub outside : setOf T v ≡ false
-  pub own : gameOf t .owner v ≡ a
-
--- two results agree in all but the entries that are free
-pub record Agree (t : Tables) (a : Player) (T : List ℕ) (after after′ : Lent) (o o′ : Outcome) : Type 0 where
-  pub outcomes : o ≡ o′
-  pub result : after .result ≡ after′ .result
-  pub strategy : Alike (Free t a T after o) (after .strategy) (after′ .strategy)
-  pub work : after .work ≡ after′ .work
-
-agree-by :
-    (v : Verdict) (t : Tables) (a : Player) (V' T : List ℕ) (before after after′ : Lent) (o : Outcome) →
-    (v ≡ none → o .number ≡ 0) →
+same-by :
+    (v : Verdict) (t : Tables) (a : Player) (V' T : List ℕ) (before after after′ : Lent) →
     Narrow (after .result) →
     Narrow (after′ .result) →
     Leaves v t a V' T before after →
     Leaves v t a V' T before after′ →
-    Agree t a T after after′ o o
-unfolding gameOf
-agree-by (refused k q) t a V' T before after after′ o e n n′ l l′ =
-    let same : after ≡ after′ = l ∙ sym l′ in
-    record {
-      outcomes = refl;
-      result = ap (λ (x : Lent). x .result) same;
-      strategy = alike-same (ap (λ (x : Lent). x .strategy) same);
-      work = ap (λ (x : Lent). x .work) same;
-    }
-agree-by none t a V' T before after after′ o e n n′ l l′ =
-    record {
-      outcomes = refl;
-      result = holds-same (after .result) (after′ .result) n n′ (l .set) (l′ .set);
-      strategy =
-          alike-none (vertices t) (l .long) (l′ .long)
-          (λ v small f. (l .entries .absent v small (fixed v f), l′ .entries .absent v small (fixed v f)));
-      work = l .work ∙ sym (l′ .work);
-    }
+    after ≡ after′
+same-by (refused k q) t a V' T before after after′ n n′ l l′ = l ∙ sym l′
+same-by none t a V' T before after after′ n n′ l l′ =
+    lent
+    (holds-same (after .result) (after′ .result) n n′ (l .set) (l′ .set))
+    (l .strategy ∙ sym (l′ .strategy))
+    (l .distances ∙ sym (l′ .distances))
+    (l .work ∙ sym (l′ .work))
   where
-    fixed :
-        (v : ℕ) → (Free t a T after o v → ⊥) → wanted t a V' T v ≡ true → setOf T v ≡ false → gameOf t .owner v ≡ a → ⊥
-    fixed v f w outside own = f (record { answer = e refl; drawn = sym (answers-set l v) ∙ w; outside = outside; own = own })
+    lent :
+        {r r′ s s′ d d′ w w′ : List ℕ} →
+        r ≡ r′ → s ≡ s′ → d ≡ d′ → w ≡ w′ →
+        _≡_ {A = Lent} (record { result = r; strategy = s; distances = d; work = w })
+        (record { result = r′; strategy = s′; distances = d′; work = w′ })
+    lent e f g h = cc
 
--- **Any two results that meet the contract are the same but for the entries that the rule leaves free,**
-pub attractor-results-agree :
+-- **Any two results that meet the contract are the same.**
+pub attractor-one-result :
     {t : Tables} {a : Player} {V' T : List ℕ} {before after after′ : Lent} {o o′ : Outcome} →
     Narrow (after .result) →
     Narrow (after′ .result) →
     Attracts t a V' T before after o →
     Attracts t a V' T before after′ o′ →
-    Agree t a T after after′ o o′
-attractor-results-agree {t} {a} {V'} {T} {before} {after} {after′} {o} {o′} n n′ p p′ =
-    subst
-    (λ (x : Outcome). Agree t a T after after′ o x)
-    (p .gives ∙ sym (p′ .gives))
-    (agree-by (attractorChecks t V' T before) t a V' T before after after′ o
-    (λ passed. ap (λ (x : Outcome). x .number) (attractor-answers p passed .0)) n n′ (p .leaves) (p′ .leaves))
-
--- **and after a refusal they are the same in all.**
-pub refused-same :
-    {t : Tables} {a : Player} {T : List ℕ} {after after′ : Lent} {o o′ : Outcome} →
-    Agree t a T after after′ o o′ →
-    (o .number ≡ 0 → ⊥) →
-    after ≡ after′
-refused-same h r = lent (h .result) (alike-equal (λ v f. r (f .answer)) (h .strategy)) (h .work)
-  where
-    lent :
-        {r r′ s s′ w w′ : List ℕ} →
-        r ≡ r′ → s ≡ s′ → w ≡ w′ →
-        _≡_ {A = Lent} (record { result = r; strategy = s; work = w }) (record { result = r′; strategy = s′; work = w′ })
-    lent a b c = cc
+    (after ≡ after′) × (o ≡ o′)
+attractor-one-result {t} {a} {V'} {T} {before} {after} {after′} n n′ p p′ = (
+  same-by (attractorChecks t V' T before) t a V' T before after after′ n n′ (p .leaves) (p′ .leaves),
+  p .gives ∙ sym (p′ .gives),
+)

@@ -1,22 +1,20 @@
 // The public attractor, for every input: it checks all that it takes, works in the work area, and writes only when it
 // answers.
-use attractor::attract;
 use parity_game::Answer;
 use parity_game::BAD_SIZE;
 use parity_game::Player;
 use parity_game::SHORT_WORK;
 use parity_game::STRAY_BIT;
 ghost use mathlib.Core.Path.{_≡_};
-ghost use mathlib.Core.List.{List};
-ghost use Prim.Native.Nat.{ℕ, _≤_};
-ghost use lib.ListN.{length, replicate};
+ghost use Prim.Native.Nat.{_≤_};
+ghost use lib.ListN.{length};
 ghost use Rattle.rules.specs.Game.{playerOf};
 ghost use Rattle.rules.specs.Outcome.{outcome, answered};
 ghost use Rattle.rules.specs.Attractor.{check12};
-ghost use Rattle.rules.specs.Tables.{words, Accepted, tablesOf};
+ghost use Rattle.rules.specs.Tables.{words, tablesOf};
 ghost use Rattle.parity_game.specs.Said.{said, is};
 ghost use Rattle.rules.specs.Attracts.{Attracts};
-ghost use Rattle.attractor_door.specs.Door.{stray, Bits, sizeChecks, checksBy, Entered, chosen, Enterable, Written, Runnable, Ran};
+ghost use Rattle.attractor_door.specs.Door.{stray, Bits, sizeChecks, checksBy};
 
 // alpha's number, 0 or 1.
 fn side(player: Player) -> u8
@@ -68,10 +66,11 @@ fn check_sizes(
     target: usize,
     result: usize,
     strategy: usize,
+    distances: usize,
     work: usize,
 ) -> Answer
     requires { ⌜ (n ≤ 4096) × (m ≤ 16384) ⌝ }
-    ensures { λ r. ⌜ said r ≡ outcome (sizeChecks n m within target result strategy work) (answered 0) ⌝ }
+    ensures { λ r. ⌜ said r ≡ outcome (sizeChecks n m within target result strategy distances work) (answered 0) ⌝ }
 {
     let s = parity_game::set_words(n);
     if within != s {
@@ -84,6 +83,9 @@ fn check_sizes(
         return Answer::Refused(BAD_SIZE);
     }
     if strategy != n {
+        return Answer::Refused(BAD_SIZE);
+    }
+    if distances != n {
         return Answer::Refused(BAD_SIZE);
     }
     if work < parity_game::work_words(n, m) {
@@ -102,6 +104,7 @@ fn check_all(
     target: &[u64],
     result: usize,
     strategy: usize,
+    distances: usize,
     work: usize,
 ) -> Answer
     ensures { λ r.
@@ -109,7 +112,7 @@ fn check_all(
         ≡ outcome
         (checksBy
         (tablesOf (now (owners .entry)) (now (priorities .entry)) (now (offsets .entry)) (now (targets .entry)))
-        (now (within .entry)) (now (target .entry)) result strategy work)
+        (now (within .entry)) (now (target .entry)) result strategy distances work)
         (answered 0) ⌝ }
 {
     let n = owners.len();
@@ -124,102 +127,13 @@ fn check_all(
         target.len(),
         result,
         strategy,
+        distances,
         work,
     );
     if r.number() != 0 {
         return r;
     }
     check_bits(n, within, target)
-}
-
-// The entry of v: its own where v is an own vertex of the result outside the target, else none.
-fn strategy_entry(
-    owners: &[u8],
-    alpha: u8,
-    target: &[u64],
-    result: &[u64],
-    entries: &[u64],
-    v: usize,
-) -> u16
-    requires { ⌜ Entered (now owners) alpha (now target) (now result) (now entries) v ⌝ }
-    ensures { λ r.
-        ⌜ r ≡ chosen (now (owners .entry)) alpha (now (target .entry)) (now (result .entry))
-        (now (entries .entry)) v ⌝ }
-{
-    if !sets::contains(result, v) {
-        return 65535;
-    }
-    if sets::contains(target, v) {
-        return 65535;
-    }
-    if owners[v] != alpha {
-        return 65535;
-    }
-    entries[v] as u16
-}
-
-// Every entry of the strategy.
-fn write_strategy(
-    owners: &[u8],
-    alpha: u8,
-    target: &[u64],
-    result: &[u64],
-    entries: &[u64],
-    strategy: &mut [u16],
-)
-    requires { ⌜ Enterable (now owners) alpha (now target) (now result) (now entries) (now strategy) ⌝ }
-    ensures { λ _.
-        ⌜ Written (now (owners .entry)) alpha (now (target .entry)) (now (result .entry))
-        (now (entries .entry)) (now (strategy .entry))
-        (now (strategy .exit)) ⌝ }
-{
-    for v in 0..owners.len() {
-        strategy[v] = strategy_entry(owners, alpha, target, result, entries, v);
-    }
-}
-
-// The work itself, in W words: V and the target go in, the result and the strategy come out, and the words are left 0.
-fn run(
-    owners: &[u8],
-    offsets: &[u16],
-    targets: &[u16],
-    alpha: u8,
-    within: &[u64],
-    target: &[u64],
-    result: &mut [u64],
-    strategy: &mut [u16],
-    work: &mut [u64],
-) -> u64
-    requires { ⌜ Runnable (now owners) (now offsets) (now targets) alpha (now within) (now target)
-        (now result) (now strategy) (now work) ⌝ }
-    ensures { λ r.
-        ⌜ (now (work .exit) ≡ replicate (length (now (work .entry))) 0) ×
-        ((priorities : List ℕ) →
-        Accepted (tablesOf (now (owners .entry)) priorities (now (offsets .entry)) (now (targets .entry))) →
-        Ran
-        (tablesOf (now (owners .entry)) priorities (now (offsets .entry)) (now (targets .entry)))
-        (playerOf alpha) (now (within .entry)) (now (target .entry)) (now (result .exit)) (now (strategy .exit)) r) ⌝ }
-{
-    let n = owners.len();
-    let s = within.len();
-    let entries = n + 1 + targets.len() + n + n;
-    let base = entries + n;
-    let set = base + s;
-    sets::copy_from(&mut work[base..base + s], within);
-    sets::copy_from(&mut work[set..set + s], target);
-    predecessors::build(offsets, targets, n, work);
-    let looks = attract(owners, offsets, targets, alpha, work, base, set);
-    sets::copy_from(result, &work[set..set + s]);
-    write_strategy(
-        owners,
-        alpha,
-        target,
-        &work[set..set + s],
-        &work[entries..entries + n],
-        strategy,
-    );
-    sets::clear(work, 0, work.len());
-    looks
 }
 
 pub fn attractor(
@@ -232,14 +146,25 @@ pub fn attractor(
     target: &[u64],
     result: &mut [u64],
     strategy: &mut [u16],
+    distances: &mut [u16],
     work: &mut [u64],
 ) -> Answer
     ensures { λ r.
         ⌜ Attracts
         (tablesOf (now (owners .entry)) (now (priorities .entry)) (now (offsets .entry)) (now (targets .entry)))
         (is player) (now (within .entry)) (now (target .entry))
-        (record { result = now (result .entry); strategy = now (strategy .entry); work = now (work .entry) })
-        (record { result = now (result .exit); strategy = now (strategy .exit); work = now (work .exit) })
+        (record {
+          result = now (result .entry);
+          strategy = now (strategy .entry);
+          distances = now (distances .entry);
+          work = now (work .entry);
+        })
+        (record {
+          result = now (result .exit);
+          strategy = now (strategy .exit);
+          distances = now (distances .exit);
+          work = now (work .exit);
+        })
         (said r) ⌝ }
 {
     let verdict = check_all(
@@ -251,6 +176,7 @@ pub fn attractor(
         target,
         result.len(),
         strategy.len(),
+        distances.len(),
         work.len(),
     );
     if verdict.number() != 0 {
@@ -258,7 +184,7 @@ pub fn attractor(
     }
     let w = parity_game::work_words(owners.len(), targets.len());
     let alpha = side(player);
-    Answer::Answered(run(
+    Answer::Answered(attractor_run::run(
         owners,
         offsets,
         targets,
@@ -267,6 +193,7 @@ pub fn attractor(
         target,
         result,
         strategy,
+        distances,
         &mut work[0..w],
     ))
 }

@@ -99,24 +99,24 @@ pub record Kept (over : Bool) (n : ℕ) (odd : Set) (before after : List ℕ) : 
   pub told : over ≡ false → Holds n odd after
 
 leaves-kept :
-    (over : Bool) (t : Tables) (won : Player → Set) (before after : Lent) →
-    Leaves none over t won before after →
+    (over : Bool) (t : Tables) (won : Player → Set) (entries : ℕ → ℕ) (before after : Lent) →
+    Leaves none over t won entries before after →
     Kept over (vertices t) (won Odd) (before .odd) (after .odd)
-leaves-kept true t won before after l =
+leaves-kept true t won entries before after l =
     record { same = λ e. l .odd; told = λ e. absurd (clash refl e) }
-leaves-kept false t won before after l =
+leaves-kept false t won entries before after l =
     record { same = λ e. absurd (clash e refl); told = λ e. l .odd }
 
-module _ {budget : ℕ} {t : Tables} {needed : ℕ} {won : Player → Set} {before after : Lent} {o : Outcome}
-    (s : Solves budget t needed won before after o) (passes : solverChecks t before ≡ none) where
+module _ {budget : ℕ} {t : Tables} {needed : ℕ} {won : Player → Set} {entries : ℕ → ℕ} {before after : Lent} {o : Outcome}
+    (s : Solves budget t needed won entries before after o) (passes : solverChecks t before ≡ none) where
   pub solves-counted : countedOf o ≡ countedFor budget needed
   solves-counted =
       ap countedOf (s .gives ∙ ap (λ (v : Verdict). outcome v (budgeted budget needed)) passes) ∙ counted-budgeted budget needed
 
   pub solves-kept : Kept (ltb budget needed) (vertices t) (won Odd) (before .odd) (after .odd)
   solves-kept =
-      leaves-kept (ltb budget needed) t won before after
-      (subst (λ (v : Verdict). Leaves v (ltb budget needed) t won before after) passes (s .leaves))
+      leaves-kept (ltb budget needed) t won entries before after
+      (subst (λ (v : Verdict). Leaves v (ltb budget needed) t won entries before after) passes (s .leaves))
 
 -- ---- the line
 

@@ -1,4 +1,5 @@
-// C5's attractor run: the number, place and looks given back, then the set as a word and the two entries.
+// C5's attractor run: the number, place and looks given back, then the set as a word, the two entries and the two
+// distances.
 use libc::STDOUT_FILENO;
 use parity_game::Player;
 
@@ -14,6 +15,7 @@ fn put_entry(w: u16) {
 fn main() {
     let mut result = [0u64; 1];
     let mut strategy = [0u16; 2];
+    let mut distances = [7u16; 2];
     let mut work = [7u64; 318];
     let r = attractor_door::attractor(
         &[1, 0],
@@ -25,6 +27,7 @@ fn main() {
         &[2],
         &mut result,
         &mut strategy,
+        &mut distances,
         &mut work,
     );
     io::write_all(STDOUT_FILENO, b"C5 ");
@@ -34,6 +37,8 @@ fn main() {
     put(result[0]);
     put_entry(strategy[0]);
     put_entry(strategy[1]);
+    put_entry(distances[0]);
+    put_entry(distances[1]);
     put(work[0]);
     put(work[317]);
     io::write_all(STDOUT_FILENO, b"\n");

@@ -1,16 +1,15 @@
--- What a reader may conclude of `solve_priority_promotion`, from its contract alone: whenever it answers, its sets are the winning sets of
--- demand 2 and Zielonka's, each vertex has one winner, the strategy wins and the count is the rules' rounds; it answers whenever nothing is
--- refused and the budget is n · (n + 2) ^ d or more; and any two results that meet the contract are the same but for the entries of winners'
--- own vertices.
+-- What a reader may conclude of `solve_priority_promotion`, from its contract alone: whenever it answers, its sets are the winning
+-- sets of demand 2 and Zielonka's, each vertex has one winner, the strategy wins and the count is the rules' rounds; it answers
+-- whenever nothing is refused and the budget is n · (n + 2) ^ d or more; any two results that meet the contract are the same.
 use mathlib.Core.Bool.{Bool, true, false}
 use mathlib.Core.List.{List}
 use mathlib.Core.Logic.{_⊎_, ⊎-elim}
-use mathlib.Core.Path.{_≡_, sym, _∙_}
+use mathlib.Core.Path.{_≡_, sym, ap, _∙_}
 use Prim.Native.Nat.{ℕ, suc, _+_, _*_, _^_, _≤_, _<_}
 use native.Mathlib.Omega.{arith}
 use Rattle.rules.specs.Budget.{differentPriorities}
 use Rattle.rules.specs.Checker.{certificateChecks}
-use Rattle.rules.specs.Counting.{some, lowest}
+use Rattle.rules.specs.Counting.{some, lowest, listed}
 use Rattle.rules.specs.Game.{Player, Even, Odd, everywhere}
 use Rattle.rules.specs.Outcome.{Outcome, none, answered}
 use Rattle.rules.specs.Promotion.{afterRounds, allSolved, roundsNeeded}
@@ -20,20 +19,23 @@ use Rattle.rules.specs.Winning.{WinningSets, WinningEntries}
 use Rattle.rules.specs.Zielonka.{zielonka}
 use Rattle.parity_game.specs.Laws.{then-none}
 use Rattle.theory.specs.Basics.{bool-cases, lowest-found, lowest-none, lowest-unique}
-use Rattle.theory.specs.PromotionAccepted.{accepted-finishes, accepted-rounds-sets}
+use Rattle.theory.specs.PromotionAccepted.{accepted-finishes, accepted-rounds-sets, accepted-rounds-entries}
 use Rattle.theory.specs.PromotionSound.{winning-sets-agree}
 use Rattle.theory.specs.Tables.{accepted-total}
 use Rattle.theory.specs.Zielonka.{zielonka-wins}
-use Rattle.solver.specs.Promises.{setFor, gotBy, answer, answered-accepted, answered-within, answered-count, answered-holds, answered-winning}
+use Rattle.solver.specs.Promises.{setFor, gotBy, answer, answered-accepted, answered-within, answered-count, answered-holds}
+use Rattle.solver.specs.Promises.{answered-winning}
 use Rattle.sets.specs.Same.{Narrow, holds-same}
-use Rattle.solver.specs.Promises.{answered-one, answered-certified, answers-within, holds-alike, Agree, results-agree}
-use Rattle.promotion_rounds.specs.Round.{Shows}
+use Rattle.solver.specs.Promises.{answered-one, answered-certified, answered-entries, answers-within, holds-alike}
+use Rattle.solver.specs.Promises.{one-result}
+use Rattle.promotion_rounds.specs.Shown.{Shows}
 use Rattle.promotion_rounds.specs.Rounds.{RoundDone}
 
 -- the contract of `solve_priority_promotion`
 abbrev pub Promise : ℕ → Tables → Lent → Lent → Outcome → Type 0
 Promise budget t before after o =
-    Solves budget t (roundsNeeded (gameOf t) budget) (afterRounds (gameOf t) (roundsNeeded (gameOf t) budget) .won) before after o
+    Solves budget t (roundsNeeded (gameOf t) budget) (afterRounds (gameOf t) (roundsNeeded (gameOf t) budget) .won)
+    (afterRounds (gameOf t) (roundsNeeded (gameOf t) budget) .entries) before after o
 
 module _ {budget : ℕ} {t : Tables} {before after : Lent} {o : Outcome} (p : Promise budget t before after o) where
   -- **The count is the rounds of the rules: after as many all vertices are solved, and after fewer some are not.**
@@ -51,17 +53,29 @@ module _ {budget : ℕ} {t : Tables} {before after : Lent} {o : Outcome} (p : Pr
       (bool-cases (some (suc budget) (λ k. allSolved (gameOf t) (afterRounds (gameOf t) k)))) in
       rw (answered-count p e) (found .passes, found .first)
 
+  -- all are solved after the rounds needed
+  solved-then : o .number ≡ 0 → allSolved (gameOf t) (afterRounds (gameOf t) (roundsNeeded (gameOf t) budget)) ≡ true
+  solved-then e = rw (answered-count p e) at (answered-rounds e .0)
+
   -- the rules' sets at the end
   rules-sets : o .number ≡ 0 → WinningSets (gameOf t) (afterRounds (gameOf t) (roundsNeeded (gameOf t) budget) .won)
-  rules-sets e =
-      accepted-rounds-sets t (answered-accepted p e) (roundsNeeded (gameOf t) budget) (rw (answered-count p e) at (answered-rounds e .0))
+  rules-sets e = accepted-rounds-sets t (answered-accepted p e) (roundsNeeded (gameOf t) budget) (solved-then e)
+
+  -- and its entries win
+  rules-entries :
+      o .number ≡ 0 →
+      WinningEntries (gameOf t) (afterRounds (gameOf t) (roundsNeeded (gameOf t) budget) .won)
+      (listed (vertices t) (afterRounds (gameOf t) (roundsNeeded (gameOf t) budget) .entries))
+  unfolding gameOf
+  rules-entries e = accepted-rounds-entries t (answered-accepted p e) (roundsNeeded (gameOf t) budget) (solved-then e)
 
   -- **The two sets are exactly the winning sets of demand 2,**
   pub answered-wins : o .number ≡ 0 → WinningSets (gameOf t) (gotBy after)
   answered-wins e = answered-winning p e (rules-sets e)
 
   -- **and those of Zielonka's recursion.**
-  pub answered-as-zielonka : o .number ≡ 0 → (c : Player) (v : ℕ) → v < vertices t → gotBy after c v ≡ zielonka (gameOf t) .won c v
+  pub answered-as-zielonka :
+      o .number ≡ 0 → (c : Player) (v : ℕ) → v < vertices t → gotBy after c v ≡ zielonka (gameOf t) .won c v
   unfolding gameOf
   answered-as-zielonka e =
       winning-sets-agree (gameOf t) (gotBy after) (zielonka (gameOf t) .won) (answered-wins e)
@@ -90,7 +104,7 @@ pub answered-strategy :
     Promise budget t before after o →
     o .number ≡ 0 →
     WinningEntries (gameOf t) (afterRounds (gameOf t) (roundsNeeded (gameOf t) budget) .won) (after .strategy)
-answered-strategy p e = answer p e .entries
+answered-strategy p e = answered-entries p e (rules-entries p e)
 
 -- **Sets and strategy then get the checker's yes.**
 pub answered-gets-yes :
@@ -98,17 +112,17 @@ pub answered-gets-yes :
     Promise budget t before after o →
     o .number ≡ 0 →
     certificateChecks (gameOf t) (after .even) (after .odd) (after .strategy) ≡ none
-answered-gets-yes p e = answered-certified p e (rules-sets p e)
+answered-gets-yes p e = answered-certified p e (rules-sets p e) (rules-entries p e)
 
--- **Any two results that meet the contract are the same but for the entries of winners' own vertices,**
-pub promotion-results-agree :
+-- **Any two results that meet the contract are the same, the strategy too,**
+pub promotion-one-result :
     {budget : ℕ} {t : Tables} {before after after′ : Lent} {o o′ : Outcome} →
     ((c : Player) → Narrow (setFor after c)) →
     ((c : Player) → Narrow (setFor after′ c)) →
     Promise budget t before after o →
     Promise budget t before after′ o′ →
-    Agree t after after′ o o′
-promotion-results-agree n n′ p p′ = results-agree n n′ (rules-sets p) p p′
+    (o ≡ o′) × (after ≡ after′)
+promotion-one-result n n′ p p′ = one-result n n′ p p′
 
 -- **any two answers count the same rounds, whatever the budgets,**
 pub answers-count-the-same :
@@ -132,11 +146,25 @@ answers-count-the-same {t = t} {o = o} {o′ = o′} p p′ e e′ =
     other : all (o′ .count) ≡ true → ((k : ℕ) → k < o′ .count → all k ≡ false) → lowest (o .count + o′ .count + 1) all ≡ o′ .count
     other s f = lowest-unique (o .count + o′ .count + 1) all (o′ .count) (record { below = omega arith; passes = s; first = f })
 
+-- **and give the same strategy,**
+pub answers-choose-the-same :
+    {budget budget′ : ℕ} {t : Tables} {before before′ after after′ : Lent} {o o′ : Outcome} →
+    Promise budget t before after o →
+    Promise budget′ t before′ after′ o′ →
+    o .number ≡ 0 →
+    o′ .number ≡ 0 →
+    after .strategy ≡ after′ .strategy
+answers-choose-the-same {t = t} p p′ e e′ =
+    answer p e .strategy ∙
+    ap (λ (k : ℕ). listed (vertices t) (afterRounds (gameOf t) k .entries))
+    (sym (answered-count p e) ∙ answers-count-the-same p p′ e e′ ∙ answered-count p′ e′) ∙
+    sym (answer p′ e′ .strategy)
+
 -- **and the words of the sets are those that Zielonka's solver gives.**
 pub same-words-as-zielonka :
     {budget budget′ : ℕ} {t : Tables} {before before′ after after′ : Lent} {o o′ : Outcome} →
     Promise budget t before after o →
-    Solves budget′ t (zielonka (gameOf t) .calls) (zielonka (gameOf t) .won) before′ after′ o′ →
+    Solves budget′ t (zielonka (gameOf t) .calls) (zielonka (gameOf t) .won) (zielonka (gameOf t) .entries) before′ after′ o′ →
     o .number ≡ 0 →
     o′ .number ≡ 0 →
     (c : Player) →

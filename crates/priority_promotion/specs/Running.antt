@@ -10,12 +10,12 @@ use Rattle.rules.specs.Counting.{Set}
 use Rattle.rules.specs.Game.{Player, Even, Odd}
 use Rattle.rules.specs.Tables.{Tables, gameOf, words, workWords, Accepted, tablesOf}
 use Rattle.rules.specs.Promotion.{afterRounds, allSolved, roundsNeeded}
-use Rattle.theory.specs.PromotionAccepted.{accepted-promotion-sets, accepted-promotion-entries}
-use Rattle.area.specs.Area.{free, setAt}
+use Rattle.theory.specs.PromotionAccepted.{accepted-promotion-sets, accepted-promotion-strategy, accepted-rounds-entries}
+use Rattle.area.specs.Area.{setAt}
 use Rattle.solver.specs.Preparing.{Preparable, Prepared}
 use Rattle.solver.specs.Outputs.{wonFrom, Found}
-use Rattle.promotion_region.specs.Layout.{evenAt, regionsAt, accepted-edges}
-use Rattle.promotion_region.specs.Dominion.{wonAt}
+use Rattle.promotion_tables.specs.Layout.{unsolvedAt, evenAt, regionsAt, accepted-edges}
+use Rattle.promotion_moves.specs.Dominion.{wonAt}
 use Rattle.promotion_rounds.specs.Beginning.{Beginnable, Begun}
 use Rattle.priority_promotion.specs.Starting.{tables-room, begin-ready, begun-reached}
 use Rattle.promotion_rounds.specs.Solve.{Reached, Ended, none-left, ended-needed, ended-over}
@@ -24,6 +24,10 @@ use Rattle.promotion_rounds.specs.Solve.{Reached, Ended, none-left, ended-neede
 abbrev pub wonIn : Tables → ℕ → Player → Set
 wonIn t budget = afterRounds (gameOf t) (roundsNeeded (gameOf t) budget) .won
 
+-- and the entries that they choose
+abbrev pub entriesIn : Tables → ℕ → ℕ → ℕ
+entriesIn t budget = afterRounds (gameOf t) (roundsNeeded (gameOf t) budget) .entries
+
 module _ (owners priorities offsets targets : List ℕ) (ok : Accepted (tablesOf owners priorities offsets targets)) {s : ℕ}
     (size : s ≡ words (length owners)) (w0 : List ℕ) (room : length w0 ≡ workWords (length owners) (length targets))
   where
@@ -31,17 +35,17 @@ module _ (owners priorities offsets targets : List ℕ) (ok : Accepted (tablesOf
     tables-fit = let fits = tables-room (length owners) (length targets) in omega arith
 
     -- what `prepare` asks for
-    pub run-preparable : Preparable (length owners) offsets targets s (free (length owners) (length targets)) w0
+    pub run-preparable : Preparable (length owners) offsets targets s (unsolvedAt (length owners) (length targets) s) w0
     run-preparable =
         record {
           edges = accepted-edges (tablesOf owners priorities offsets targets) ok;
           size = size;
-          low = omega arith;
+          low = omega (arith, size);
           high = omega (arith, tables-fit);
         }
 
     module _ {w1 : List ℕ}
-        (prepared : Prepared (length owners) offsets targets (free (length owners) (length targets)) w0 w1)
+        (prepared : Prepared (length owners) offsets targets (unsolvedAt (length owners) (length targets) s) w0 w1)
       where
         -- what `begin` asks for
         pub run-beginnable : Beginnable priorities (length targets) s w1
@@ -84,12 +88,15 @@ module _ {owners priorities offsets targets : List ℕ} {s budget at many made :
 
       -- **What the rounds have found stands in the work area.**
       pub run-found :
-          Found (tablesOf owners priorities offsets targets) (wonIn (tablesOf owners priorities offsets targets) budget) s
+          Found (tablesOf owners priorities offsets targets) (wonIn (tablesOf owners priorities offsets targets) budget)
+          (entriesIn (tablesOf owners priorities offsets targets) budget) s
           (evenAt (length owners) (length targets) s) w3
       unfolding gameOf
       run-found =
           subst
-          (λ (k : ℕ). Found t (afterRounds (gameOf t) k .won) s (evenAt (length owners) (length targets) s) w3)
+          (λ (k : ℕ).
+          Found t (afterRounds (gameOf t) k .won) (afterRounds (gameOf t) k .entries) s
+          (evenAt (length owners) (length targets) s) w3)
           run-rounds
           (record {
             accepted = ended .reached .accepted;
@@ -103,5 +110,6 @@ module _ {owners priorities offsets targets : List ℕ} {s budget at many made :
                 λ c v l.
                 ap (λ (i : ℕ). setAt (length owners) i w3 v) (won-place c) ∙ ended .reached .shows .bare c v l;
             sets = accepted-promotion-sets t (ended .reached .accepted) (ended .reached .entries) solved;
-            wins = accepted-promotion-entries t (ended .reached .accepted) (ended .reached .entries) solved;
+            chosen = accepted-promotion-strategy t (ended .reached .accepted) (ended .reached .entries) solved;
+            wins = accepted-rounds-entries t (ended .reached .accepted) made solved;
           })

@@ -18,13 +18,13 @@ use Rattle.theory.specs.Tables.{accepted-sound}
 use Rattle.theory.specs.Greatest.{greatest-cong}
 use Rattle.theory.specs.PromotionBasics.{noted-below}
 use Rattle.theory.specs.PromotionEntries.{starts}
-use Rattle.area.specs.Area.{entries, free, setAt}
+use Rattle.area.specs.Area.{entries, setAt}
 use Rattle.attractor.specs.Attracted.{Listed}
-use Rattle.attractor.specs.Running.{listed-kept}
-use Rattle.promotion_region.specs.Regions.{regionAt}
+use Rattle.attractor.specs.Attracted.{listed-kept}
+use Rattle.promotion_tables.specs.Regions.{regionAt}
 use Rattle.area.specs.SetsAt.{set-kept, set-zeros}
-use Rattle.promotion_region.specs.Layout.{evenAt, oddAt, regionsAt, tableAt, table-below, accepted-edges}
-use Rattle.promotion_region.specs.Dominion.{wonAt}
+use Rattle.promotion_tables.specs.Layout.{unsolvedAt, evenAt, oddAt, regionsAt, tableAt, table-below, accepted-edges}
+use Rattle.promotion_moves.specs.Dominion.{wonAt}
 use Rattle.promotion_rounds.specs.Beginning.{Beginnable, Begun, BegunOf}
 use Rattle.promotion_rounds.specs.Solve.{Reached}
 
@@ -76,13 +76,13 @@ module _ (owners priorities offsets targets : List ℕ) (ok : Accepted (tablesOf
 
     module _ {w1 : List ℕ} {current : ℕ} (begun : Begun priorities (length targets) s w0 w1 current)
         (listed : Listed (length owners) offsets targets w0)
-        (full : (v : ℕ) → setAt (length owners) (free (length owners) (length targets)) w0 v ≡ ltb v (length owners))
+        (full : (v : ℕ) → setAt (length owners) (unsolvedAt (length owners) (length targets) s) w0 v ≡ ltb v (length owners))
       where
         b : BegunOf n priorities m s w0 w1 current
         b = subst (λ (k : ℕ). BegunOf k priorities m s w0 w1 current) as-many begun
 
-        all-in : (v : ℕ) → setAt n (free n m) w1 v ≡ ltb v n
-        all-in v = set-kept n (free n m) w0 w1 (λ i l h. b .unsolved i l (omega (arith, size))) v ∙ full v
+        all-in : (v : ℕ) → setAt n (unsolvedAt n m s) w1 v ≡ ltb v n
+        all-in v = set-kept n (unsolvedAt n m s) w0 w1 (λ i l h. b .unsolved i (omega arith) (omega (arith, size))) v ∙ full v
 
         region-small : (v : ℕ) → v < n → ltb (regionAt Rg w1 v) 256 ≡ true
         region-small v l = lt-ltb (regionAt Rg w1 v) 256 (omega (arith, b .region v l, low v l))
@@ -95,7 +95,7 @@ module _ (owners priorities offsets targets : List ℕ) (ok : Accepted (tablesOf
         no-one Even v = set-zeros n (evenAt n m s) w1 (λ i l h. b .zeros i (omega arith) (omega (arith, size))) v
         no-one Odd v = set-zeros n (oddAt n m s) w1 (λ i l h. b .zeros i (omega arith) (omega (arith, size))) v
 
-        unsolved-is : (v : ℕ) → setAt n (free n m) w1 v ≡ (ltb v n && ltb (tableAt n m s w1 v) 256)
+        unsolved-is : (v : ℕ) → setAt n (unsolvedAt n m s) w1 v ≡ (ltb v n && ltb (tableAt n m s w1 v) 256)
         unsolved-is v =
             all-in v ∙
             ⊎-elim
@@ -133,7 +133,7 @@ module _ (owners priorities offsets targets : List ℕ) (ok : Accepted (tablesOf
                     bare = λ c v l. no-one c v;
                     left =
                         as-many ∙
-                        sym (count-full n (setAt n (free n m) w1) (λ v l. all-in v ∙ lt-ltb v n l));
+                        sym (count-full n (setAt n (unsolvedAt n m s) w1) (λ v l. all-in v ∙ lt-ltb v n l));
                   };
               entries = starts (λ v l. b .entry v l);
               unfinished = λ j l. absurd (omega arith);

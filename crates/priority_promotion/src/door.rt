@@ -32,6 +32,7 @@ fn run(
         (now (work .exit) ≡ replicate (length (now (work .entry))) 0) ×
         Runs budget t (roundsNeeded (gameOf t) budget)
         (afterRounds (gameOf t) (roundsNeeded (gameOf t) budget) .won)
+        (afterRounds (gameOf t) (roundsNeeded (gameOf t) budget) .entries)
         (record { even = now (even .entry); odd = now (odd .entry); strategy = now (strategy .entry) })
         (record { even = now (even .exit); odd = now (odd .exit); strategy = now (strategy .exit) })
         r) ⌝ }
@@ -40,7 +41,7 @@ fn run(
     let m = targets.len();
     let s = parity_game::set_words(n);
     let entries = n + 1 + m + n + n;
-    let unsolved = entries + n;
+    let unsolved = entries + n + 2 * (s + 1);
     solver::prepare(offsets, targets, n, s, work, unsolved);
     let start = begin(priorities, m, s, work);
     let end = solve(owners, priorities, offsets, targets, budget, s, work, start);
@@ -70,6 +71,7 @@ pub fn solve_priority_promotion(
         tablesOf (now (owners .entry)) (now (priorities .entry)) (now (offsets .entry)) (now (targets .entry)) in
         Solves budget t (roundsNeeded (gameOf t) budget)
         (afterRounds (gameOf t) (roundsNeeded (gameOf t) budget) .won)
+        (afterRounds (gameOf t) (roundsNeeded (gameOf t) budget) .entries)
         (record {
           even = now (even .entry);
           odd = now (odd .entry);

@@ -1,14 +1,4 @@
--- Where the regions stand (Layout), what the pieces of a round ask for and leave, and why.
-pub mod Regions
-pub mod Cells
-pub mod Edges
+-- R, the region that is drawn in: what its steps ask for and leave, and that it is as a round of the rules asks.
 pub mod Sorting
-pub mod Settling
-pub mod Promoting
-pub mod Escapes
-pub mod Opening
-pub mod Layout
-pub mod Pulled
+pub mod Claims
 pub mod Query
-pub mod Promotion
-pub mod Dominion

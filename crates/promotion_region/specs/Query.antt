@@ -3,34 +3,31 @@
 use mathlib.Core.Bool.{Bool, true, false, _&&_, cond}
 use mathlib.Core.List.{List}
 use mathlib.Core.Logic.{_⊎_, inl, inr, ⊎-elim}
-use mathlib.Core.Path.{_≡_, refl, sym, ap, ap₂, subst, _∙_}
+use mathlib.Core.Path.{_≡_, refl, sym, ap, ap₂, _∙_}
 use Prim.Native.Nat.{ℕ, _+_, _*_, _%_, _≤_, _<_}
 use native.Mathlib.Omega.{arith}
 use borrow.Author.Tests.{eqb-true, le-leb, lt-ltb, le-ltb}
 use lib.Dec.{eqb, leb, ltb}
 use lib.ListN.{length, getD}
-use Rattle.rules.specs.Counting.{Set, someOf}
-use Rattle.rules.specs.Game.{Game, Edge, parity}
+use Rattle.rules.specs.Counting.{Set}
+use Rattle.rules.specs.Game.{Game, parity}
 use Rattle.rules.specs.Tables.{Tables, words, gameOf, Accepted, tablesOf}
-use Rattle.rules.specs.Words.{noEntry, setOf}
 use Rattle.rules.specs.Attractor.{attractor}
 use Rattle.rules.specs.Promotion.{unsolved}
-use Rattle.theory.specs.Basics.{bool-cases, clash, not-true-is-false, and-intro, and-left, and-right, lt-or-ge, count-cong}
-use Rattle.theory.specs.Tables.{accepted-total}
+use Rattle.theory.specs.Basics.{bool-cases, clash, not-true-is-false, and-intro, and-left, and-right, lt-or-ge}
+use Rattle.theory.specs.AttractorRank.{Certificate}
 use Rattle.theory.specs.PromotionBasics.{atRegion, upTo}
 use Rattle.theory.specs.PromotionEntries.{Attracts}
 use Rattle.sets.specs.After.{Cleared}
 use Rattle.sets.specs.Laws.{bit-other}
-use Rattle.area.specs.Area.{entries, free, setAt, wordsAt}
-use Rattle.attractor.specs.Attracted.{Attractable, Attracted}
-use Rattle.attractor.specs.Running.{listed-kept}
-use Rattle.promotion_region.specs.Regions.{regionAt, Tallied, Elsewhere}
+use Rattle.area.specs.Area.{entries, setAt, wordsAt}
+use Rattle.attractor.specs.Attracted.{Nested, Attractable, Attracted, listed-kept}
+use Rattle.promotion_tables.specs.Regions.{regionAt, Elsewhere, tallied-kept}
 use Rattle.area.specs.SetsAt.{set-kept, set-cleared}
-use Rattle.promotion_region.specs.Cells.{Between, between-words}
 use Rattle.promotion_region.specs.Sorting.{Collects, Collected}
-use Rattle.promotion_region.specs.Settling.{SettleAll, SettledAll}
-use Rattle.promotion_region.specs.Layout.{lowerAt, heldAt, evenAt, regionsAt, tableAt, table-below, entryOf, Ready, unsolved-small}
-use Rattle.promotion_region.specs.Pulled.{Pulled, pulled-as, owner-number}
+use Rattle.promotion_region.specs.Claims.{Claimable, Claimed}
+use Rattle.promotion_tables.specs.Layout.{unsolvedAt, lowerAt, heldAt, evenAt, regionsAt, tableAt, table-below, entryOf, Ready, unsolved-small}
+use Rattle.promotion_tables.specs.Pulled.{Pulled, pulled-as, attract-pulled}
 
 -- what `query` asks for: the tables are accepted with some priorities
 pub record QueryReady (owners offsets targets : List ℕ) (s p : ℕ) (work : List ℕ) : Type 0 where
@@ -39,8 +36,8 @@ pub record QueryReady (owners offsets targets : List ℕ) (s p : ℕ) (work : Li
   pub ready : Ready (length owners) offsets targets s work
   pub small : p < 256
 
--- what it leaves
-pub record Queried (owners priorities offsets targets : List ℕ) (s p : ℕ) (before after : List ℕ) : Type 0 where
+-- R as it was drawn in: it is the attractor of region p, and has region p now
+pub record Drawn (owners priorities offsets targets : List ℕ) (s p : ℕ) (before after : List ℕ) : Type 0 where
   pub long : length after ≡ length before
   pub ready : Ready (length owners) offsets targets s after
   pub below : (v : ℕ) → setAt (length owners) (heldAt (length owners) (length targets) s) after v ≡ true → v < length owners
@@ -50,38 +47,26 @@ pub record Queried (owners priorities offsets targets : List ℕ) (s p : ℕ) (b
       (v : ℕ) →
       v < n →
       regionAt (regionsAt n m s) after v ≡ cond (setAt n (heldAt n m s) after v) p (regionAt (regionsAt n m s) before v)
+  pub certificate :
+      let n = length owners in
+      let m = length targets in
+      let g = gameOf (tablesOf owners priorities offsets targets) in
+      let T = tableAt n m s before in
+      Certificate g (parity p) (upTo (unsolved g T) T p) (atRegion (unsolved g T) T p) (setAt n (heldAt n m s) after)
+  pub rest :
+      let n = length owners in
+      let m = length targets in
+      (i : ℕ) → evenAt n m s ≤ i → Elsewhere n (regionsAt n m s) i → getD after i 0 ≡ getD before i 0
+
+-- what it leaves, with the entries
+pub record Queried (owners priorities offsets targets : List ℕ) (s p : ℕ) (before after : List ℕ) : Type 0 where
+  pub drawn : Drawn owners priorities offsets targets s p before after
   pub attracts :
       let n = length owners in
       let m = length targets in
       let g = gameOf (tablesOf owners priorities offsets targets) in
       Attracts g (unsolved g (tableAt n m s before)) (tableAt n m s before) p (setAt n (heldAt n m s) after)
       (entryOf n m before) (entryOf n m after)
-  pub rest :
-      let n = length owners in
-      let m = length targets in
-      (i : ℕ) → evenAt n m s ≤ i → Elsewhere n (regionsAt n m s) i → getD after i 0 ≡ getD before i 0
-
--- a table of regions whose words stay
-pub tallied-kept :
-    {n regions : ℕ} {before after : List ℕ} →
-    length after ≡ length before →
-    ((i : ℕ) → regions ≤ i → i < regions + n + 257 → getD after i 0 ≡ getD before i 0) →
-    Tallied n regions before →
-    Tallied n regions after
-tallied-kept {n} {regions} {before} {after} long same t =
-    record {
-      few = t .few;
-      room = rw long (t .room);
-      high = λ v l. rw (region v l) (t .high v l);
-      counts =
-          λ q l.
-          same (regions + n + q) (omega arith) (omega arith) ∙ t .counts q l ∙
-          count-cong n (λ v. eqb (regionAt regions before v) q) (λ v. eqb (regionAt regions after v) q)
-          (λ v k. ap (λ (x : ℕ). eqb x q) (sym (region v k)));
-    }
-  where
-    region : (v : ℕ) → v < n → regionAt regions after v ≡ regionAt regions before v
-    region v l = same (regions + v) (omega arith) (omega arith)
 
 chosen-is : (b : Bool) → cond b true false ≡ b
 chosen-is true = refl
@@ -104,7 +89,7 @@ module _ (owners priorities : List ℕ) {offsets targets : List ℕ} (ok : Accep
 
     -- the bases
     abbrev U : ℕ
-    U = free n m
+    U = unsolvedAt n m s
 
     abbrev X : ℕ
     X = lowerAt n m s
@@ -212,26 +197,29 @@ module _ (owners priorities : List ℕ) {offsets targets : List ℕ} (ok : Accep
           lower-small v i =
               unsolved-small ready v (sym (left-is v) ∙ and-left (unsolved g T v) (leb (T v) p) (sym (lower2 v) ∙ i))
 
+          nested2 : Nested n X H w2
+          nested2 =
+              record {
+                below = lower-small;
+                part =
+                    λ v i.
+                    let at = sym (held2 v) ∙ i in
+                    let is = eqb-true (T v) p (and-right (unsolved g T v) (eqb (T v) p) at) in
+                    lower2 v ∙ and-intro (and-left (unsolved g T v) (eqb (T v) p) at) (le-leb (T v) p (omega arith));
+              }
+
           pub attract-ready : Attractable owners offsets targets (p % 2) X H w2
           attract-ready =
               record {
                 placed =
                     record {
-                      within-low = omega arith;
+                      within-low = omega (arith, size);
                       within-high = omega (arith, size, room, long2);
-                      set-low = omega arith;
+                      set-low = omega (arith, size);
                       set-high = omega (arith, size, room, long2);
                       apart = inl (omega (arith, size));
                     };
-                nested =
-                    record {
-                      below = lower-small;
-                      part =
-                          λ v i.
-                          let at = sym (held2 v) ∙ i in
-                          let is = eqb-true (T v) p (and-right (unsolved g T v) (eqb (T v) p) at) in
-                          lower2 v ∙ and-intro (and-left (unsolved g T v) (eqb (T v) p) at) (le-leb (T v) p (omega arith));
-                    };
+                nested = nested2;
                 edges = ready .edges;
                 listed = listed-kept n offsets targets w0 w2 long2 (λ i l. same2 i (inl (omega arith))) (ready .listed);
                 side = omega arith;
@@ -246,6 +234,9 @@ module _ (owners priorities : List ℕ) {offsets targets : List ℕ} (ok : Accep
               abbrev S : Set
               S = attractor g (parity p) (setAt n X w2) (setAt n H w2)
 
+              drawn3 : Pulled g (parity p) (setAt n X w2) (setAt n H w2) S (entryOf n m w2) (entryOf n m w3)
+              drawn3 = attract-pulled ok nested2 c3
+
               held-bare : (v : ℕ) → n ≤ v → setAt n H w3 v ≡ false
               held-bare v l = bit-other (wordsAt n H w3) v (c3 .holds .clear v l)
 
@@ -257,16 +248,16 @@ module _ (owners priorities : List ℕ) {offsets targets : List ℕ} (ok : Accep
                   ⊎-elim
                   (λ l. sym (c3 .holds .bits v l))
                   (λ l.
-                  not-true-is-false (S v) (λ i. let k = lower-small v (c3 .certificate .inside v i) in omega arith) ∙
+                  not-true-is-false (S v) (λ i. let k = lower-small v (drawn3 .certificate .inside v i) in omega arith) ∙
                   sym (held-bare v l))
                   (lt-or-ge v n)
 
               -- words behind R
               same3 : (i : ℕ) → evenAt n m s ≤ i → getD w3 i 0 ≡ getD w0 i 0
-              same3 i l = c3 .rest i (omega arith) (inr (omega (arith, size))) ∙ same2 i (inr l)
+              same3 i l = c3 .rest i (omega (arith, size)) (inr (omega (arith, size))) ∙ same2 i (inr l)
 
               unsolved3 : (i : ℕ) → U ≤ i → i < X → getD w3 i 0 ≡ getD w0 i 0
-              unsolved3 i low high = c3 .rest i low (inl (omega arith)) ∙ same2 i (inl high)
+              unsolved3 i low high = c3 .rest i (omega (arith, size)) (inl (omega arith)) ∙ same2 i (inl high)
 
               region3 : (v : ℕ) → regionAt Rg w3 v ≡ regionAt Rg w0 v
               region3 v = same3 (Rg + v) (omega arith)
@@ -274,172 +265,123 @@ module _ (owners priorities : List ℕ) {offsets targets : List ℕ} (ok : Accep
               entry2 : (v : ℕ) → v < n → entryOf n m w2 v ≡ entryOf n m w0 v
               entry2 v l = same2 (E + v) (inl (omega arith))
 
-              between : Between n Rg E H
-              between = record { low = omega arith; high = omega (arith, size) }
-
-              pub settle-ready : SettleAll owners offsets targets p s H Rg E w3
-              settle-ready =
+              pub claim-ready : Claimable n p s H Rg w3
+              claim-ready =
                   record {
                     size = size;
-                    edges = ready .edges;
-                    room =
-                        record {
-                          tallied = tallied-kept long3 (λ i low high. same3 i (omega arith)) (ready .tallied);
-                          order = omega arith;
-                        };
-                    between = between;
+                    tallied = tallied-kept long3 (λ i low high. same3 i (omega arith)) (ready .tallied);
+                    order = omega (arith, size);
                     below = held-small;
                     most = omega arith;
                   }
 
-              module _ {w4 : List ℕ}
-                  (c4 : SettledAll owners offsets targets (p % 2) p H Rg E w3 w4)
-                where
-                  abbrev R : Set
-                  R = setAt n H w4
+              module _ {w4 : List ℕ} (c4 : Claimed n p H Rg w3 w4) where
+                abbrev R : Set
+                R = setAt n H w4
 
-                  words4 : wordsAt n H w4 ≡ wordsAt n H w3
-                  words4 = between-words between (c4 .keeps)
+                held4-at : (v : ℕ) → setAt n H w3 v ≡ R v
+                held4-at v =
+                    sym (set-kept n H w3 w4 (λ i low high. c4 .keeps .rest i (inl (omega (arith, size)))) v)
 
-                  held4 : setAt n H w3 ≡ R
-                  held4 = ap setOf (sym words4)
+                long4 : length w4 ≡ length w0
+                long4 = c4 .keeps .long ∙ long3
 
-                  held4-at : (v : ℕ) → setAt n H w3 v ≡ R v
-                  held4-at v = ap (λ (S' : Set). S' v) held4
+                pulled4 :
+                    Pulled g (parity p) (upTo (unsolved g T) T p) (atRegion (unsolved g T) T p) R (entryOf n m w2)
+                    (entryOf n m w3)
+                pulled4 = pulled-as lower2 held2 (λ v. held3 v ∙ held4-at v) drawn3
 
-                  long4 : length w4 ≡ length w0
-                  long4 = c4 .keeps .long ∙ long3
+                small4 : (v : ℕ) → R v ≡ true → v < n
+                small4 v i = held-small v (held4-at v ∙ i)
 
-                  pulled4 :
-                      Pulled g (parity p) (upTo (unsolved g T) T p) (atRegion (unsolved g T) T p) R (entryOf n m w2)
-                      (entryOf n m w3)
-                  unfolding gameOf
-                  pulled4 =
-                      pulled-as lower2 held2 (λ v. held3 v ∙ held4-at v)
-                      (record { certificate = c3 .certificate; entered = c3 .entered; kept = c3 .kept })
+                -- the region of v, where b says whether it is in R
+                abbrev regionWhere : Bool → ℕ → ℕ
+                regionWhere b v = cond b p (regionAt Rg w0 v)
 
-                  small4 : (v : ℕ) → R v ≡ true → v < n
-                  small4 v i = held-small v (held4-at v ∙ i)
+                region4 : (v : ℕ) → v < n → regionAt Rg w4 v ≡ regionWhere (R v) v
+                region4 v l =
+                    ⊎-elim
+                    (λ (i : R v ≡ true).
+                    c4 .inside v (held4-at v ∙ i) ∙ sym (ap (λ (b : Bool). regionWhere b v) i))
+                    (λ (i : R v ≡ false).
+                    c4 .outside v l (held4-at v ∙ i) ∙ region3 v ∙
+                    sym (ap (λ (b : Bool). regionWhere b v) i))
+                    (bool-cases (R v))
 
-                  -- the region of v, where b says whether it is in R
-                  abbrev regionWhere : Bool → ℕ → ℕ
-                  regionWhere b v = cond b p (regionAt Rg w0 v)
+                -- words of the table of predecessors, of the unsolved set, and behind R
+                same4 : (i : ℕ) → evenAt n m s ≤ i → Elsewhere n Rg i → getD w4 i 0 ≡ getD w0 i 0
+                same4 i l o = c4 .keeps .rest i o ∙ same3 i l
 
-                  region4 : (v : ℕ) → v < n → regionAt Rg w4 v ≡ regionWhere (R v) v
-                  region4 v l =
-                      ⊎-elim
-                      (λ (i : R v ≡ true).
-                      c4 .inside v (held4-at v ∙ i) .region ∙ sym (ap (λ (b : Bool). regionWhere b v) i))
-                      (λ (i : R v ≡ false).
-                      ap (λ (c : ℕ × ℕ). c .0) (c4 .outside v l (held4-at v ∙ i)) ∙ region3 v ∙
-                      sym (ap (λ (b : Bool). regionWhere b v) i))
-                      (bool-cases (R v))
+                table4 : (i : ℕ) → i < n + 1 + m → getD w4 i 0 ≡ getD w0 i 0
+                table4 i l =
+                    c4 .keeps .rest i (inl (omega arith)) ∙ c3 .table i l ∙ same2 i (inl (omega arith))
 
-                  -- words of the table of predecessors, of the unsolved set, and behind R
-                  same4 : (i : ℕ) → evenAt n m s ≤ i → Elsewhere n Rg i → getD w4 i 0 ≡ getD w0 i 0
-                  same4 i l o = c4 .keeps .rest i (inr (omega arith), o) ∙ same3 i l
+                set4 : (v : ℕ) → setAt n U w4 v ≡ setAt n U w0 v
+                set4 =
+                    set-kept n U w0 w4
+                    (λ i low high.
+                    c4 .keeps .rest i (inl (omega (arith, size))) ∙ unsolved3 i low (omega (arith, size)))
 
-                  table4 : (i : ℕ) → i < n + 1 + m → getD w4 i 0 ≡ getD w0 i 0
-                  table4 i l =
-                      c4 .keeps .rest i (inl (omega arith), inl (omega arith)) ∙ c3 .table i l ∙ same2 i (inl (omega arith))
+                unsolved4 : (v : ℕ) → setAt n U w4 v ≡ (ltb v n && ltb (tableAt n m s w4 v) 256)
+                unsolved4 v =
+                    set4 v ∙ ready .unsolved v ∙
+                    ⊎-elim
+                    (λ l. ap (λ (b : Bool). ltb v n && b) (same-side l (bool-cases (R v))))
+                    (λ l. rw (le-ltb v n l))
+                    (lt-or-ge v n)
+                  where
+                    now : v < n → {b : Bool} → R v ≡ b → tableAt n m s w4 v ≡ regionWhere b v
+                    now l i = table-below n m s w4 v l ∙ region4 v l ∙ ap (λ (b : Bool). regionWhere b v) i
 
-                  set4 : (v : ℕ) → setAt n U w4 v ≡ setAt n U w0 v
-                  set4 =
-                      set-kept n U w0 w4
-                      (λ i low high.
-                      c4 .keeps .rest i (inr (omega arith), inl (omega (arith, size))) ∙ unsolved3 i low (omega (arith, size)))
+                    same-side : v < n → (R v ≡ true) ⊎ (R v ≡ false) → ltb (T v) 256 ≡ ltb (tableAt n m s w4 v) 256
+                    same-side l (inl i) =
+                        let up = pulled4 .certificate .inside v i in
+                        let at = ready .unsolved v ∙ refl in
+                        let low =
+                        and-right (ltb v n) (ltb (T v) 256)
+                        (sym at ∙ sym (left-is v) ∙ and-left (unsolved g T v) (leb (T v) p) up) in
+                        low ∙ sym (lt-ltb (tableAt n m s w4 v) 256 (rw (now l i) small))
+                    same-side l (inr i) =
+                        ap (λ (x : ℕ). ltb x 256)
+                        (table-below n m s w0 v l ∙ sym (now l i))
 
-                  unsolved4 : (v : ℕ) → setAt n U w4 v ≡ (ltb v n && ltb (tableAt n m s w4 v) 256)
-                  unsolved4 v =
-                      set4 v ∙ ready .unsolved v ∙
-                      ⊎-elim
-                      (λ l. ap (λ (b : Bool). ltb v n && b) (same-side l (bool-cases (R v))))
-                      (λ l. rw (le-ltb v n l))
-                      (lt-or-ge v n)
-                    where
-                      now : v < n → {b : Bool} → R v ≡ b → tableAt n m s w4 v ≡ regionWhere b v
-                      now l i = table-below n m s w4 v l ∙ region4 v l ∙ ap (λ (b : Bool). regionWhere b v) i
+                entry4 : (v : ℕ) → v < n → entryOf n m w4 v ≡ entryOf n m w3 v
+                entry4 v l = c4 .keeps .rest (E + v) (inl (omega arith))
 
-                      same-side : v < n → (R v ≡ true) ⊎ (R v ≡ false) → ltb (T v) 256 ≡ ltb (tableAt n m s w4 v) 256
-                      same-side l (inl i) =
-                          let up = pulled4 .certificate .inside v i in
-                          let at = ready .unsolved v ∙ refl in
-                          let low =
-                          and-right (ltb v n) (ltb (T v) 256)
-                          (sym at ∙ sym (left-is v) ∙ and-left (unsolved g T v) (leb (T v) p) up) in
-                          low ∙ sym (lt-ltb (tableAt n m s w4 v) 256 (rw (now l i) small))
-                      same-side l (inr i) =
-                          ap (λ (x : ℕ). ltb x 256)
-                          (table-below n m s w0 v l ∙ sym (now l i))
-
-                  -- an entry is no vertex number
-                  no-vertex : (x : ℕ) → x < n → x ≡ noEntry → ⊥
-                  no-vertex x l e = let few = ready .tallied .few in omega arith
-
-                  attracts4 : Attracts g (unsolved g T) T p R (entryOf n m w0) (entryOf n m w4)
-                  unfolding gameOf
-                  attracts4 =
-                      record {
-                        certificate = pulled4 .certificate;
-                        pulled =
-                            λ v i out o.
-                            let l = small4 v i in
-                            let is = pulled4 .entered v i out o in
-                            let edge = pulled4 .certificate .pulled v i out o .0 in
-                            let end = accepted-total t ok .ends v (pulled4 .certificate .pull v) edge in
-                            c4 .inside v (held4-at v ∙ i) .kept
-                            (λ own none. no-vertex (pulled4 .certificate .pull v) end (sym is ∙ none)) ∙
-                            is;
-                        kept =
-                            λ v i o has.
-                            let r = pulled4 .certificate .closed .target v i in
-                            let l = small4 v r in
-                            c4 .inside v (held4-at v ∙ r) .kept (λ own none. has (sym (stays3 v i) ∙ none)) ∙ stays3 v i;
-                        chosen =
-                            λ v i o none has.
-                            let r = pulled4 .certificate .closed .target v i in
-                            let l = small4 v r in
-                            subst
-                            (λ (S' : Set).
-                            someOf (g .targets v) S' ≡ true → Edge g v (entryOf n m w4 v) × (S' (entryOf n m w4 v) ≡ true))
-                            held4
-                            (c4 .inside v (held4-at v ∙ r) .found (owner-number t ok p v l o) (stays3 v i ∙ none))
-                            has;
-                        missing =
-                            λ v i o none out.
-                            let r = pulled4 .certificate .closed .target v i in
-                            let l = small4 v r in
-                            subst (λ (S' : Set). someOf (g .targets v) S' ≡ false → entryOf n m w4 v ≡ noEntry) held4
-                            (c4 .inside v (held4-at v ∙ r) .missing (owner-number t ok p v l o) (stays3 v i ∙ none))
-                            out;
-                        elsewhere =
-                            λ v l out.
-                            ap (λ (c : ℕ × ℕ). c .1) (c4 .outside v l (held4-at v ∙ out)) ∙
-                            pulled4 .kept v l (λ i. absurd (clash i out)) ∙
-                            entry2 v l;
-                      }
-                    where
-                      -- entries of the old region p
-                      stays3 : (v : ℕ) → atRegion (unsolved g T) T p v ≡ true → entryOf n m w3 v ≡ entryOf n m w0 v
-                      stays3 v i =
+                attracts4 : Attracts g (unsolved g T) T p R (entryOf n m w0) (entryOf n m w4)
+                unfolding gameOf
+                attracts4 =
+                    record {
+                      certificate = pulled4 .certificate;
+                      near = λ v i out o. pulled4 .near v;
+                      pulled = λ v i out o. entry4 v (small4 v i) ∙ pulled4 .entered v i out o;
+                      kept =
+                          λ v i o.
                           let l = small4 v (pulled4 .certificate .closed .target v i) in
-                          pulled4 .kept v l (λ r out. absurd (clash i out)) ∙ entry2 v l
+                          entry4 v l ∙ pulled4 .kept v l (λ r out. absurd (clash i out)) ∙ entry2 v l;
+                      elsewhere =
+                          λ v l out. entry4 v l ∙ pulled4 .kept v l (λ i. absurd (clash i out)) ∙ entry2 v l;
+                    }
 
-                  -- **R, its regions and entries are as a round of the rules asks**
-                  pub queried : Queried owners priorities offsets targets s p w0 w4
-                  queried =
-                      record {
-                        long = long4;
-                        ready =
-                            record {
-                              size = size;
-                              edges = ready .edges;
-                              tallied = c4 .keeps .good;
-                              listed = listed-kept n offsets targets w0 w4 long4 table4 (ready .listed);
-                              unsolved = unsolved4;
-                            };
-                        below = small4;
-                        region = region4;
-                        attracts = attracts4;
-                        rest = same4;
-                      }
+                -- **R, its regions and entries are as a round of the rules asks**
+                pub queried : Queried owners priorities offsets targets s p w0 w4
+                queried =
+                    record {
+                      drawn =
+                          record {
+                            long = long4;
+                            ready =
+                                record {
+                                  size = size;
+                                  edges = ready .edges;
+                                  tallied = c4 .keeps .good;
+                                  listed = listed-kept n offsets targets w0 w4 long4 table4 (ready .listed);
+                                  unsolved = unsolved4;
+                                };
+                            below = small4;
+                            region = region4;
+                            certificate = pulled4 .certificate;
+                            rest = same4;
+                          };
+                      attracts = attracts4;
+                    }

@@ -14,7 +14,7 @@ use Rattle.sets.specs.After.{Put}
 use Rattle.area.specs.Area.{setAt}
 use Rattle.area.specs.Lent.{back, inserted-long, inserted-rest, inserted-here, inserted-there, inserted-other}
 use Rattle.area.specs.Walked.{Walkable, Keeps, Turn, same-turn, Walked}
-use Rattle.promotion_region.specs.Regions.{regionAt}
+use Rattle.promotion_tables.specs.Regions.{regionAt}
 
 -- a word of neither set
 abbrev pub Apart : ℕ → ℕ → ℕ → ℕ → Type 0

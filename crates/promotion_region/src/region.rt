@@ -1,16 +1,14 @@
-// The vertices that R is attracted among, and what R gets: region p, and an entry where an own vertex has none.
-use crate::regions::set_region;
+// The vertices that R is attracted among, and R itself, which gets region p.
 use parity_game::Priority;
+use promotion_tables::regions::set_region;
 use walk::Members;
 use walk::Next;
 ghost use mathlib.Core.List.{List};
 ghost use Prim.Native.Nat.{ℕ};
 ghost use Rattle.rules.specs.Tables.{Accepted, tablesOf};
-ghost use Rattle.attractor.specs.Counters.{EdgesOf};
-ghost use Rattle.promotion_region.specs.Edges.{FoundIn};
 ghost use Rattle.promotion_region.specs.Sorting.{Sortable, Sorted, Collects, Collected};
 ghost use Rattle.promotion_region.specs.Query.{QueryReady, Queried};
-ghost use Rattle.promotion_region.specs.Settling.{Settleable, Settled, SettleAll, SettledAll};
+ghost use Rattle.promotion_region.specs.Claims.{Claimable, Claimed};
 
 // v goes into X where its region is at most p, and into R where it is p.
 fn sort(
@@ -61,65 +59,10 @@ pub fn collect(
     }
 }
 
-// The end of the first edge of v that ends inside the set, or 65,535.
-fn inside_edge(offsets: &[u16], targets: &[u16], v: usize, set: &[u64]) -> u64
-    requires { ⌜ EdgesOf (now offsets) (now targets) v (now set) ⌝ }
-    ensures { λ r. ⌜ FoundIn (now (offsets .entry)) (now (targets .entry)) v (now (set .entry)) r ⌝ }
-{
-    for e in offsets[v] as usize..offsets[v + 1] as usize {
-        let w = targets[e] as usize;
-        if sets::contains(set, w) {
-            return w as u64;
-        }
-    }
-    65535
-}
-
-// v, of R, gets region p; an own vertex without an entry takes an edge that ends in R, if there is one.
-fn settle(
-    owners: &[u8],
-    offsets: &[u16],
-    targets: &[u16],
-    alpha: u8,
-    p: usize,
-    s: usize,
-    work: &mut [u64],
-    held: usize,
-    regions: usize,
-    entries: usize,
-    v: usize,
-)
-    requires { ⌜ Settleable (now owners) (now offsets) (now targets) p s held regions entries v (now work) ⌝ }
-    ensures { λ r.
-        ⌜ Settled (now (owners .entry)) (now (offsets .entry)) (now (targets .entry)) alpha p held regions entries v
-        (now (work .entry)) (now (work .exit)) ⌝ }
-{
-    set_region(owners.len(), work, regions, v, Priority(p));
-    if owners[v] == alpha {
-        if work[entries + v] == 65535 {
-            let w = inside_edge(offsets, targets, v, &work[held..held + s]);
-            work[entries + v] = w;
-        }
-    }
-}
-
 // R gets region p.
-pub fn assign_missing_strategies(
-    owners: &[u8],
-    offsets: &[u16],
-    targets: &[u16],
-    alpha: u8,
-    p: usize,
-    s: usize,
-    work: &mut [u64],
-    held: usize,
-    regions: usize,
-    entries: usize,
-)
-    requires { ⌜ SettleAll (now owners) (now offsets) (now targets) p s held regions entries (now work) ⌝ }
-    ensures { λ r.
-        ⌜ SettledAll (now (owners .entry)) (now (offsets .entry)) (now (targets .entry)) alpha p held regions entries
-        (now (work .entry)) (now (work .exit)) ⌝ }
+pub fn claim(n: usize, p: usize, s: usize, work: &mut [u64], held: usize, regions: usize)
+    requires { ⌜ Claimable n p s held regions (now work) ⌝ }
+    ensures { λ r. ⌜ Claimed n p held regions (now (work .entry)) (now (work .exit)) ⌝ }
 {
     let mut walk = Members::new(&work[held..held + s]);
     loop {
@@ -127,19 +70,7 @@ pub fn assign_missing_strategies(
         let Next::Member(index, rest) = next else {
             return;
         };
-        settle(
-            owners,
-            offsets,
-            targets,
-            alpha,
-            p,
-            s,
-            work,
-            held,
-            regions,
-            entries,
-            index.0,
-        );
+        set_region(n, work, regions, index.0, Priority(p));
         walk = rest;
     }
 }
@@ -155,8 +86,8 @@ pub fn query(owners: &[u8], offsets: &[u16], targets: &[u16], p: usize, s: usize
 {
     let n = owners.len();
     let m = targets.len();
-    let entries = n + 1 + m + n + n;
-    let unsolved = entries + n;
+    let layers = n + 1 + m + n + n + n;
+    let unsolved = layers + 2 * (s + 1);
     let lower = unsolved + s;
     let held = lower + s;
     let regions = held + 3 * s;
@@ -164,16 +95,5 @@ pub fn query(owners: &[u8], offsets: &[u16], targets: &[u16], p: usize, s: usize
     sets::clear(work, lower, 2 * s);
     collect(n, p, s, work, unsolved, lower, held, regions);
     attractor::attract(owners, offsets, targets, alpha, work, lower, held);
-    assign_missing_strategies(
-        owners,
-        offsets,
-        targets,
-        alpha,
-        p,
-        s,
-        work,
-        held,
-        regions,
-        entries,
-    );
+    claim(n, p, s, work, held, regions);
 }

@@ -1,7 +1,7 @@
 -- The tables at first: each vertex has its priority as region and no entry, and nobody has won anything.
 use mathlib.Core.Bool.{Bool, true, false, cond}
 use mathlib.Core.List.{List}
-use mathlib.Core.Logic.{_⊎_, inl, inr, ⊎-elim}
+use mathlib.Core.Logic.{inl, inr, ⊎-elim}
 use mathlib.Core.Path.{_≡_, refl, sym, ap, _∙_}
 use Prim.Native.Nat.{ℕ, zero, suc, _+_, _*_, _≤_, _<_}
 use native.Mathlib.Decide.{ℕ-discrete}
@@ -15,9 +15,9 @@ use Rattle.rules.specs.Words.{noEntry}
 use Rattle.sets.specs.After.{Cleared}
 use Rattle.area.specs.Area.{entries}
 use Rattle.area.specs.Walked.{Keeps, keeps-none, keeps-then}
-use Rattle.promotion_region.specs.Regions.{regionAt, Tallied, highestUnder}
-use Rattle.promotion_region.specs.Cells.{Aside, Placed, Becomes}
-use Rattle.promotion_region.specs.Layout.{lowerAt, regionsAt}
+use Rattle.promotion_tables.specs.Regions.{regionAt, Tallied, highestUnder}
+use Rattle.promotion_tables.specs.Cells.{Aside, Placed, Becomes}
+use Rattle.promotion_tables.specs.Layout.{lowerAt, regionsAt}
 
 -- what `begin` asks for
 pub record Beginnable (priorities : List ℕ) (m s : ℕ) (work : List ℕ) : Type 0 where

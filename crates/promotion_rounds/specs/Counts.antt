@@ -14,10 +14,10 @@ use Rattle.rules.specs.Tables.{gameOf, tablesOf}
 use Rattle.rules.specs.Promotion.{Regions, unsolved, roundOf, afterRounds}
 use Rattle.theory.specs.Basics.{count-cong, count-none, lt-or-ge}
 use Rattle.predecessors.specs.Stages.{sumTo}
-use Rattle.area.specs.Area.{free, setAt}
-use Rattle.promotion_region.specs.Regions.{regionAt, Tallied}
-use Rattle.promotion_region.specs.Layout.{regionsAt, tableAt, table-below, Ready}
-use Rattle.promotion_rounds.specs.Round.{Shows}
+use Rattle.area.specs.Area.{setAt}
+use Rattle.promotion_tables.specs.Regions.{regionAt, Tallied}
+use Rattle.promotion_tables.specs.Layout.{unsolvedAt, regionsAt, tableAt, table-below, Ready}
+use Rattle.promotion_rounds.specs.Shown.{Shows}
 use Rattle.promotion_rounds.specs.Rounds.{RoundReady, RoundDone}
 use Rattle.promotion_rounds.specs.Solve.{Reached, left-is}
 
@@ -65,7 +65,7 @@ counts-below n regions work t (suc k) l =
 pub counts-add-up :
     {n : ℕ} {offsets targets : List ℕ} {s : ℕ} {work : List ℕ} →
     Ready n offsets targets s work →
-    countsAt n (length targets) s work ≡ count n (setAt n (free n (length targets)) work)
+    countsAt n (length targets) s work ≡ count n (setAt n (unsolvedAt n (length targets) s) work)
 counts-add-up {n} {offsets} {targets} {s} {work} ready =
     counts-below n (regionsAt n (length targets) s) work (ready .tallied) 256 (omega arith) ∙
     count-cong n _ _

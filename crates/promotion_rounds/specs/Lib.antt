@@ -1,4 +1,6 @@
 -- What a round, and the rounds under a budget, make of the work area.
+pub mod Shown
+pub mod Filled
 pub mod Round
 pub mod Rounds
 pub mod Solve

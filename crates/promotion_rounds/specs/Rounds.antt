@@ -7,8 +7,8 @@ use lib.ListN.{length, getD}
 use Rattle.rules.specs.Tables.{gameOf, Accepted, tablesOf}
 use Rattle.rules.specs.Promotion.{roundOf, afterRounds}
 use Rattle.theory.specs.PromotionEntries.{RoundEntries}
-use Rattle.promotion_region.specs.Layout.{regionsAt, entryOf}
-use Rattle.promotion_rounds.specs.Round.{Shows}
+use Rattle.promotion_tables.specs.Layout.{regionsAt, entryOf}
+use Rattle.promotion_rounds.specs.Shown.{Shows}
 
 -- the work area and the small state show the state after some number of rounds
 pub record RoundReady (owners priorities offsets targets : List ℕ) (s current left rounds : ℕ) (work : List ℕ) : Type 0 where

@@ -14,9 +14,9 @@ use Rattle.rules.specs.Tables.{gameOf, Accepted, tablesOf}
 use Rattle.rules.specs.Promotion.{Regions, unsolved, afterRounds, allSolved, roundsNeeded}
 use Rattle.theory.specs.Basics.{some-intro, false-some, count-zero, count-some, lowest-unique, lowest-none}
 use Rattle.theory.specs.PromotionEntries.{Rounded, rounds}
-use Rattle.area.specs.Area.{free, setAt}
-use Rattle.promotion_region.specs.Layout.{regionsAt, table-below, entryOf}
-use Rattle.promotion_rounds.specs.Round.{Shows}
+use Rattle.area.specs.Area.{setAt}
+use Rattle.promotion_tables.specs.Layout.{unsolvedAt, regionsAt, table-below, entryOf}
+use Rattle.promotion_rounds.specs.Shown.{Shows}
 use Rattle.promotion_rounds.specs.Rounds.{RoundReady, RoundDone}
 
 abbrev gameBy : List ℕ → List ℕ → List ℕ → List ℕ → Game
@@ -62,7 +62,7 @@ module _ {owners priorities offsets targets : List ℕ} {s : ℕ} where
 
     -- the unsolved vertices, in the work area and by the rules
     abbrev left : Set
-    left = setAt n (free n m) work
+    left = setAt n (unsolvedAt n m s) work
 
     abbrev leftBy : Set
     leftBy = unsolved (gameBy owners priorities offsets targets) (r .region)

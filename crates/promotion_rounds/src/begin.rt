@@ -1,7 +1,7 @@
 // The state at first.
 use crate::round::State;
-use promotion_region::next_priority;
-use promotion_region::reset;
+use promotion_tables::regions::next_priority;
+use promotion_tables::regions::reset;
 ghost use mathlib.Core.Path.{_≡_};
 ghost use lib.ListN.{length};
 ghost use Rattle.promotion_rounds.specs.Beginning.{Beginnable, Begun};
@@ -17,7 +17,7 @@ pub fn begin(priorities: &[u16], m: usize, s: usize, work: &mut [u64]) -> State
 {
     let n = priorities.len();
     let entries = n + 1 + m + n + n;
-    let lower = entries + n + s;
+    let lower = entries + n + 2 * (s + 1) + s;
     let regions = lower + s + 3 * s;
     sets::clear(work, lower, 4 * s + n + 257);
     work[regions + n] = n as u64;

@@ -1,11 +1,12 @@
 // One round on plain slices, with the small state by value.
 use parity_game::Priority;
-use promotion_region::apply_priority_promotion;
-use promotion_region::best_escape;
-use promotion_region::is_open;
-use promotion_region::next_priority;
+use promotion_moves::dominion::solve_dominion;
+use promotion_moves::fill::assign_missing_strategies;
+use promotion_moves::promote::apply_priority_promotion;
 use promotion_region::query;
-use promotion_region::solve_dominion;
+use promotion_tables::regions::next_priority;
+use promotion_tests::escape::best_escape;
+use promotion_tests::open::is_open;
 ghost use Rattle.promotion_rounds.specs.Rounds.{RoundReady, RoundDone};
 
 // The current priority, how many vertices are unsolved, and the rounds made.
@@ -35,7 +36,7 @@ pub fn round(
     let n = owners.len();
     let m = targets.len();
     let entries = n + 1 + m + n + n;
-    let unsolved = entries + n;
+    let unsolved = entries + n + 2 * (s + 1);
     let held = unsolved + s + s;
     let regions = held + 3 * s;
     let p = state.current.0;
@@ -50,6 +51,7 @@ pub fn round(
             rounds,
         };
     }
+    assign_missing_strategies(owners, offsets, targets, alpha, s, work, held, entries);
     let q = best_escape(owners, offsets, targets, alpha, p, s, work, held, regions);
     if q < 256 {
         apply_priority_promotion(priorities, q, s, work, unsolved, held, regions, entries);

@@ -25,7 +25,7 @@ use Rattle.area.specs.SetsAt.{set-kept, set-cleared, set-copied-here, set-reduc
 use Rattle.area.specs.Lent.{part-length, words-cover, words-few}
 use Rattle.area.specs.Walking.{lent-part}
 use Rattle.attractor.specs.Attracted.{Attractable, Attracted}
-use Rattle.attractor.specs.Running.{listed-kept}
+use Rattle.attractor.specs.Attracted.{listed-kept}
 use Rattle.predecessors.specs.Table.{SoundEdges}
 use Rattle.zielonka_level.specs.Parts.{Searchable, Collects, Collected}
 use Rattle.quasi_level.specs.Level.{nextLevel, onLevel, drawnAt, Held, Ready, Stays, TopCut, Droppable, Dropped}

@@ -22,11 +22,11 @@ use Rattle.theory.specs.Tables.{accepted-total, accepted-priority}
 use Rattle.theory.specs.Zielonka.{everywhere-below, everywhere-total}
 use Rattle.sets.specs.After.{Combined, other}
 use Rattle.sets.specs.Laws.{other-bit}
-use Rattle.area.specs.Area.{free, setAt, wordsAt}
+use Rattle.area.specs.Area.{layers, free, setAt, wordsAt}
 use Rattle.area.specs.Lent.{part-is, part-length}
 use Rattle.area.specs.SetsAt.{set-kept, set-copied-here, set-reduced}
 use Rattle.solver.specs.Preparing.{Preparable, Prepared}
-use Rattle.attractor.specs.Running.{listed-kept}
+use Rattle.attractor.specs.Attracted.{listed-kept}
 use Rattle.separation.specs.Separates.{Separates, separates-over}
 use Rattle.separation.specs.Stages.{separates-asked}
 use Rattle.separation.specs.Opinion.{opinion-wins}
@@ -50,62 +50,62 @@ pub record Opinion (t : Tables) (evens odds : List ℕ) : Type 0 where
   pub even : Holds (vertices t) (won Even) evens
   pub odd : Holds (vertices t) (won Odd) odds
 
--- where the set of all vertices stands
-abbrev pub allAt : Tables → ℕ
-allAt t = free (vertices t) (edgesIn t)
+-- where the set of all vertices stands, by the words of a set: the first free place
+abbrev pub allAt : Tables → ℕ → ℕ
+allAt t s = layers (vertices t) (edgesIn t) + 2 * (s + 1)
 
 -- W words have room for the two sets and a level for each height
 levels-fit : (n m : ℕ) → free n m + words n + 2064 * words n ≤ opinionWords n m
 unfolding opinionWords workWords
 levels-fit n m =
-    let wide : 1 * words n ≤ 8 * (n + 2) * words n = mul-le-mul-right (words n) (omega arith) in omega arith
+    let wide : 3 * words n ≤ 8 * (n + 2) * words n = mul-le-mul-right (words n) (omega arith) in omega arith
 
 module _ {t : Tables} {even odd w₀ : List ℕ} (given : Runnable t even odd w₀) where
   abbrev n : ℕ
   n = vertices t
 
-  fits : allAt t + length even + 2064 * length even ≤ length w₀
+  fits : allAt t (length even) + length even + 2064 * length even ≤ length w₀
   fits = omega (arith, levels-fit (vertices t) (edgesIn t), given .room, given .even-size)
 
   -- both sets stand in the work area
-  pub run-fits : allAt t + length even + length even ≤ length w₀
+  pub run-fits : allAt t (length even) + length even + length even ≤ length w₀
   run-fits = omega (arith, fits)
 
   -- what `prepare` asks for
-  pub run-preparable : Preparable (vertices t) (t .offsets) (t .targets) (length even) (allAt t) w₀
+  pub run-preparable : Preparable (vertices t) (t .offsets) (t .targets) (length even) (allAt t (length even)) w₀
   run-preparable =
       record {
         edges = sound-edges t (given .accepted);
         size = given .even-size;
-        low = omega arith;
+        low = omega (arith, given .even-size);
         high = omega (arith, fits);
       }
 
   module _ {w₁ w₂ : List ℕ}
-      (prepared : Prepared (vertices t) (t .offsets) (t .targets) (allAt t) w₀ w₁)
-      (copied : Combined other (allAt t + length even) (allAt t) (length even) w₁ w₂)
+      (prepared : Prepared (vertices t) (t .offsets) (t .targets) (allAt t (length even)) w₀ w₁)
+      (copied : Combined other (allAt t (length even) + length even) (allAt t (length even)) (length even) w₁ w₂)
     where
       size : length even ≡ words (vertices t)
       size = given .even-size
 
-      copied′ : Combined other (allAt t + words (vertices t)) (allAt t) (words (vertices t)) w₁ w₂
-      copied′ = rw size at copied
+      copied′ : Combined other (allAt t (length even) + words (vertices t)) (allAt t (length even)) (words (vertices t)) w₁ w₂
+      copied′ = subst (λ (k : ℕ). Combined other (allAt t (length even) + k) (allAt t (length even)) k w₁ w₂) size copied
 
       -- all vertices stand in both sets
-      all : (v : ℕ) → onLevel t (allAt t) w₂ v ≡ everywhere (gameOf t) v
+      all : (v : ℕ) → onLevel t (allAt t (length even)) w₂ v ≡ everywhere (gameOf t) v
       unfolding gameOf
       all v =
-          set-kept (vertices t) (allAt t) w₁ w₂ (λ i l h. copied′ .rest i (inl (omega arith))) v ∙ prepared .full v
+          set-kept (vertices t) (allAt t (length even)) w₁ w₂ (λ i l h. copied′ .rest i (inl (omega arith))) v ∙ prepared .full v
 
-      narrowed : (v : ℕ) → onLevel t (allAt t + length even) w₂ v ≡ everywhere (gameOf t) v
+      narrowed : (v : ℕ) → onLevel t (allAt t (length even) + length even) w₂ v ≡ everywhere (gameOf t) v
       unfolding gameOf
       narrowed v =
-          ap (λ (k : ℕ). onLevel t (allAt t + k) w₂ v) size ∙
-          set-copied-here (vertices t) (allAt t + words (vertices t)) (allAt t) w₁ w₂ copied′ v ∙
+          ap (λ (k : ℕ). onLevel t (allAt t (length even) + k) w₂ v) size ∙
+          set-copied-here (vertices t) (allAt t (length even) + words (vertices t)) (allAt t (length even)) w₁ w₂ copied′ v ∙
           prepared .full v
 
       -- what the solver for Even asks for
-      pub run-called : Called t Even (allAt t + length even) 257 w₂
+      pub run-called : Called t Even (allAt t (length even) + length even) 257 w₂
       unfolding gameOf
       run-called =
           record {
@@ -114,7 +114,7 @@ module _ {t : Tables} {even odd w₀ : List ℕ} (given : Runnable t even odd w�
                 listed-kept (vertices t) (t .offsets) (t .targets) w₁ w₂ (copied .long)
                 (λ i l. copied .rest i (inl (omega arith)))
                 (prepared .listed);
-            low = omega arith;
+            low = omega (arith, size);
             room =
                 let levels : words (vertices t) * (257 + 1) ≡ 258 * words (vertices t) = omega arith in
                 omega (arith, fits, copied .long, prepared .long, size);
@@ -127,34 +127,34 @@ module _ {t : Tables} {even odd w₀ : List ℕ} (given : Runnable t even odd w�
           }
 
       module _ {w₃ w₄ : List ℕ} {r : Sharp}
-          (solved : Solved t Even (allAt t + length even) (vertices t) (vertices t) w₂ w₃ r)
-          (reduced : Combined _-_ (allAt t) (allAt t + length even) (length even) w₃ w₄)
+          (solved : Solved t Even (allAt t (length even) + length even) (vertices t) (vertices t) w₂ w₃ r)
+          (reduced : Combined _-_ (allAt t (length even)) (allAt t (length even) + length even) (length even) w₃ w₄)
         where
-          reduced′ : Combined _-_ (allAt t) (allAt t + words (vertices t)) (words (vertices t)) w₃ w₄
-          reduced′ = rw size at reduced
+          reduced′ : Combined _-_ (allAt t (length even)) (allAt t (length even) + words (vertices t)) (words (vertices t)) w₃ w₄
+          reduced′ = subst (λ (k : ℕ). Combined _-_ (allAt t (length even)) (allAt t (length even) + k) k w₃ w₄) size reduced
 
           pub run-long : length w₄ ≡ length w₀
           run-long = reduced .long ∙ solved .stays .long ∙ copied .long ∙ prepared .long
 
           -- Even's set, and what is left of all vertices without it
           abbrev R : Set
-          R = onLevel t (allAt t + length even) w₃
+          R = onLevel t (allAt t (length even) + length even) w₃
 
           parts : Separates (gameOf t) Even (everywhere (gameOf t)) (gameOf t .size) (gameOf t .size) R
           unfolding gameOf
           parts = separates-over narrowed (λ v. refl) (separates-asked (r .keeps) (r .drops) (solved .parts))
 
-          evens : (v : ℕ) → setAt (vertices t) (allAt t + length even) w₄ v ≡ R v
+          evens : (v : ℕ) → setAt (vertices t) (allAt t (length even) + length even) w₄ v ≡ R v
           evens v =
-              set-kept (vertices t) (allAt t + length even) w₃ w₄
+              set-kept (vertices t) (allAt t (length even) + length even) w₃ w₄
               (λ i l h. reduced .rest i (inr (omega (arith, size)))) v
 
-          odds : (v : ℕ) → setAt (vertices t) (allAt t) w₄ v ≡ without (everywhere (gameOf t)) R v
+          odds : (v : ℕ) → setAt (vertices t) (allAt t (length even)) w₄ v ≡ without (everywhere (gameOf t)) R v
           odds v =
-              set-reduced (vertices t) (allAt t) (allAt t + words (vertices t)) w₃ w₄ reduced′ v ∙
+              set-reduced (vertices t) (allAt t (length even)) (allAt t (length even) + words (vertices t)) w₃ w₄ reduced′ v ∙
               ap₂ (λ (x y : Bool). x && not y)
-              (set-kept (vertices t) (allAt t) w₂ w₃ (λ i l h. solved .stays .lower i l (omega (arith, size))) v ∙ all v)
-              (ap (λ (k : ℕ). onLevel t (allAt t + k) w₃ v) (sym size))
+              (set-kept (vertices t) (allAt t (length even)) w₂ w₃ (λ i l h. solved .stays .lower i (omega (arith, size)) (omega (arith, size))) v ∙ all v)
+              (ap (λ (k : ℕ). onLevel t (allAt t (length even) + k) w₃ v) (sym size))
 
           -- a set of the work area that has no vertex at n or above, copied out
           holds :
@@ -179,8 +179,8 @@ module _ {t : Tables} {even odd w₀ : List ℕ} (given : Runnable t even odd w�
           -- **What is copied out are the winning sets.**
           pub run-opinion :
               (even′ odd′ : List ℕ) →
-              even′ ≡ take ((allAt t + length even + length even) - (allAt t + length even)) (drop (allAt t + length even) w₄) →
-              odd′ ≡ take ((allAt t + length even) - allAt t) (drop (allAt t) w₄) →
+              even′ ≡ take ((allAt t (length even) + length even + length even) - (allAt t (length even) + length even)) (drop (allAt t (length even) + length even) w₄) →
+              odd′ ≡ take ((allAt t (length even) + length even) - allAt t (length even)) (drop (allAt t (length even)) w₄) →
               Opinion t even′ odd′
           unfolding gameOf
           run-opinion even′ odd′ e o =
@@ -188,11 +188,11 @@ module _ {t : Tables} {even odd w₀ : List ℕ} (given : Runnable t even odd w�
                 won = wonBy Even R (without (everywhere (gameOf t)) R);
                 wins = opinion-wins (gameOf t) (accepted-total t (given .accepted)) R parts;
                 even =
-                    holds (allAt t + length even) R even′ (omega (arith, fits, run-long)) evens
+                    holds (allAt t (length even) + length even) R even′ (omega (arith, fits, run-long)) evens
                     (λ v p. everywhere-below (gameOf t) v (parts .inside v p))
                     e;
                 odd =
-                    holds (allAt t) (without (everywhere (gameOf t)) R) odd′ (omega (arith, fits, run-long)) odds
+                    holds (allAt t (length even)) (without (everywhere (gameOf t)) R) odd′ (omega (arith, fits, run-long)) odds
                     (λ v p. everywhere-below (gameOf t) v (and-left (everywhere (gameOf t) v) _ p))
                     o;
               }

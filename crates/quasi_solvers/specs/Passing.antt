@@ -25,7 +25,7 @@ use Rattle.theory.specs.Run.{Top, highest-top}
 use Rattle.theory.specs.Tables.{accepted-sound}
 use Rattle.area.specs.Area.{free, setAt}
 use Rattle.area.specs.SetsAt.{set-kept, set-cleared, set-copied-here, set-reduced}
-use Rattle.attractor.specs.Running.{listed-kept}
+use Rattle.attractor.specs.Attracted.{listed-kept}
 use Rattle.separation.specs.Separates.{Separates, separates-over, gives-up, gives-up-empty, precision-cut, passed-over}
 use Rattle.separation.specs.Passing.{Pass, found-inside}
 use Rattle.separation.specs.Stages.{raised, precisionAt, nextStage, Standing, stage-begins, stage-found, stage-nothing}

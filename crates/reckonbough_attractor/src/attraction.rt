@@ -17,6 +17,7 @@ pub extern "C" fn reckonbough_attractor(
     target: &[u64],
     result: &mut [u64],
     strategy: &mut [u16],
+    distances: &mut [u16],
     work: &mut [u64],
     place: &mut u64,
     count: &mut u64,
@@ -25,8 +26,18 @@ pub extern "C" fn reckonbough_attractor(
         ⌜ Attracts
         (tablesOf (now (owners .entry)) (now (priorities .entry)) (now (offsets .entry)) (now (targets .entry)))
         (playerOf player) (now (within .entry)) (now (target .entry))
-        (record { result = now (result .entry); strategy = now (strategy .entry); work = now (work .entry) })
-        (record { result = now (result .exit); strategy = now (strategy .exit); work = now (work .exit) })
+        (record {
+          result = now (result .entry);
+          strategy = now (strategy .entry);
+          distances = now (distances .entry);
+          work = now (work .entry);
+        })
+        (record {
+          result = now (result .exit);
+          strategy = now (strategy .exit);
+          distances = now (distances .exit);
+          work = now (work .exit);
+        })
         (told n (now (place .exit)) (now (count .exit))) ⌝ }
 {
     let alpha = Player::from_index(player);
@@ -41,6 +52,7 @@ pub extern "C" fn reckonbough_attractor(
             target,
             result,
             strategy,
+            distances,
             work,
         ),
         place,

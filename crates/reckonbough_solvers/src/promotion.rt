@@ -24,6 +24,7 @@ pub extern "C" fn reckonbough_priority_promotion(
         tablesOf (now (owners .entry)) (now (priorities .entry)) (now (offsets .entry)) (now (targets .entry)) in
         Solves budget t (roundsNeeded (gameOf t) budget)
         (afterRounds (gameOf t) (roundsNeeded (gameOf t) budget) .won)
+        (afterRounds (gameOf t) (roundsNeeded (gameOf t) budget) .entries)
         (record {
           even = now (even .entry);
           odd = now (odd .entry);

@@ -22,7 +22,7 @@ pub extern "C" fn reckonbough_zielonka(
     ensures { λ n.
         ⌜ (let t =
         tablesOf (now (owners .entry)) (now (priorities .entry)) (now (offsets .entry)) (now (targets .entry)) in
-        Solves budget t (zielonka (gameOf t) .calls) (zielonka (gameOf t) .won)
+        Solves budget t (zielonka (gameOf t) .calls) (zielonka (gameOf t) .won) (zielonka (gameOf t) .entries)
         (record {
           even = now (even .entry);
           odd = now (odd .entry);

@@ -7,6 +7,7 @@ pub mod Tables
 pub mod Words
 pub mod Winning
 pub mod Attractor
+pub mod Distance
 pub mod Zielonka
 pub mod Budget
 pub mod Promotion

@@ -1,10 +1,12 @@
--- Priority promotion: the round on regions, and how many rounds are needed.
+-- Priority promotion: the round on regions with the entries that it chooses, and how many rounds are needed.
 use mathlib.Core.Bool.{Bool, true, false, _&&_, not, cond}
 use Prim.Native.Nat.{ℕ, zero, suc}
 use lib.Dec.{eqb, ltb, leb}
 use Rattle.rules.specs.Counting.{Set, nobody, union, some, someOf, lowest, greatest, within, noted}
 use Rattle.rules.specs.Game.{Player, Game, parity, same}
 use Rattle.rules.specs.Attractor.{attractor}
+use Rattle.rules.specs.Distance.{attractorEntry, lowestIn}
+use Rattle.rules.specs.Words.{noEntry}
 
 -- the region of a solved vertex, outside 0..255
 abbrev pub solvedRegion : ℕ
@@ -15,6 +17,8 @@ pub record Regions : Type 0 where
   -- p, the current priority
   pub current : ℕ
   pub won : Player → Set
+  -- the choice at each vertex, or none
+  pub entries : ℕ → ℕ
 
 -- the vertices that are not solved
 abbrev pub unsolved : Game → (ℕ → ℕ) → Set
@@ -31,14 +35,32 @@ atStart g =
       region = noted solvedRegion (g .size) (g .priority);
       current = highestRegion g (noted solvedRegion (g .size) (g .priority));
       won = λ a. nobody;
+      entries = λ v. noEntry;
     }
+
+-- the unsolved vertices of region at most p, and those of region p
+abbrev pub upTo : Game → Regions → Set
+upTo g s v = unsolved g (s .region) v && leb (s .region v) (s .current)
+
+abbrev pub atRegion : Game → Regions → Set
+atRegion g s v = unsolved g (s .region) v && eqb (s .region v) (s .current)
 
 -- R: the attractor, for p's player, of region p among unsolved vertices of region at most p
 unfoldable pub regionSet : Game → Regions → Set
-regionSet g s =
-    attractor g (parity (s .current))
-    (λ v. unsolved g (s .region) v && leb (s .region v) (s .current))
-    (λ v. unsolved g (s .region) v && eqb (s .region v) (s .current))
+regionSet g s = attractor g (parity (s .current)) (upTo g s) (atRegion g s)
+
+-- the entries once R is drawn in: the attractor's for whom it draws in
+unfoldable pub drawnEntries : Game → Regions → Set → ℕ → ℕ
+drawnEntries g s R =
+    let drawn = attractorEntry g (parity (s .current)) (upTo g s) (atRegion g s) in
+    noted noEntry (g .size) (λ v. cond (R v && not (atRegion g s v)) (drawn v) (s .entries v))
+
+-- the entries when R closes: an own vertex of R that has none takes its lowest-numbered successor in R
+unfoldable pub closedEntries : Game → Regions → Set → ℕ → ℕ
+closedEntries g s R =
+    let now = drawnEntries g s R in
+    noted noEntry (g .size)
+    (λ v. cond (R v && same (g .owner v) (parity (s .current)) && eqb (now v) noEntry) (lowestIn g R v) (now v))
 
 -- an opponent vertex of R has an unsolved successor of region below p, or an own vertex none in R
 unfoldable pub isOpen : Game → Regions → Set → Bool
@@ -66,33 +88,43 @@ movedDown g s R =
       region = region;
       current = cond (some (g .size) below) (greatest (g .size) below region) (s .current);
       won = s .won;
+      entries = drawnEntries g s R;
     }
 
--- a dominion: the attractor of R among all unsolved is won and solved; the others get their own priorities back; p is the
--- highest region
+-- a dominion: the attractor of R among all unsolved is won and solved; the others get their own priorities back, and no entry; p
+-- is the highest region
 unfoldable pub dominionSolved : Game → Regions → Set → Regions
 dominionSolved g s R =
     let a = parity (s .current) in
     let D = attractor g a (unsolved g (s .region)) R in
+    let drawn = attractorEntry g a (unsolved g (s .region)) R in
+    let closed = closedEntries g s R in
     let region = noted solvedRegion (g .size) (λ v. cond (unsolved g (s .region) v && not (D v)) (g .priority v) solvedRegion) in
     record {
       region = region;
       current = highestRegion g region;
       won = λ b. cond (same a b) (within (g .size) (union (s .won b) D)) (s .won b);
+      entries =
+          noted noEntry (g .size)
+          (λ v. cond (R v) (closed v) (cond (unsolved g (s .region) v) (drawn v) (s .entries v)));
     }
 
 -- a promotion: q is the lowest region above p among the ways out. R gets region q, other regions below q go back to own
--- priorities, p becomes q
+-- priorities and lose their entries, p becomes q
 unfoldable pub promoted : Game → Regions → Set → Regions
 promoted g s R =
     let q =
     lowest solvedRegion (λ q. ltb (s .current) q && some (g .size) (λ w. wayOut g s R w && eqb (s .region w) q)) in
+    let closed = closedEntries g s R in
     record {
       region =
           noted solvedRegion (g .size)
           (λ v. cond (R v) q (cond (unsolved g (s .region) v && ltb (s .region v) q) (g .priority v) (s .region v)));
       current = q;
       won = s .won;
+      entries =
+          noted noEntry (g .size)
+          (λ v. cond (R v) (closed v) (cond (unsolved g (s .region) v && ltb (s .region v) q) noEntry (s .entries v)));
     }
 
 -- one round

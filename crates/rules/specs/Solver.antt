@@ -6,11 +6,10 @@ use mathlib.Core.Path.{_≡_}
 use Prim.Native.Nat.{ℕ}
 use lib.Dec.{ltb}
 use lib.ListN.{length, drop, replicate}
-use Rattle.rules.specs.Counting.{Set}
+use Rattle.rules.specs.Counting.{Set, listed}
 use Rattle.rules.specs.Game.{Player, Even, Odd}
 use Rattle.rules.specs.Outcome.{Outcome, Verdict, none, refused, outcome, budgeted, _then_}
-use Rattle.rules.specs.Tables.{Tables, gameOf, vertices, edgesIn, workWords, tableChecks, check9, check10}
-use Rattle.rules.specs.Winning.{WinningEntries}
+use Rattle.rules.specs.Tables.{Tables, vertices, edgesIn, workWords, tableChecks, check9, check10}
 use Rattle.rules.specs.Words.{Holds}
 
 -- the work area after an answer or 13: the first W words zero, the words beyond as they were
@@ -31,12 +30,11 @@ solverChecks t lent =
     check9 (vertices t) (length (lent .even) ∷ length (lent .odd) ∷ []) (length (lent .strategy) ∷ []) then
     check10 (vertices t) (edgesIn t) (length (lent .work))
 
--- after an answer: the sets, and entries that are a winning choice
-pub record Answered (t : Tables) (won : Player → Set) (before after : Lent) : Type 0 where
+-- after an answer: the sets, and the entries
+pub record Answered (t : Tables) (won : Player → Set) (entries : ℕ → ℕ) (before after : Lent) : Type 0 where
   pub even : Holds (vertices t) (won Even) (after .even)
   pub odd : Holds (vertices t) (won Odd) (after .odd)
-  pub long : length (after .strategy) ≡ vertices t
-  pub entries : WinningEntries (gameOf t) won (after .strategy)
+  pub strategy : after .strategy ≡ listed (vertices t) entries
   pub work : after .work ≡ cleared t (before .work)
 
 -- after 13: sets and strategy as before
@@ -47,19 +45,20 @@ pub record Stopped (t : Tables) (before after : Lent) : Type 0 where
   pub work : after .work ≡ cleared t (before .work)
 
 -- by cases: a refusal of 1 to 10 writes nothing; then 13 where more is needed than the budget; else an answer
-abbrev pub Leaves : Verdict → Bool → Tables → (Player → Set) → Lent → Lent → Type 0
-Leaves (refused k p) over t won before after = after ≡ before
-Leaves none true t won before after = Stopped t before after
-Leaves none false t won before after = Answered t won before after
+abbrev pub Leaves : Verdict → Bool → Tables → (Player → Set) → (ℕ → ℕ) → Lent → Lent → Type 0
+Leaves (refused k p) over t won entries before after = after ≡ before
+Leaves none true t won entries before after = Stopped t before after
+Leaves none false t won entries before after = Answered t won entries before after
 
--- a solver that needs so many calls or rounds for its sets, under a budget
+-- a solver that needs so many calls or rounds for its sets and entries, under a budget
 pub record Solves
     (budget : ℕ)
     (t : Tables)
     (needed : ℕ)
     (won : Player → Set)
+    (entries : ℕ → ℕ)
     (before after : Lent)
     (o : Outcome)
     : Type 0 where
   pub gives : o ≡ outcome (solverChecks t before) (budgeted budget needed)
-  pub leaves : Leaves (solverChecks t before) (ltb budget needed) t won before after
+  pub leaves : Leaves (solverChecks t before) (ltb budget needed) t won entries before after

@@ -75,7 +75,7 @@ one-shifted : (i : ℕ) → i < 64 → (1 * 2 ^ i) % 2 ^ 64 ≡ 2 ^ i
 one-shifted i h = shl-exact 1 i 64 (lit< tt) (omega arith) ∙ omega arith
 
 -- w | (1 << i) has digit 1 at i, and else the digits of w
-digit-insert : (w i k : ℕ) → i < 64 → digit (bitOr w ((1 * 2 ^ i) % 2 ^ 64)) k ≡ cond (eqb k i) 1 (digit w k)
+pub digit-insert : (w i k : ℕ) → i < 64 → digit (bitOr w ((1 * 2 ^ i) % 2 ^ 64)) k ≡ cond (eqb k i) 1 (digit w k)
 digit-insert w i k h =
     ap (λ (x : ℕ). digit (bitOr w x) k) (one-shifted i h) ∙ digit-or w (2 ^ i) k
     ∙ ap (λ (x : ℕ). max (digit w k) x) (digit-one-bit i k) ∙ go (eqb k i)

@@ -28,7 +28,7 @@ use Rattle.parity_game.specs.Said.{refusal}
 use Rattle.predecessors.specs.Table as Table
 use Rattle.predecessors.specs.Table.{Predecessors}
 use Rattle.predecessors.specs.Whole.{accepted-edges}
-use Rattle.attractor.specs.Running.{own-is}
+use Rattle.attractor.specs.Attracted.{own-is}
 use Rattle.depth_first.specs.Area.{behind}
 use Rattle.depth_first.specs.Graph.{Graph, graph, gameIn, Leads, SoundGraph, keeping}
 use Rattle.depth_first.specs.Leading.{link, leads}

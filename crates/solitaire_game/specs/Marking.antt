@@ -21,9 +21,7 @@ use Rattle.theory.specs.Tables.{accepted-priority}
 use Rattle.parity_game.specs.Laws.{accepted-sound}
 use Rattle.predecessors.specs.Table.{Ready, Predecessors}
 use Rattle.predecessors.specs.Whole.{accepted-edges}
-use Rattle.attractor.specs.Attracted.{Listed}
-use Rattle.attractor.specs.Running.{listed-kept, own-is}
-use Rattle.attractor.specs.Listing.{built-listed}
+use Rattle.attractor.specs.Attracted.{Listed, listed-kept, own-is, built-listed}
 use Rattle.depth_first.specs.Area.{behind, Cleared, marked, marked-true}
 use Rattle.parts.specs.Parity.{Sweepable, Swept, predecessor-rows, graph-sound, swept-all}
 

@@ -20,10 +20,8 @@ use Rattle.theory.specs.Solitaire.{accepted-one-owner}
 use Rattle.theory.specs.SolitaireAttractor.{solitaire-attractor}
 use Rattle.theory.specs.Tables.{accepted-total}
 use Rattle.parity_game.specs.Laws.{accepted-sound}
-use Rattle.area.specs.Area.{setAt, wordsAt}
-use Rattle.attractor.specs.Attracted.{Attractable, Attracted}
-use Rattle.attractor.specs.Running.{listed-kept}
-use Rattle.attractor.specs.Listing.{edges-sound}
+use Rattle.area.specs.Area.{free, setAt, wordsAt}
+use Rattle.attractor.specs.Attracted.{Attractable, Attracted, listed-kept, edges-sound}
 use Rattle.area.specs.Lent.{part-is}
 use Rattle.depth_first.specs.Area.{behind, marked-true}
 use Rattle.solitaire_game.specs.Checks.{Passed}
@@ -37,20 +35,21 @@ pub record Runnable (t : Tables) (set work : List ℕ) : Type 0 where
   pub set-size : length set ≡ words (vertices t)
   pub room : length work ≡ workWords (vertices t) (edgesIn t)
 
--- the marked row stands behind the words of the search for parts, and the two sets behind the row
+-- the marked row stands behind the words of the search for parts, and the two sets behind the row; two words more, for where there
+-- is no vertex the attractor's layers have two
 abbrev pub rowOf : Tables → ℕ
 rowOf t = behind (vertices t) (edgesIn t)
 
 abbrev pub baseOf : Tables → ℕ
-baseOf t = rowOf t + vertices t
+baseOf t = rowOf t + vertices t + 2
 
 -- W words have room for them
-pub rows-fit : (n m : ℕ) → behind n m + n + words n + words n ≤ workWords n m
+pub rows-fit : (n m : ℕ) → behind n m + n + 2 + words n + words n ≤ workWords n m
 unfolding workWords words
 rows-fit zero m = omega arith
 rows-fit (suc n) m = go ((suc n + 63) / 64) (omega arith)
   where
-    go : (s : ℕ) → 0 < s → behind (suc n) m + suc n + s + s ≤ 8 * (suc n + 2) * s + 4 * suc n + 2 * m + 272
+    go : (s : ℕ) → 0 < s → behind (suc n) m + suc n + 2 + s + s ≤ 8 * (suc n + 2) * s + 4 * suc n + 2 * m + 272
     go zero l = absurd (omega arith)
     go (suc s) l =
         let wide : 2 * s ≤ 8 * (suc n + 2) * s = mul-le-mul-right s (omega arith) in
@@ -63,6 +62,11 @@ sole-owner-small t accepted owner is =
     (λ (l : 0 < vertices t). omega (arith, accepted-sound t accepted .owner-small 0 l))
     (λ (h : vertices t ≤ 0). omega (arith, List·getD-eq-default (t .owners) 0 {n = 0} h))
     (lt-or-ge 0 (vertices t))
+
+-- and both stand where a set may
+base-free : (t : Tables) → free (vertices t) (edgesIn t) ≤ baseOf t
+unfolding words
+base-free t = omega arith
 
 module _ (t : Tables) (set w₀ : List ℕ) (given : Runnable t set w₀) (owner : ℕ) (is : owner ≡ getD (t .owners) 0 0) where
   abbrev n : ℕ
@@ -91,9 +95,9 @@ module _ (t : Tables) (set w₀ : List ℕ) (given : Runnable t set w₀) (owner
           record {
             placed =
                 record {
-                  within-low = omega arith;
+                  within-low = base-free t;
                   within-high = omega (arith, fits, marks .long, placed .long, given .set-size);
-                  set-low = omega arith;
+                  set-low = omega (arith, base-free t);
                   set-high = omega (arith, fits, marks .long, placed .long, given .set-size);
                   apart = inl (omega (arith, given .set-size));
                 };

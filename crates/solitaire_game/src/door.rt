@@ -33,7 +33,7 @@ fn run(
     let s = set.len();
     let owner = sole_owner(owners);
     let row = n + 1 + targets.len() + n + n + n + n + n + n;
-    let base = row + n;
+    let base = row + n + 2;
     mark_good(owners, priorities, offsets, targets, owner, work, row);
     place(work, n, s, row, base);
     attractor::attract(owners, offsets, targets, owner, work, base, base + s);

@@ -13,7 +13,7 @@ use Rattle.rules.specs.Game.{Player, Even, Odd, playerOf}
 use Rattle.rules.specs.Tables.{Tables, gameOf, vertices, edgesIn, words, Accepted}
 use Rattle.rules.specs.Winning.{WinningSets, WinningEntries}
 use Rattle.rules.specs.Words.{setOf, Holds, noEntry, entry}
-use Rattle.theory.specs.Basics.{not-true-is-false}
+use Rattle.theory.specs.Basics.{not-true-is-false, length-listed}
 use Rattle.theory.specs.PromotionBasics.{noted-below}
 use Rattle.theory.specs.Tables.{accepted-sound, accepted-total}
 use Rattle.theory.specs.Zielonka.{determinacy}
@@ -73,8 +73,9 @@ abbrev pub wonFrom : ℕ → ℕ → Player → ℕ
 wonFrom s at Even = at
 wonFrom s at Odd = at + s
 
--- the sets that are won, and the entries: at the winners' own vertices they are a winning choice
-pub record Found (t : Tables) (won : Player → Set) (s at : ℕ) (work : List ℕ) : Type 0 where
+-- the sets that are won, and the entries: a table that has them at the winners' own vertices, and none elsewhere, is the rules'
+-- choice, which wins
+pub record Found (t : Tables) (won : Player → Set) (choice : ℕ → ℕ) (s at : ℕ) (work : List ℕ) : Type 0 where
   pub accepted : Accepted t
   pub size : s ≡ words (vertices t)
   pub low : entries (vertices t) (edgesIn t) + vertices t ≤ at
@@ -82,15 +83,17 @@ pub record Found (t : Tables) (won : Player → Set) (s at : ℕ) (work : List �
   pub inside : (c : Player) (v : ℕ) → v < vertices t → setAt (vertices t) (wonFrom s at c) work v ≡ won c v
   pub bare : (c : Player) (v : ℕ) → vertices t ≤ v → setAt (vertices t) (wonFrom s at c) work v ≡ false
   pub sets : WinningSets (gameOf t) won
-  pub wins :
+  pub chosen :
       (strategy : List ℕ) →
+      length strategy ≡ vertices t →
       ((a : Player) (v : ℕ) →
       v < vertices t →
       won a v ≡ true →
       gameOf t .owner v ≡ a →
       entry strategy v ≡ entryAt (vertices t) (edgesIn t) work v) →
       ((a : Player) (v : ℕ) → v < vertices t → won a v ≡ true → (gameOf t .owner v ≡ a → ⊥) → entry strategy v ≡ noEntry) →
-      WinningEntries (gameOf t) won strategy
+      strategy ≡ listed (vertices t) choice
+  pub wins : WinningEntries (gameOf t) won (listed (vertices t) choice)
 
 -- within a list the default does not matter
 getD-any : (l : List ℕ) (k x y : ℕ) → k < length l → getD l k x ≡ getD l k y
@@ -98,7 +101,7 @@ getD-any [] k x y h = absurd (not-suc-le-zero h)
 getD-any (z ∷ l) zero x y h = refl
 getD-any (z ∷ l) (suc k) x y h = getD-any l k x y (le-of-suc-le-suc h)
 
-module _ {t : Tables} {won : Player → Set} {s at : ℕ} {w : List ℕ} (found : Found t won s at w) where
+module _ {t : Tables} {won : Player → Set} {choice : ℕ → ℕ} {s at : ℕ} {w : List ℕ} (found : Found t won choice s at w) where
   abbrev n : ℕ
   n = vertices t
 
@@ -154,10 +157,13 @@ module _ {t : Tables} {won : Player → Set} {s at : ℕ} {w : List ℕ} (found 
   abbrev own : ℕ → ℕ
   own v = cond (won (gameOf t .owner v) v) (entryAt n (edgesIn t) w v) noEntry
 
-  own-wins :
-      (strategy : List ℕ) → ((v : ℕ) → v < n → entry strategy v ≡ own v) → WinningEntries (gameOf t) won strategy
-  own-wins strategy is =
-      found .wins strategy
+  own-chosen :
+      (strategy : List ℕ) →
+      length strategy ≡ n →
+      ((v : ℕ) → v < n → entry strategy v ≡ own v) →
+      strategy ≡ listed n choice
+  own-chosen strategy long is =
+      found .chosen strategy long
       (λ c v l p mine.
       is v l ∙ ap (λ (b : Bool). cond b (entryAt n (edgesIn t) w v) noEntry) (ap (λ (a : Player). won a v) mine ∙ p))
       (λ c v l p other.
@@ -169,10 +175,13 @@ module _ {t : Tables} {won : Player → Set} {s at : ℕ} {w : List ℕ} (found 
   own-small : (v : ℕ) → v < n → won (gameOf t .owner v) v ≡ true → entryAt n (edgesIn t) w v < n
   unfolding gameOf noted
   own-small v l p =
-      let is : entry (listed n own) v ≡ entryAt n (edgesIn t) w v =
-      noted-below noEntry n own v l ∙ ap (λ (b : Bool). cond b (entryAt n (edgesIn t) w v) noEntry) p in
-      let edge = own-wins (listed n own) (noted-below noEntry n own) .given (gameOf t .owner v) v l p refl in
-      let small = accepted-total t (found .accepted) .ends v (entry (listed n own) v) edge in
+      let same : listed n own ≡ listed n choice = own-chosen (listed n own) (length-listed n own) (noted-below noEntry n own) in
+      let is : entry (listed n choice) v ≡ entryAt n (edgesIn t) w v =
+      ap (λ (xs : List ℕ). entry xs v) (sym same) ∙
+      noted-below noEntry n own v l ∙
+      ap (λ (b : Bool). cond b (entryAt n (edgesIn t) w v) noEntry) p in
+      let edge = found .wins .given (gameOf t .owner v) v l p refl in
+      let small = accepted-total t (found .accepted) .ends v (entry (listed n choice) v) edge in
       rw is at small
 
   abbrev entriesIn : List ℕ
@@ -227,13 +236,12 @@ module _ {t : Tables} {won : Player → Set} {s at : ℕ} {w : List ℕ} (found 
 
       -- **What is written out is what the rules ask for.**
       pub found-finished :
-          {budget needed made : ℕ} → made ≡ needed → made ≤ budget → Finished budget t needed won made after
+          {budget needed made : ℕ} → made ≡ needed → made ≤ budget → Finished budget t needed won choice made after
       found-finished is within =
           record {
             exact = is;
             within = within;
             even = rw (wrote .even) (holds Even);
             odd = rw (wrote .odd) (holds Odd);
-            long = strategy-long;
-            entries = own-wins (after .strategy) written-entry;
+            strategy = own-chosen (after .strategy) strategy-long written-entry;
           }

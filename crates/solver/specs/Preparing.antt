@@ -13,12 +13,10 @@ use Rattle.sets.specs.After.{Cleared, Filled}
 use Rattle.sets.specs.Laws.{filled-set}
 use Rattle.predecessors.specs.Table.{Predecessors}
 use Rattle.area.specs.Area.{free, setAt, wordsAt}
-use Rattle.attractor.specs.Running.{listed-kept}
-use Rattle.attractor.specs.Listing.{built-listed}
 use Rattle.area.specs.Lent.{part-is, part-length, back, back-long, back-front, back-part}
 use Rattle.area.specs.SetsAt.{set-cleared}
 use Rattle.area.specs.Walking.{lent-part}
-use Rattle.attractor.specs.Attracted.{Listed}
+use Rattle.attractor.specs.Attracted.{Listed, listed-kept, built-listed}
 use Rattle.predecessors.specs.Table.{SoundEdges}
 
 -- what `prepare` asks for: sound edges, and room for the predecessor table and a set

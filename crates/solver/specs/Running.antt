@@ -1,4 +1,5 @@
--- A run of a solver under a budget, which needs so many calls or rounds for its sets: what it asks for and leaves, and how it makes an answer.
+-- A run of a solver under a budget, which needs so many calls or rounds for its sets and entries: what it asks for and leaves,
+-- and how it makes an answer.
 use mathlib.Core.Bool.{Bool, true, false}
 use mathlib.Core.List.{List}
 use mathlib.Core.Path.{_≡_, refl, ap, _∙_}
@@ -7,12 +8,11 @@ use native.Mathlib.Omega.{arith}
 use borrow.Author.Tests.{lt-ltb, le-ltb}
 use lib.Dec.{ltb}
 use lib.ListN.{length, take, drop, length-take}
-use Rattle.rules.specs.Counting.{Set}
+use Rattle.rules.specs.Counting.{Set, listed}
 use Rattle.rules.specs.Game.{Player, Even, Odd}
 use Rattle.rules.specs.Outcome.{Outcome, Verdict, none, refused, outcome, answered, budgeted}
 use Rattle.rules.specs.Solver.{Lent, solverChecks, Leaves, Solves, cleared}
-use Rattle.rules.specs.Tables.{Tables, gameOf, vertices, edgesIn, words, workWords, Accepted}
-use Rattle.rules.specs.Winning.{WinningEntries}
+use Rattle.rules.specs.Tables.{Tables, vertices, edgesIn, words, workWords, Accepted}
 use Rattle.rules.specs.Words.{Holds}
 use Rattle.solver.specs.declared.ran.Ran.{Ran}
 use Rattle.solver.specs.declared.ran.Ran.the-variants.{Needed, OverBudget}
@@ -37,13 +37,20 @@ abbrev pub outputsOf : Lent → Outputs
 outputsOf l = record { even = l .even; odd = l .odd; strategy = l .strategy }
 
 -- an answer within the budget
-pub record Finished (budget : ℕ) (t : Tables) (needed : ℕ) (won : Player → Set) (made : ℕ) (after : Outputs) : Type 0 where
+pub record Finished
+    (budget : ℕ)
+    (t : Tables)
+    (needed : ℕ)
+    (won : Player → Set)
+    (entries : ℕ → ℕ)
+    (made : ℕ)
+    (after : Outputs)
+    : Type 0 where
   pub exact : made ≡ needed
   pub within : made ≤ budget
   pub even : Holds (vertices t) (won Even) (after .even)
   pub odd : Holds (vertices t) (won Odd) (after .odd)
-  pub long : length (after .strategy) ≡ vertices t
-  pub entries : WinningEntries (gameOf t) won (after .strategy)
+  pub strategy : after .strategy ≡ listed (vertices t) entries
 
 -- more is needed than the budget, and nothing is written
 pub record Halted (budget needed : ℕ) (before after : Outputs) : Type 0 where
@@ -51,29 +58,31 @@ pub record Halted (budget needed : ℕ) (before after : Outputs) : Type 0 where
   pub same : after ≡ before
 
 -- by cases on what the run gave
-abbrev pub Runs : ℕ → Tables → ℕ → (Player → Set) → Outputs → Outputs → Ran → Type 0
-Runs budget t needed won before after (Needed made) = Finished budget t needed won made after
-Runs budget t needed won before after OverBudget = Halted budget needed before after
+abbrev pub Runs : ℕ → Tables → ℕ → (Player → Set) → (ℕ → ℕ) → Outputs → Outputs → Ran → Type 0
+Runs budget t needed won entries before after (Needed made) = Finished budget t needed won entries made after
+Runs budget t needed won entries before after OverBudget = Halted budget needed before after
 
 -- a refusal is given as it is, and nothing is written
 leaves-refused :
-    (v : Verdict) (over : Bool) (t : Tables) (won : Player → Set) (l : Lent) → (v ≡ none → ⊥) → Leaves v over t won l l
-leaves-refused none over t won l h = absurd (h refl)
-leaves-refused (refused k p) over t won l h = refl
+    (v : Verdict) (over : Bool) (t : Tables) (won : Player → Set) (entries : ℕ → ℕ) (l : Lent) →
+    (v ≡ none → ⊥) →
+    Leaves v over t won entries l l
+leaves-refused none over t won entries l h = absurd (h refl)
+leaves-refused (refused k p) over t won entries l h = refl
 
 gives-refused : (v : Verdict) (o q : Outcome) → (v ≡ none → ⊥) → outcome v o ≡ outcome v q
 gives-refused none o q h = absurd (h refl)
 gives-refused (refused k p) o q h = refl
 
 pub solves-refused :
-    (budget : ℕ) (t : Tables) (needed : ℕ) (won : Player → Set) (l : Lent) (o : Outcome) →
+    (budget : ℕ) (t : Tables) (needed : ℕ) (won : Player → Set) (entries : ℕ → ℕ) (l : Lent) (o : Outcome) →
     o ≡ outcome (solverChecks t l) (answered 0) →
     (o .number ≡ 0 → ⊥) →
-    Solves budget t needed won l l o
-solves-refused budget t needed won l o e h =
+    Solves budget t needed won entries l l o
+solves-refused budget t needed won entries l o e h =
     record {
       gives = e ∙ gives-refused (solverChecks t l) (answered 0) (budgeted budget needed) refuses;
-      leaves = leaves-refused (solverChecks t l) (ltb budget needed) t won l refuses;
+      leaves = leaves-refused (solverChecks t l) (ltb budget needed) t won entries l refuses;
     }
   where
     refuses : solverChecks t l ≡ none → ⊥
@@ -81,30 +90,30 @@ solves-refused budget t needed won l o e h =
 
 -- an answer
 solves-answered :
-    (budget : ℕ) (t : Tables) (needed : ℕ) (won : Player → Set) (before after : Lent) (made : ℕ) →
+    (budget : ℕ) (t : Tables) (needed : ℕ) (won : Player → Set) (entries : ℕ → ℕ) (before after : Lent) (made : ℕ) →
     solverChecks t before ≡ none →
-    Finished budget t needed won made (outputsOf after) →
+    Finished budget t needed won entries made (outputsOf after) →
     after .work ≡ cleared t (before .work) →
-    Solves budget t needed won before after (answered made)
-solves-answered budget t needed won before after made passed f work =
+    Solves budget t needed won entries before after (answered made)
+solves-answered budget t needed won entries before after made passed f work =
     let under : ltb budget needed ≡ false = le-ltb budget needed (omega (arith, f .exact, f .within)) in
     record {
       gives =
           rw (passed, under) (ap answered (f .exact));
       leaves =
           rw (passed, under)
-          (record { even = f .even; odd = f .odd; long = f .long; entries = f .entries; work = work });
+          (record { even = f .even; odd = f .odd; strategy = f .strategy; work = work });
     }
 
 -- 13
 solves-stopped :
-    (budget : ℕ) (t : Tables) (needed : ℕ) (won : Player → Set) (before after : Lent) →
+    (budget : ℕ) (t : Tables) (needed : ℕ) (won : Player → Set) (entries : ℕ → ℕ) (before after : Lent) →
     solverChecks t before ≡ none →
     Halted budget needed (outputsOf before) (outputsOf after) →
     after .work ≡ cleared t (before .work) →
-    Solves budget t needed won before after
+    Solves budget t needed won entries before after
     (record { number = 13; place = 0; count = budget })
-solves-stopped budget t needed won before after passed h work =
+solves-stopped budget t needed won entries before after passed h work =
     let beyond : ltb budget needed ≡ true = lt-ltb budget needed (h .over) in
     record {
       gives = rw (passed, beyond) refl;
@@ -125,13 +134,13 @@ ranOutcome budget OverBudget = record { number = 13; place = 0; count = budget }
 
 -- **past the checks a solver gives and leaves what its run makes of it**
 pub solves-ran :
-    (budget : ℕ) (t : Tables) (needed : ℕ) (won : Player → Set) (before after : Lent) (r : Ran) →
+    (budget : ℕ) (t : Tables) (needed : ℕ) (won : Player → Set) (entries : ℕ → ℕ) (before after : Lent) (r : Ran) →
     solverChecks t before ≡ none →
-    Runs budget t needed won (outputsOf before) (outputsOf after) r →
+    Runs budget t needed won entries (outputsOf before) (outputsOf after) r →
     after .work ≡ cleared t (before .work) →
-    Solves budget t needed won before after (ranOutcome budget r)
-solves-ran budget t needed won before after (Needed made) = solves-answered budget t needed won before after made
-solves-ran budget t needed won before after OverBudget = solves-stopped budget t needed won before after
+    Solves budget t needed won entries before after (ranOutcome budget r)
+solves-ran budget t needed won entries before after (Needed made) = solves-answered budget t needed won entries before after made
+solves-ran budget t needed won entries before after OverBudget = solves-stopped budget t needed won entries before after
 
 -- past the checks the first W words are what the run asks for
 pub run-ready :

@@ -94,6 +94,11 @@ module _ {g : Game} {a : Player} {V' : Set} where
   draws-one theirs (by-own i o d s) = absurd (theirs o)
   draws-one theirs (by-other {w} i o d j all) = (w, d, j)
 
+  -- so some target is in, whoever owns it
+  pub draws-some : {S : Set} {v : ℕ} → Draws g a V' S v → (w : ℕ) × Edge g v w × (S w ≡ true)
+  draws-some (by-own {w} i o d s) = (w, d, s)
+  draws-some (by-other {w} i o d j all) = (w, d, all w d j)
+
 -- a set worked out once holds its members below n, and no others
 within-in : (n : ℕ) (S : Set) (v : ℕ) → v < n → S v ≡ true → within n S v ≡ true
 within-in n S v l p = within-below n S v l ∙ p

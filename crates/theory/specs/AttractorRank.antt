@@ -1,20 +1,22 @@
 -- The attractor's certificate: a rank that sinks along the entries at own vertices and along every inside edge elsewhere, down to T.
 -- The rules' attractor has one; a set that has one is the attractor; cycles in it meet T, and no walk of n steps avoids T.
 use mathlib.Core.Bool.{true, false, cond}
-use mathlib.Core.List.{List, [], _∷_, List·Memᴰ, List·Memᴰ·head, List·Memᴰ·tail}
+use mathlib.Core.List.{List}
 use mathlib.Core.Logic.{_⊎_, inl, inr, ⊎-elim, by-cases}
-use mathlib.Core.Path.{_≡_, refl, ap, subst, fun-ext}
-use Prim.Native.Nat.{ℕ, zero, suc, pred, _≤_, _<_, zero-le}
-use native.Mathlib.Nat.{le-refl, le-trans, le-of-lt, le-of-suc-le-suc, not-suc-le-zero, lt-irrefl}
+use mathlib.Core.Path.{_≡_, refl, ap, fun-ext, sym, subst₃, _∙_}
+use Prim.Native.Nat.{ℕ, zero, suc, _≤_, _<_, zero-le}
+use native.Mathlib.Nat.{le-refl, le-trans, le-of-lt, not-suc-le-zero, lt-irrefl}
 use native.Mathlib.Omega.{arith}
-use Rattle.rules.specs.Counting.{Set, someOf, lowest}
+use Rattle.rules.specs.Counting.{Set}
 use Rattle.rules.specs.Game.{Player, Game, Edge}
 use Rattle.rules.specs.Words.{noEntry, entry}
 use Rattle.rules.specs.Winning.{Walk, one, more, Cycle}
-use Rattle.rules.specs.Attractor.{Closed, IsAttractor, grown, attractor, Avoids, still, own, other, AttractorEntries}
-use Rattle.theory.specs.Basics.{bool-cases, clash, not-false-is-true, player-decided, some-intro, le-of-not-lt, IsLowest, lowest-found}
-use Rattle.theory.specs.Attractor.{Draws, by-own, by-other, drawn-so, draws-own, draws-all, draws-one, Fits}
-use Rattle.theory.specs.Attractor.{grown-zero, zero-grown, grown-back, grown-later, attractor-is, attractor-inside, attractor-unique}
+use Rattle.rules.specs.Distance.{distance}
+use Rattle.rules.specs.Attractor.{Closed, IsAttractor, attractor, Avoids, still, own, other, AttractorEntries}
+use Rattle.theory.specs.Basics.{bool-cases, clash, not-false-is-true, player-decided}
+use Rattle.theory.specs.Attractor.{by-own, by-other, drawn-so, draws-all, draws-one, Fits}
+use Rattle.theory.specs.Attractor.{attractor-is, attractor-inside, attractor-unique}
+use Rattle.theory.specs.Distance.{grown-near, distance-low, distance-target, distance-draws, nearest, nearest-sinks}
 
 -- S is the attractor of T in V', shown by ranks: T has rank 0, an own vertex outside T has an entry to a lower rank, and from
 -- another's vertex outside T there is an inside edge, and every inside edge leads to a lower rank
@@ -43,118 +45,77 @@ pub record Certificate (g : Game) (a : Player) (V' T S : Set) : Type 0 where
       (S w ≡ true) × (rank w < rank v)
   pub leads : (v : ℕ) → S v ≡ true → T v ≡ false → (g .owner v ≡ a → ⊥) → (w : ℕ) × Edge g v w × (V' w ≡ true)
 
--- the first entry of a list that passes the test, or 0 where none does
-pub pick : List ℕ → Set → ℕ
-pick [] test = 0
-pick (x ∷ xs) test = cond (test x) x (pick xs test)
+-- **the rules' attractor has a certificate**: distances, and the lowest-numbered successor that is nearer
+pub attractor-certificate : (g : Game) (a : Player) (V' T : Set) → Fits g V' T → Certificate g a V' T (attractor g a V' T)
+attractor-certificate g a V' T fits =
+    record {
+      rank = distance g a V' T;
+      pull = nearest g a V' T;
+      closed = attractor-is g a V' T fits .closed;
+      inside = attractor-inside g a V' T fits;
+      low = λ v p. le-of-lt (distance-low g a V' T fits v p);
+      start = distance-target g a V' T fits;
+      pulled = nearest-sinks g a V' T fits;
+      pushed =
+          λ v p t o w m i.
+          let (k, e, d) = distance-draws g a V' T fits v p t in
+          let (s, near) = grown-near g a V' T fits k w (draws-all o d w m i) in
+          (s, omega arith);
+      leads = λ v p t o. let (k, e, d) = distance-draws g a V' T fits v p t in draws-one o d;
+    }
 
-pub pick-passes : (xs : List ℕ) (test : Set) → someOf xs test ≡ true → List·Memᴰ (pick xs test) xs × (test (pick xs test) ≡ true)
-unfolding pick someOf
-pick-passes [] test p = absurd (clash p refl)
-pick-passes (x ∷ xs) test p =
-    ⊎-elim
-    (λ e. rw e (List·Memᴰ·head refl, e))
-    (λ e. rw e (let (m, q) = pick-passes xs test (rw e at p) in (List·Memᴰ·tail m, q)))
-    (bool-cases (test x))
+pub attractor-pull :
+    (g : Game) (a : Player) (V' T : Set) (fits : Fits g V' T) (v : ℕ) →
+    attractor-certificate g a V' T fits .pull v ≡ nearest g a V' T v
+unfolding attractor-certificate
+attractor-pull g a V' T fits v = refl
 
--- the round in which a vertex comes in
-rankOf : Game → Player → Set → Set → ℕ → ℕ
-rankOf g a V' T v = lowest (suc (g .size)) (λ k. grown g a V' T k v)
+-- a certificate depends on the sets by their members alone, and keeps its entries
+unfoldable pub certificate-cong :
+    {g : Game} {a : Player} {V₁ V₂ T₁ T₂ S₁ S₂ : Set} →
+    ((v : ℕ) → V₁ v ≡ V₂ v) →
+    ((v : ℕ) → T₁ v ≡ T₂ v) →
+    ((v : ℕ) → S₁ v ≡ S₂ v) →
+    Certificate g a V₁ T₁ S₁ →
+    Certificate g a V₂ T₂ S₂
+certificate-cong {g} {a} {V₁} {V₂} {T₁} {T₂} {S₁} {S₂} sameV sameT sameS cert =
+    record {
+      rank = cert .rank;
+      pull = cert .pull;
+      closed =
+          subst₃ (λ (V' T S : Set). Closed g a V' T S) (fun-ext sameV) (fun-ext sameT) (fun-ext sameS) (cert .closed);
+      inside = λ v m. sym (sameV v) ∙ cert .inside v (sameS v ∙ m);
+      low = λ v m. cert .low v (sameS v ∙ m);
+      start = λ v m. cert .start v (sameT v ∙ m);
+      pulled =
+          λ v m out o.
+          let (e, k, less) = cert .pulled v (sameS v ∙ m) (sameT v ∙ out) o in (e, sym (sameS (cert .pull v)) ∙ k, less);
+      pushed =
+          λ v m out o w e i.
+          let (k, less) = cert .pushed v (sameS v ∙ m) (sameT v ∙ out) o w e (sameV w ∙ i) in (sym (sameS w) ∙ k, less);
+      leads =
+          λ v m out o.
+          let (w, e, i) = cert .leads v (sameS v ∙ m) (sameT v ∙ out) o in (w, e, sym (sameV w) ∙ i);
+    }
 
--- an own vertex goes to a target that was in one round before
-pullOf : Game → Player → Set → Set → ℕ → ℕ
-pullOf g a V' T v = pick (g .targets v) (grown g a V' T (pred (rankOf g a V' T v)))
+-- so has every set with the members of the attractor
+pub same-certificate :
+    (g : Game) (a : Player) (V' T S : Set) →
+    Fits g V' T →
+    ((v : ℕ) → attractor g a V' T v ≡ S v) →
+    Certificate g a V' T S
+same-certificate g a V' T S fits is = certificate-cong (λ v. refl) (λ v. refl) is (attractor-certificate g a V' T fits)
 
-module _ (g : Game) (a : Player) (V' T : Set) (fits : Fits g V' T) where
-  -- what is in after k rounds has a rank of at most k, where k is at most the number of vertices
-  rank-le : (k v : ℕ) → k ≤ g .size → grown g a V' T k v ≡ true → rankOf g a V' T v ≤ k
-  unfolding rankOf
-  rank-le k v l p =
-      let found = lowest-found (suc (g .size)) (λ j. grown g a V' T j v) (some-intro (suc (g .size)) _ k (omega arith) p) in
-      le-of-not-lt (λ less. clash p (found .first k less))
+pub same-pull :
+    (g : Game) (a : Player) (V' T S : Set) (fits : Fits g V' T) (is : (v : ℕ) → attractor g a V' T v ≡ S v) (v : ℕ) →
+    same-certificate g a V' T S fits is .pull v ≡ nearest g a V' T v
+unfolding same-certificate certificate-cong
+same-pull g a V' T S fits is v = attractor-pull g a V' T fits v
 
-  rank-low : (v : ℕ) → attractor g a V' T v ≡ true → rankOf g a V' T v ≤ g .size
-  unfolding attractor
-  rank-low v p = rank-le (g .size) v (le-refl (g .size)) p
-
-  -- a member outside T was drawn in at its rank: into what was in one round before
-  rank-draws :
-      (v : ℕ) →
-      attractor g a V' T v ≡ true →
-      T v ≡ false →
-      (k : ℕ) × (rankOf g a V' T v ≡ suc k) × (k ≤ g .size) × Draws g a V' (grown g a V' T k) v
-  unfolding rankOf attractor
-  rank-draws v p t = go (rankOf g a V' T v) refl
-    where
-      found : IsLowest (suc (g .size)) (λ j. grown g a V' T j v) (rankOf g a V' T v)
-      found = lowest-found (suc (g .size)) (λ j. grown g a V' T j v) (some-intro (suc (g .size)) _ (g .size) (omega arith) p)
-
-      go :
-          (r : ℕ) →
-          rankOf g a V' T v ≡ r →
-          (k : ℕ) × (rankOf g a V' T v ≡ suc k) × (k ≤ g .size) × Draws g a V' (grown g a V' T k) v
-      go zero e =
-          let low = subst (λ (r : ℕ). IsLowest (suc (g .size)) (λ j. grown g a V' T j v) r) e found in
-          absurd (clash (grown-zero g a V' T v (low .passes)) t)
-      go (suc k) e =
-          let low = subst (λ (r : ℕ). IsLowest (suc (g .size)) (λ j. grown g a V' T j v) r) e found in
-          ⊎-elim
-          (λ p. absurd (clash p (low .first k (le-refl (suc k)))))
-          (λ d. (k, e, le-of-lt (le-of-suc-le-suc (low .below)), d))
-          (grown-back g a V' T k v (low .passes))
-
-  -- what was in at a round before v's rank has a lower rank, and is a member
-  lower :
-      (v w k : ℕ) →
-      rankOf g a V' T v ≡ suc k →
-      k ≤ g .size →
-      grown g a V' T k w ≡ true →
-      (attractor g a V' T w ≡ true) × (rankOf g a V' T w < rankOf g a V' T v)
-  unfolding attractor
-  lower v w k e l p =
-      (grown-later g a V' T k (g .size) w l p, let r = rank-le k w l p in omega arith)
-
-  -- the entry that an own vertex gets leads there
-  pull-lower :
-      (v : ℕ) →
-      g .owner v ≡ a →
-      (k : ℕ) →
-      rankOf g a V' T v ≡ suc k →
-      k ≤ g .size →
-      Draws g a V' (grown g a V' T k) v →
-      Edge g v (pullOf g a V' T v) ×
-      (attractor g a V' T (pullOf g a V' T v) ≡ true) ×
-      (rankOf g a V' T (pullOf g a V' T v) < rankOf g a V' T v)
-  unfolding pullOf
-  pull-lower v o k e l d =
-      rw e
-      (let (m, q) = pick-passes (g .targets v) (grown g a V' T k) (draws-own o d) in
-      let (s, r) = lower v _ k e l q in (m, s, rw e at r))
-
-  -- **the rules' attractor has a certificate**
-  pub attractor-certificate : Certificate g a V' T (attractor g a V' T)
-  attractor-certificate =
-      record {
-        rank = rankOf g a V' T;
-        pull = pullOf g a V' T;
-        closed = attractor-is g a V' T fits .closed;
-        inside = attractor-inside g a V' T fits;
-        low = rank-low;
-        start =
-            λ v p. let r = rank-le 0 v zero-le (zero-grown g a V' T v (fits .below v (fits .part v p)) p) in omega arith;
-        pulled = λ v p t o. let (k, e, l, d) = rank-draws v p t in pull-lower v o k e l d;
-        pushed = λ v p t o w m i. let (k, e, l, d) = rank-draws v p t in lower v w k e l (draws-all o d w m i);
-        leads = λ v p t o. let (k, e, l, d) = rank-draws v p t in draws-one o d;
-      }
-
--- so has every set that is the attractor
 pub is-certificate :
     (g : Game) (a : Player) (V' T S : Set) → Fits g V' T → IsAttractor g a V' T S → Certificate g a V' T S
 is-certificate g a V' T S fits is =
-    subst
-    (λ (X : Set). Certificate g a V' T X)
-    (fun-ext (attractor-unique (attractor-is g a V' T fits) is))
-    (attractor-certificate g a V' T fits)
+    same-certificate g a V' T S fits (attractor-unique (attractor-is g a V' T fits) is)
 
 module _ {g : Game} {a : Player} {V' T S : Set} (c : Certificate g a V' T S) where
   -- a member outside T has a rank above 0

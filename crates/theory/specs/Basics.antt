@@ -37,6 +37,13 @@ bool-ext true c to from = sym (to refl)
 bool-ext false true to from = from refl
 bool-ext false false to from = refl
 
+-- the number that a test chooses
+pub if-true : {b : Bool} {x : ℕ} (y : ℕ) → b ≡ true → cond b x y ≡ x
+if-true y p = rw p
+
+pub if-false : {b : Bool} {y : ℕ} (x : ℕ) → b ≡ false → cond b x y ≡ y
+if-false x p = rw p
+
 -- b && c is true when both are
 pub and-intro : {b c : Bool} → b ≡ true → c ≡ true → (b && c) ≡ true
 and-intro {b} {c} p q = rw (p, q)
@@ -484,6 +491,20 @@ unfolding listed
 getD-listed zero f v d l = absurd (not-suc-le-zero l)
 getD-listed (suc n) f zero d l = refl
 getD-listed (suc n) f (suc v) d l = getD-listed n (λ k. f (suc k)) v d (le-of-suc-le-suc l)
+
+-- a list of n entries that are what f gives is that list
+pub listed-is :
+    {A : Type 0} (n : ℕ) (f : ℕ → A) (d : A) (xs : List A) →
+    length xs ≡ n →
+    ((v : ℕ) → v < n → getD xs v d ≡ f v) →
+    xs ≡ listed n f
+unfolding listed
+listed-is zero f d [] e agree = refl
+listed-is zero f d (x ∷ xs) e agree = absurd (not-suc-le-zero (le-of-eq e))
+listed-is (suc n) f d [] e agree = absurd (not-suc-le-zero (le-of-eq (sym e)))
+listed-is {A} (suc n) f d (x ∷ xs) e agree =
+    ap₂ (λ (y : A) (ys : List A). y ∷ ys) (agree 0 (suc-le-suc zero-le))
+    (listed-is n (λ k. f (suc k)) d xs (omega arith) (λ v l. agree (suc v) (suc-le-suc l)))
 
 -- a set worked out below n is the set below n, and has no member at n or above
 pub within-below : (n : ℕ) (S : Set) (v : ℕ) → v < n → within n S v ≡ S v

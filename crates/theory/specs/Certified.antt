@@ -9,8 +9,8 @@ use Rattle.rules.specs.Tables.{Tables, gameOf, Accepted}
 use Rattle.rules.specs.Checker.{certificateChecks}
 use Rattle.rules.specs.Solver.{Lent, Answered}
 use Rattle.rules.specs.Zielonka.{zielonka}
-use Rattle.theory.specs.Tables.{accepted-total}
-use Rattle.theory.specs.Zielonka.{zielonka-wins, determinacy}
+use Rattle.theory.specs.Tables.{accepted-total, accepted-few}
+use Rattle.theory.specs.Zielonka.{zielonka-wins, zielonka-entries-win, determinacy}
 use Rattle.theory.specs.Checker.{winning-gets-yes}
 
 -- every vertex of accepted tables is in one of Zielonka's sets
@@ -29,9 +29,10 @@ pub zielonka-gets-yes :
     (t : Tables) →
     Accepted t →
     (before after : Lent) →
-    Answered t (zielonka (gameOf t) .won) before after →
+    Answered t (zielonka (gameOf t) .won) (zielonka (gameOf t) .entries) before after →
     certificateChecks (gameOf t) (after .even) (after .odd) (after .strategy) ≡ none
 unfolding gameOf
 zielonka-gets-yes t ok before after answer =
     winning-gets-yes (gameOf t) (accepted-total t ok) (zielonka (gameOf t) .won) (zielonka-wins (gameOf t) (accepted-total t ok))
-    (covered t ok) (after .even) (after .odd) (after .strategy) (answer .even) (answer .odd) (answer .entries)
+    (covered t ok) (after .even) (after .odd) (after .strategy) (answer .even) (answer .odd)
+    (rw (answer .strategy) (zielonka-entries-win (gameOf t) (accepted-total t ok) (accepted-few t ok)))

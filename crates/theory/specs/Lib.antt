@@ -1,5 +1,5 @@
--- Theorems about the rules alone: one winner, dominions, attractors, Zielonka's recursion and its bound, strongly connected parts,
--- solitaire, the checker, priority promotion, relabelled priorities, mended exports, and the worked games.
+-- Theorems about the rules alone: one winner, dominions, attractors and distances, Zielonka's recursion and its bound, strongly
+-- connected parts, solitaire, the checker, priority promotion, relabelled priorities, mended exports, and the worked games.
 pub mod Basics
 pub mod Walks
 pub mod Orbit
@@ -11,7 +11,9 @@ pub mod Compaction
 pub mod AttractorBasics
 pub mod Rounds
 pub mod Attractor
+pub mod Distance
 pub mod AttractorRank
+pub mod DistanceEntries
 pub mod AttractorEntries
 pub mod AttractorComplement
 pub mod AttractorLooks
@@ -21,6 +23,7 @@ pub mod Run
 pub mod RunSound
 pub mod RunSame
 pub mod Zielonka
+pub mod RunEntries
 pub mod Bound
 pub mod Links
 pub mod Solitaire
@@ -44,6 +47,8 @@ pub mod PromotionTable
 pub mod PromotionInvariant
 pub mod PromotionSound
 pub mod PromotionExists
+pub mod PromotionChosen
+pub mod PromotionSame
 pub mod PromotionMeasure
 pub mod PromotionBound
 pub mod PromotionAccepted
@@ -55,5 +60,6 @@ pub mod MendingKeeps
 pub mod MendingWinner
 pub mod MendingTold
 pub mod Worked
+pub mod WorkedDistances
 pub mod Counts
 pub mod Edits

@@ -4,9 +4,9 @@ use mathlib.Core.Bool.{true}
 use mathlib.Core.List.{List}
 use mathlib.Core.Path.{_≡_}
 use Prim.Native.Nat.{ℕ, _+_, _*_, _^_, _≤_, _<_}
-use native.Mathlib.Omega.{arith}
 use borrow.Author.Tests.{le-ltb}
-use Rattle.rules.specs.Counting.{some}
+use lib.ListN.{length}
+use Rattle.rules.specs.Counting.{some, listed}
 use Rattle.rules.specs.Game.{Player, everywhere}
 use Rattle.rules.specs.Tables.{Tables, gameOf, Accepted}
 use Rattle.rules.specs.Words.{noEntry, entry}
@@ -14,12 +14,14 @@ use Rattle.rules.specs.Winning.{WinningSets, WinningEntries}
 use Rattle.rules.specs.Outcome.{budgeted, answered}
 use Rattle.rules.specs.Budget.{differentPriorities}
 use Rattle.rules.specs.Promotion.{Regions, regionSet, isOpen, afterRounds, roundOf, allSolved, roundsNeeded}
-use Rattle.theory.specs.Tables.{accepted-total, accepted-size, accepted-priority}
+use Rattle.theory.specs.Tables.{accepted-total, accepted-few, accepted-priority}
 use Rattle.theory.specs.PromotionEntries.{Rounded}
 use Rattle.theory.specs.PromotionRounds.{lowerVertices}
 use Rattle.theory.specs.PromotionInvariant.{Invariant, rounded-invariant}
 use Rattle.theory.specs.PromotionSound.{promotion-sets, promotion-entries}
 use Rattle.theory.specs.PromotionExists.{rounds-sets}
+use Rattle.theory.specs.PromotionChosen.{promotion-entries-win}
+use Rattle.theory.specs.PromotionSame.{rounded-strategy}
 use Rattle.theory.specs.PromotionBound.{never-stays, budget-enough}
 
 module _ (t : Tables) (ok : Accepted t) where
@@ -27,7 +29,7 @@ module _ (t : Tables) (ok : Accepted t) where
   small-priorities v l = accepted-priority t ok v
 
   few-vertices : gameOf t .size ≤ noEntry
-  few-vertices = let most = accepted-size t ok in omega arith
+  few-vertices = accepted-few t ok
 
   -- **A budget of n · (n + 2) ^ d rounds is enough**: the rounds needed are within it, and after them all vertices are solved.
   pub accepted-finishes :
@@ -58,6 +60,13 @@ module _ (t : Tables) (ok : Accepted t) where
       (k : ℕ) → allSolved (gameOf t) (afterRounds (gameOf t) k) ≡ true → WinningSets (gameOf t) (afterRounds (gameOf t) k .won)
   accepted-rounds-sets = rounds-sets (gameOf t) (accepted-total t ok) small-priorities few-vertices
 
+  -- **and their entries are a winning choice.**
+  pub accepted-rounds-entries :
+      (k : ℕ) →
+      allSolved (gameOf t) (afterRounds (gameOf t) k) ≡ true →
+      WinningEntries (gameOf t) (afterRounds (gameOf t) k .won) (listed (gameOf t .size) (afterRounds (gameOf t) k .entries))
+  accepted-rounds-entries = promotion-entries-win (gameOf t) (accepted-total t ok) small-priorities few-vertices
+
   module _ {s : Regions} {σ : ℕ → ℕ} (rounded : Rounded (gameOf t) s σ) where
     -- the invariant holds of what rounds reach
     pub accepted-invariant : Invariant (gameOf t) s σ
@@ -79,3 +88,17 @@ module _ (t : Tables) (ok : Accepted t) where
         entry strategy v ≡ noEntry) →
         WinningEntries (gameOf t) (s .won) strategy
     accepted-promotion-entries = promotion-entries (gameOf t) (accepted-total t ok) small-priorities few-vertices rounded
+
+    -- **And a table of them, with none elsewhere, is the table of the state's entries.**
+    pub accepted-promotion-strategy :
+        allSolved (gameOf t) s ≡ true →
+        (strategy : List ℕ) →
+        length strategy ≡ gameOf t .size →
+        ((a : Player) (v : ℕ) → v < gameOf t .size → s .won a v ≡ true → gameOf t .owner v ≡ a → entry strategy v ≡ σ v) →
+        ((a : Player) (v : ℕ) →
+        v < gameOf t .size →
+        s .won a v ≡ true →
+        (gameOf t .owner v ≡ a → ⊥) →
+        entry strategy v ≡ noEntry) →
+        strategy ≡ listed (gameOf t .size) (s .entries)
+    accepted-promotion-strategy = rounded-strategy (gameOf t) (accepted-total t ok) small-priorities few-vertices rounded

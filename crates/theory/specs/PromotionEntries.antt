@@ -4,12 +4,14 @@ use mathlib.Core.Bool.{true, false, _&&_}
 use mathlib.Core.Path.{_≡_}
 use Prim.Native.Nat.{ℕ, _≤_, _<_}
 use lib.Dec.{eqb, ltb}
-use Rattle.rules.specs.Counting.{Set, some, someOf, lowest}
-use Rattle.rules.specs.Game.{Player, Game, Edge, parity}
+use Rattle.rules.specs.Counting.{Set, some, lowest}
+use Rattle.rules.specs.Game.{Player, Game, parity}
 use Rattle.rules.specs.Words.{noEntry}
 use Rattle.rules.specs.Attractor.{attractor}
+use Rattle.rules.specs.Distance.{lowestIn}
 use Rattle.rules.specs.Promotion.{Regions, solvedRegion, unsolved, atStart, regionSet, isOpen, wayOut, roundOf}
 use Rattle.theory.specs.PromotionBasics.{atRegion, upTo}
+use Rattle.theory.specs.Distance.{nearest}
 use Rattle.theory.specs.AttractorRank.{Certificate}
 
 -- p's player
@@ -31,31 +33,29 @@ promotedTo g s =
 abbrev pub dominionSet : Game → Regions → Set
 dominionSet g s = attractor g (mover s) (remaining g s) (regionSet g s)
 
--- R is attracted to region p of X: own vertices of R outside the old region p get the pull of some certificate for R; those of the
--- old region p keep an entry, or get any target in R if there is one; entries outside R stay
+-- R is attracted to region p of X: own vertices of R outside the old region p get the pull of a certificate for R by distances; those
+-- of the old region p keep their entry, none or not; entries outside R stay
 pub record Attracts (g : Game) (X : Set) (r : ℕ → ℕ) (p : ℕ) (R : Set) (σ σ' : ℕ → ℕ) : Type 0 where
   pub certificate : Certificate g (parity p) (upTo X r p) (atRegion X r p) R
+  pub near :
+      (v : ℕ) →
+      R v ≡ true →
+      atRegion X r p v ≡ false →
+      g .owner v ≡ parity p →
+      certificate .pull v ≡ nearest g (parity p) (upTo X r p) (atRegion X r p) v
   pub pulled :
       (v : ℕ) → R v ≡ true → atRegion X r p v ≡ false → g .owner v ≡ parity p → σ' v ≡ certificate .pull v
-  pub kept : (v : ℕ) → atRegion X r p v ≡ true → g .owner v ≡ parity p → (σ v ≡ noEntry → ⊥) → σ' v ≡ σ v
-  pub chosen :
-      (v : ℕ) →
-      atRegion X r p v ≡ true →
-      g .owner v ≡ parity p →
-      σ v ≡ noEntry →
-      someOf (g .targets v) R ≡ true →
-      Edge g v (σ' v) × (R (σ' v) ≡ true)
-  pub missing :
-      (v : ℕ) →
-      atRegion X r p v ≡ true →
-      g .owner v ≡ parity p →
-      σ v ≡ noEntry →
-      someOf (g .targets v) R ≡ false →
-      σ' v ≡ noEntry
+  pub kept : (v : ℕ) → atRegion X r p v ≡ true → g .owner v ≡ parity p → σ' v ≡ σ v
   pub elsewhere : (v : ℕ) → v < g .size → R v ≡ false → σ' v ≡ σ v
 
 abbrev pub AttractedEntries : Game → Regions → (ℕ → ℕ) → (ℕ → ℕ) → Type 0
 AttractedEntries g s = Attracts g (remaining g s) (s .region) (s .current) (regionSet g s)
+
+-- R closes: a's vertices of R that have no entry take the lowest-numbered successor in R, the others keep theirs
+pub record Fills (g : Game) (a : Player) (R : Set) (σ σ' : ℕ → ℕ) : Type 0 where
+  pub given : (v : ℕ) → R v ≡ true → g .owner v ≡ a → (σ v ≡ noEntry → ⊥) → σ' v ≡ σ v
+  pub filled : (v : ℕ) → R v ≡ true → g .owner v ≡ a → σ v ≡ noEntry → σ' v ≡ lowestIn g R v
+  pub elsewhere : (v : ℕ) → v < g .size → R v ≡ false → σ' v ≡ σ v
 
 -- R is promoted: entries of vertices whose region is reset become none, the others stay
 pub record PromotedEntries (g : Game) (s : Regions) (σ σ' : ℕ → ℕ) : Type 0 where
@@ -65,10 +65,16 @@ pub record PromotedEntries (g : Game) (s : Regions) (σ σ' : ℕ → ℕ) : Typ
   pub higher : (v : ℕ) → remaining g s v ≡ true → promotedTo g s ≤ s .region v → σ' v ≡ σ v
   pub solved : (v : ℕ) → v < g .size → remaining g s v ≡ false → σ' v ≡ σ v
 
--- R is a dominion, and D, its attractor among the unsolved, is solved: own vertices of D outside R get the pull of some certificate
--- for D, entries of what stays unsolved become none, own entries of R and entries of what was solved before stay
+-- R is a dominion, and D, its attractor among the unsolved, is solved: own vertices of D outside R get the pull of a certificate
+-- for D by distances, entries of what stays unsolved become none, own entries of R and entries of what was solved before stay
 pub record SolvedEntries (g : Game) (s : Regions) (σ σ' : ℕ → ℕ) : Type 0 where
   pub certificate : Certificate g (mover s) (remaining g s) (regionSet g s) (dominionSet g s)
+  pub near :
+      (v : ℕ) →
+      dominionSet g s v ≡ true →
+      regionSet g s v ≡ false →
+      g .owner v ≡ mover s →
+      certificate .pull v ≡ nearest g (mover s) (remaining g s) (regionSet g s) v
   pub pulled :
       (v : ℕ) →
       dominionSet g s v ≡ true →
@@ -84,18 +90,20 @@ pub data RoundEntries (g : Game) (s : Regions) (σ : ℕ → ℕ) : (ℕ → ℕ
   opened :
       {σ' : ℕ → ℕ} → isOpen g s (regionSet g s) ≡ true → AttractedEntries g s σ σ' → RoundEntries g s σ σ'
   promotes :
-      {σ₁ σ' : ℕ → ℕ} →
+      {σ₁ σ₂ σ' : ℕ → ℕ} →
       isOpen g s (regionSet g s) ≡ false →
       some (g .size) (wayOut g s (regionSet g s)) ≡ true →
       AttractedEntries g s σ σ₁ →
-      PromotedEntries g s σ₁ σ' →
+      Fills g (mover s) (regionSet g s) σ₁ σ₂ →
+      PromotedEntries g s σ₂ σ' →
       RoundEntries g s σ σ'
   solves :
-      {σ₁ σ' : ℕ → ℕ} →
+      {σ₁ σ₂ σ' : ℕ → ℕ} →
       isOpen g s (regionSet g s) ≡ false →
       some (g .size) (wayOut g s (regionSet g s)) ≡ false →
       AttractedEntries g s σ σ₁ →
-      SolvedEntries g s σ₁ σ' →
+      Fills g (mover s) (regionSet g s) σ₁ σ₂ →
+      SolvedEntries g s σ₂ σ' →
       RoundEntries g s σ σ'
 
 -- the states with entries that rounds can reach from the start, where no vertex has an entry

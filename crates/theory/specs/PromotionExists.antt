@@ -1,195 +1,189 @@
--- Entries as a round asks for exist, so the states after any number of the rules' rounds can be reached with entries: what is proved with entries
--- is true of the rules' rounds by themselves.
+-- The rules' entries are as a round asks, so the states after any number of the rules' rounds are reached with their own entries: what
+-- is proved with entries is true of the rules' rounds by themselves.
 use mathlib.Core.Bool.{true, false, _&&_, not, cond}
 use mathlib.Core.Logic.{⊎-elim}
-use mathlib.Core.Path.{_≡_, refl, ap}
+use mathlib.Core.Path.{_≡_, refl, sym, ap, _∙_}
 use Prim.Native.Nat.{ℕ, zero, suc, _≤_, _<_}
-use borrow.Author.Tests.{lt-ltb, le-ltb}
-use lib.Dec.{ltb}
-use Rattle.rules.specs.Counting.{Set, someOf}
-use Rattle.rules.specs.Game.{Game, Edge, Total, parity}
+use borrow.Author.Tests.{eqb-true, eq-eqb, lt-ltb, le-ltb, not-true}
+use lib.Dec.{eqb, ltb}
+use Rattle.rules.specs.Counting.{Set}
+use Rattle.rules.specs.Game.{Game, Total, same}
 use Rattle.rules.specs.Words.{noEntry}
 use Rattle.rules.specs.Winning.{WinningSets}
-use Rattle.rules.specs.Promotion.{Regions, regionSet, roundOf, afterRounds, allSolved}
-use Rattle.theory.specs.Basics.{bool-cases, clash, not-true-is-false, someOf-elim}
-use Rattle.theory.specs.AttractorRank.{Certificate}
-use Rattle.theory.specs.PromotionBasics.{equal-cases, atRegion, upTo}
-use Rattle.theory.specs.PromotionEntries.{remaining, promotedTo, dominionSet, Attracts, AttractedEntries, PromotedEntries, SolvedEntries}
+use Rattle.rules.specs.Distance.{attractorEntry, lowestIn}
+use Rattle.rules.specs.Promotion.{Regions, regionSet, drawnEntries, closedEntries, roundOf, atStart, afterRounds}
+use Rattle.rules.specs.Promotion.{allSolved}
+use Rattle.theory.specs.Basics.{bool-cases, clash, not-true-is-false, and-intro, and-left, and-right, true-same, if-true}
+use Rattle.theory.specs.Basics.{if-false}
+use Rattle.theory.specs.PromotionBasics.{noted-below, atRegion, upTo}
+use Rattle.theory.specs.PromotionEntries.{mover, remaining, promotedTo, AttractedEntries, Fills, PromotedEntries}
+use Rattle.theory.specs.PromotionEntries.{SolvedEntries}
 use Rattle.theory.specs.PromotionEntries.{RoundEntries, opened, promotes, solves, Rounded, starts, rounds}
-use Rattle.theory.specs.PromotionTests.{region-certificate, dominion-certificate, region-in}
-use Rattle.theory.specs.PromotionRounds.{Round, opening, promoting, solving, round-kind}
+use Rattle.theory.specs.PromotionTests.{unsolved-below, region-certificate, region-near, region-entry, region-in}
+use Rattle.theory.specs.PromotionTests.{dominion-certificate}
+use Rattle.theory.specs.PromotionTests.{dominion-near, dominion-entry, dominion-bare}
+use Rattle.theory.specs.PromotionRounds.{Round, opening, promoting, solving, round-kind, promotedEntries, solvedEntries}
+use Rattle.theory.specs.PromotionRounds.{open-entries}
+use Rattle.theory.specs.PromotionRounds.{round-promotes, round-solves}
 use Rattle.theory.specs.PromotionSound.{promotion-sets}
 
--- attracting
+module _ (g : Game) (s : Regions) where
+  abbrev R : Set
+  R = regionSet g s
 
-module _
-    (g : Game)
-    (X : Set)
-    (r : ℕ → ℕ)
-    (p : ℕ)
-    (R : Set)
-    (cert : Certificate g (parity p) (upTo X r p) (atRegion X r p) R)
-    (σ : ℕ → ℕ)
-  where
-    -- x may be the new entry of v
-    record MayBe (v x : ℕ) : Type 0 where
-      pulled : R v ≡ true → atRegion X r p v ≡ false → g .owner v ≡ parity p → x ≡ cert .pull v
-      kept : atRegion X r p v ≡ true → g .owner v ≡ parity p → (σ v ≡ noEntry → ⊥) → x ≡ σ v
-      chosen :
-          atRegion X r p v ≡ true →
-          g .owner v ≡ parity p →
-          σ v ≡ noEntry →
-          someOf (g .targets v) R ≡ true →
-          Edge g v x × (R x ≡ true)
-      missing :
-          atRegion X r p v ≡ true → g .owner v ≡ parity p → σ v ≡ noEntry → someOf (g .targets v) R ≡ false → x ≡ noEntry
-      elsewhere : R v ≡ false → x ≡ σ v
+  -- the entries once R is drawn in, and when R closes, vertex by vertex
+  pub drawn-at :
+      (v : ℕ) →
+      v < g .size →
+      drawnEntries g s R v ≡
+      cond
+      (R v && not (atRegion (remaining g s) (s .region) (s .current) v))
+      (attractorEntry g (mover s) (upTo (remaining g s) (s .region) (s .current))
+      (atRegion (remaining g s) (s .region) (s .current)) v)
+      (s .entries v)
+  unfolding drawnEntries
+  drawn-at v l = noted-below noEntry (g .size) _ v l
 
-    may-be : (v : ℕ) → (x : ℕ) × MayBe v x
-    may-be v =
-        ⊎-elim
-        (λ t. ⊎-elim (none t) (has t) (equal-cases (σ v) noEntry))
-        (λ t. ⊎-elim (pull t) (outside t) (bool-cases (R v)))
-        (bool-cases (atRegion X r p v))
-      where
-        inside : atRegion X r p v ≡ true → R v ≡ true
-        inside t = cert .closed .target v t
+  pub closed-at :
+      (v : ℕ) →
+      v < g .size →
+      closedEntries g s R v ≡
+      cond
+      (R v && same (g .owner v) (mover s) && eqb (drawnEntries g s R v) noEntry)
+      (lowestIn g R v)
+      (drawnEntries g s R v)
+  unfolding closedEntries
+  closed-at v l = noted-below noEntry (g .size) _ v l
 
-        has : atRegion X r p v ≡ true → (σ v ≡ noEntry → ⊥) → (x : ℕ) × MayBe v x
-        has t n = (
-          σ v,
-          record {
-            pulled = λ m out. absurd (clash t out);
-            kept = λ m o k. refl;
-            chosen = λ m o k. absurd (n k);
-            missing = λ m o k. absurd (n k);
-            elsewhere = λ out. refl;
-          },
-        )
+  member-below : (v : ℕ) → R v ≡ true → v < g .size
+  member-below v m = unsolved-below g (s .region) v (region-in g s v m)
 
-        none : atRegion X r p v ≡ true → σ v ≡ noEntry → (x : ℕ) × MayBe v x
-        none t e = ⊎-elim found missed (bool-cases (someOf (g .targets v) R))
-          where
-            found : someOf (g .targets v) R ≡ true → (x : ℕ) × MayBe v x
-            found q =
-                let (w, d, m) = someOf-elim (g .targets v) R q in (
-                  w,
-                  record {
-                    pulled = λ m out. absurd (clash t out);
-                    kept = λ i o k. absurd (k e);
-                    chosen = λ i o k has. (d, m);
-                    missing = λ i o k out. absurd (clash q out);
-                    elsewhere = λ out. absurd (clash (inside t) out);
-                  },
-                )
+  -- outside R entries stay
+  pub drawn-outside : (v : ℕ) → v < g .size → R v ≡ false → drawnEntries g s R v ≡ s .entries v
+  drawn-outside v l out = drawn-at v l ∙ rw out
 
-            missed : someOf (g .targets v) R ≡ false → (x : ℕ) × MayBe v x
-            missed q = (
-              noEntry,
-              record {
-                pulled = λ m out. absurd (clash t out);
-                kept = λ i o k. absurd (k e);
-                chosen = λ i o k has. absurd (clash has q);
-                missing = λ i o k out. refl;
-                elsewhere = λ out. absurd (clash (inside t) out);
-              },
-            )
-
-        pull : atRegion X r p v ≡ false → R v ≡ true → (x : ℕ) × MayBe v x
-        pull t m = (
-          cert .pull v,
-          record {
-            pulled = λ i out o. refl;
-            kept = λ i. absurd (clash i t);
-            chosen = λ i. absurd (clash i t);
-            missing = λ i. absurd (clash i t);
-            elsewhere = λ out. absurd (clash m out);
-          },
-        )
-
-        outside : atRegion X r p v ≡ false → R v ≡ false → (x : ℕ) × MayBe v x
-        outside t m = (
-          σ v,
-          record {
-            pulled = λ i. absurd (clash i m);
-            kept = λ i. absurd (clash i t);
-            chosen = λ i. absurd (clash i t);
-            missing = λ i. absurd (clash i t);
-            elsewhere = λ out. refl;
-          },
-        )
-
-    -- entries for attracting exist
-    pub attracts-somehow : (σ' : ℕ → ℕ) × Attracts g X r p R σ σ'
-    attracts-somehow = (
-      λ v. may-be v .0,
+  -- a closing round draws R in and fills it
+  pub rules-fills : Fills g (mover s) R (drawnEntries g s R) (closedEntries g s R)
+  rules-fills =
       record {
-        certificate = cert;
-        pulled = λ v. may-be v .1 .pulled;
-        kept = λ v. may-be v .1 .kept;
-        chosen = λ v. may-be v .1 .chosen;
-        missing = λ v. may-be v .1 .missing;
-        elsewhere = λ v l. may-be v .1 .elsewhere;
-      },
-    )
+        given =
+            λ v m o has.
+            closed-at v (member-below v m) ∙
+            if-false _
+            (not-true-is-false
+            (R v && same (g .owner v) (mover s) && eqb (drawnEntries g s R v) noEntry)
+            (λ q. has (eqb-true (drawnEntries g s R v) noEntry (and-right (R v && same (g .owner v) (mover s)) _ q))));
+        filled =
+            λ v m o none.
+            closed-at v (member-below v m) ∙
+            if-true _
+            (and-intro (and-intro m (true-same (g .owner v) (mover s) o)) (eq-eqb (drawnEntries g s R v) noEntry none));
+        elsewhere =
+            λ v l out.
+            closed-at v l ∙
+            if-false _
+            (not-true-is-false
+            (R v && same (g .owner v) (mover s) && eqb (drawnEntries g s R v) noEntry)
+            (λ q. clash (and-left (R v) _ (and-left (R v && same (g .owner v) (mover s)) _ q)) out));
+      }
 
-module _ (g : Game) (s : Regions) (σ : ℕ → ℕ) where
+  pub closed-outside : (v : ℕ) → v < g .size → R v ≡ false → closedEntries g s R v ≡ s .entries v
+  closed-outside v l out = rules-fills .elsewhere v l out ∙ drawn-outside v l out
+
   -- for a promotion
-  promotes-somehow : (σ' : ℕ → ℕ) × PromotedEntries g s σ σ'
-  promotes-somehow = (
-    λ v. cond (remaining g s v && not (regionSet g s v) && ltb (s .region v) (promotedTo g s)) noEntry (σ v),
-    record {
-      cleared = λ v i out l. rw (i, out, lt-ltb (s .region v) (promotedTo g s) l);
-      promoted = λ v m. rw (region-in g s v m, m);
-      higher =
-          λ v i l.
-          ⊎-elim
-          (λ (m : regionSet g s v ≡ true). rw (i, m))
-          (λ (m : regionSet g s v ≡ false). rw (i, m, le-ltb (s .region v) (promotedTo g s) l))
-          (bool-cases (regionSet g s v));
-      solved = λ v l out. rw out;
-    },
-  )
+  pub rules-promoted : PromotedEntries g s (closedEntries g s R) (promotedEntries g s)
+  rules-promoted =
+      record {
+        cleared =
+            λ v i out l.
+            noted-below noEntry (g .size) _ v (unsolved-below g (s .region) v i) ∙
+            if-false _ out ∙
+            if-true _ (and-intro i (lt-ltb (s .region v) (promotedTo g s) l));
+        promoted = λ v m. noted-below noEntry (g .size) _ v (member-below v m) ∙ if-true _ m;
+        higher =
+            λ v i high.
+            let l = unsolved-below g (s .region) v i in
+            ⊎-elim
+            (λ (m : R v ≡ true). noted-below noEntry (g .size) _ v l ∙ if-true _ m)
+            (λ (m : R v ≡ false).
+            noted-below noEntry (g .size) _ v l ∙
+            if-false _ m ∙
+            if-false _
+            (not-true-is-false
+            (remaining g s v && ltb (s .region v) (promotedTo g s))
+            (λ q. clash (and-right (remaining g s v) _ q) (le-ltb (s .region v) (promotedTo g s) high))) ∙
+            sym (closed-outside v l m))
+            (bool-cases (R v));
+        solved =
+            λ v l out.
+            let m = not-true-is-false (R v) (λ m. clash (region-in g s v m) out) in
+            noted-below noEntry (g .size) _ v l ∙ if-false _ m ∙
+            if-false _
+            (not-true-is-false
+            (remaining g s v && ltb (s .region v) (promotedTo g s))
+            (λ q. clash (and-left (remaining g s v) _ q) out)) ∙
+            sym (closed-outside v l m);
+      }
 
-  -- and for a dominion
-  solves-somehow : (σ' : ℕ → ℕ) × SolvedEntries g s σ σ'
-  solves-somehow =
-      let cert = dominion-certificate g s in (
-        λ v. cond (remaining g s v) (cond (regionSet g s v) (σ v) (cond (dominionSet g s v) (cert .pull v) noEntry)) (σ v),
+  module _ (few : g .size ≤ noEntry) where
+    pub rules-attracted : AttractedEntries g s (s .entries) (drawnEntries g s R)
+    rules-attracted =
+        record {
+          certificate = region-certificate g s;
+          near = λ v m t o. region-near g s v;
+          pulled = λ v m t o. drawn-at v (member-below v m) ∙ if-true _ (and-intro m (ap not t)) ∙ region-entry g s few v m t o;
+          kept =
+              λ v t o.
+              drawn-at v (member-below v (region-certificate g s .closed .target v t)) ∙
+              if-false _
+              (not-true-is-false
+              (R v && not (atRegion (remaining g s) (s .region) (s .current) v))
+              (λ q. clash t (not-true (atRegion (remaining g s) (s .region) (s .current) v) (and-right (R v) _ q))));
+          elsewhere = drawn-outside;
+        }
+
+    -- and for a dominion
+    pub rules-solved : SolvedEntries g s (closedEntries g s R) (solvedEntries g s)
+    rules-solved =
+        let cert = dominion-certificate g s in
         record {
           certificate = cert;
-          pulled = λ v d out o. rw (cert .inside v d, out, d);
-          kept = λ v m o. rw (region-in g s v m, m);
+          near = λ v d out o. dominion-near g s v;
+          pulled =
+              λ v d out o.
+              noted-below noEntry (g .size) _ v (unsolved-below g (s .region) v (cert .inside v d)) ∙
+              if-false _ out ∙
+              if-true _ (cert .inside v d) ∙
+              dominion-entry g s few v d out o;
+          kept = λ v m o. noted-below noEntry (g .size) _ v (member-below v m) ∙ if-true _ m;
           cleared =
               λ v i out.
-              let not-R = not-true-is-false (regionSet g s v) (λ m. clash (cert .closed .target v m) out) in
-              rw (i, not-R, out);
-          solved = λ v l out. rw out;
-        },
-      )
+              noted-below noEntry (g .size) _ v (unsolved-below g (s .region) v i) ∙
+              if-false _ (not-true-is-false (R v) (λ m. clash (cert .closed .target v m) out)) ∙
+              if-true _ i ∙
+              dominion-bare g s v (λ d o. clash d out);
+          solved =
+              λ v l out.
+              let m = not-true-is-false (R v) (λ m. clash (region-in g s v m) out) in
+              noted-below noEntry (g .size) _ v l ∙ if-false _ m ∙ if-false _ out ∙ sym (closed-outside v l m);
+        }
 
--- **whatever the entries, some are as the round asks**
-pub round-somehow : (g : Game) (s : Regions) (σ : ℕ → ℕ) → (σ' : ℕ → ℕ) × RoundEntries g s σ σ'
-round-somehow g s σ =
-    let (σ₁, attracted) =
-    attracts-somehow g (remaining g s) (s .region) (s .current) (regionSet g s) (region-certificate g s) σ in
-    go σ₁ attracted (round-kind g s)
-  where
-    go : (σ₁ : ℕ → ℕ) → AttractedEntries g s σ σ₁ → Round g s → (σ' : ℕ → ℕ) × RoundEntries g s σ σ'
-    go σ₁ attracted (opening opens) = (σ₁, opened opens attracted)
-    go σ₁ attracted (promoting closed has) =
-        let (σ', entries) = promotes-somehow g s σ₁ in (σ', promotes closed has attracted entries)
-    go σ₁ attracted (solving closed none) =
-        let (σ', entries) = solves-somehow g s σ₁ in (σ', solves closed none attracted entries)
+    -- **the rules' entries are as the round asks**
+    pub rules-round : RoundEntries g s (s .entries) (roundOf g s .entries)
+    rules-round = go (round-kind g s)
+      where
+        go : Round g s → RoundEntries g s (s .entries) (roundOf g s .entries)
+        go (opening opens) = rw (open-entries g s opens) (opened opens rules-attracted)
+        go (promoting closed has) =
+            rw (round-promotes g s closed has) (promotes closed has rules-attracted rules-fills rules-promoted)
+        go (solving closed none) =
+            rw (round-solves g s closed none) (solves closed none rules-attracted rules-fills rules-solved)
 
--- **The state after any number of rounds is reached with some entries**,
-pub after-rounded : (g : Game) (k : ℕ) → (σ : ℕ → ℕ) × Rounded g (afterRounds g k) σ
-unfolding afterRounds
-after-rounded g zero = (λ v. noEntry, starts (λ v l. refl))
-after-rounded g (suc k) =
-    let (σ, before) = after-rounded g k in
-    let (σ', entries) = round-somehow g (afterRounds g k) σ in
-    (σ', rounds before entries)
+-- **The state after any number of rounds is reached with its entries**,
+pub after-rounded : (g : Game) → g .size ≤ noEntry → (k : ℕ) → Rounded g (afterRounds g k) (afterRounds g k .entries)
+unfolding afterRounds atStart
+after-rounded g few zero = starts (λ v l. refl)
+after-rounded g few (suc k) = rounds (after-rounded g few k) (rules-round g (afterRounds g k) few)
 
 -- and with entries no other state is reached
 pub rounded-after : {g : Game} {s : Regions} {σ : ℕ → ℕ} → Rounded g s σ → (k : ℕ) × (s ≡ afterRounds g k)
@@ -206,4 +200,4 @@ pub rounds-sets :
     (k : ℕ) →
     allSolved g (afterRounds g k) ≡ true →
     WinningSets g (afterRounds g k .won)
-rounds-sets g total low few k done = promotion-sets g total low few (after-rounded g k .1) done
+rounds-sets g total low few k done = promotion-sets g total low few (after-rounded g few k) done

@@ -12,14 +12,17 @@ use Rattle.rules.specs.Counting.{Set, someOf}
 use Rattle.rules.specs.Game.{Game, Edge, Total, parity}
 use Rattle.rules.specs.Words.{noEntry}
 use Rattle.rules.specs.Winning.{Cycle}
-use Rattle.theory.specs.Basics.{bool-cases, clash, lt-or-ge, someOf-false}
+use Rattle.theory.specs.Basics.{bool-cases, clash, lt-or-ge, not-true-is-false, someOf-elim}
+use Rattle.theory.specs.Distance.{lowestIn-found}
 use Rattle.theory.specs.Walks.{Among, walk-map, cycle-splits, no-falling-cycle, first-edge, hits, highest-is}
 use Rattle.theory.specs.Dominion.{Inside, GoodCycles, owner-cases, good-cycles-sub}
 use Rattle.theory.specs.AttractorRank.{Certificate}
-use Rattle.theory.specs.PromotionBasics.{atRegion, upTo, at-intro, at-in, at-is, not-at}
-use Rattle.theory.specs.PromotionEntries.{Attracts}
-use Rattle.theory.specs.PromotionRegions.{Placed, Promotes, Moved, lifted, reset, stayed, promoted-player, gained-in, gained-low, same-above}
-use Rattle.theory.specs.PromotionRegions.{same-elsewhere, gained-is, placed-attracted, stays-upper, goes-up, placed-promoted}
+use Rattle.theory.specs.PromotionBasics.{equal-cases, atRegion, upTo, at-intro, at-in, at-is, not-at}
+use Rattle.theory.specs.PromotionEntries.{Attracts, Fills}
+use Rattle.theory.specs.PromotionRegions.{Placed, Promotes, Moved, lifted, reset, stayed, promoted-player, gained-in}
+use Rattle.theory.specs.PromotionRegions.{gained-low, same-above}
+use Rattle.theory.specs.PromotionRegions.{same-elsewhere, gained-is, placed-attracted, stays-upper, goes-up}
+use Rattle.theory.specs.PromotionRegions.{placed-promoted}
 
 -- the entry of v leads on inside v's region
 abbrev pub Stays : Game → Set → (ℕ → ℕ) → (ℕ → ℕ) → ℕ → Type 0
@@ -123,29 +126,11 @@ module _
         (λ goes.
         let (e, j, same) = goes in
         inr (
-          entries .kept v t o (edge-entry total small e),
+          entries .kept v t o,
           e,
           at-intro X r p (σ v) j (same ∙ is),
         ))
         (entered .own v i (o ∙ ap parity (sym is)))
-
-    -- **an own vertex of R that has a target in R has an entry in R**
-    pub attracted-own :
-        (v : ℕ) →
-        R v ≡ true →
-        g .owner v ≡ parity p →
-        someOf (g .targets v) R ≡ true →
-        Edge g v (σ' v) × (R (σ' v) ≡ true)
-    attracted-own v m o has =
-        ⊎-elim
-        (λ t.
-        ⊎-elim
-        (λ head. entries .chosen v t o (head .0) has)
-        (λ goes. let (same, e, j) = goes in rw same (e, entries .certificate .closed .target (σ v) j))
-        (old-own v t o))
-        (λ t.
-        let (e, k, less) = entries .certificate .pulled v m t o in rw (entries .pulled v m t o) (e, k))
-        (bool-cases (atRegion X r p v))
 
     module _
         (r' : ℕ → ℕ)
@@ -167,27 +152,25 @@ module _
             (bool-cases (R v))
 
         own-in : (v : ℕ) → R v ≡ true → g .owner v ≡ parity p → StaysOrHead g X r' σ' v
-        own-in v m o = ⊎-elim has has-not (bool-cases (someOf (g .targets v) R))
+        own-in v m o =
+            ⊎-elim
+            (λ t.
+            ⊎-elim
+            (λ head. inl (entries .kept v t o ∙ head .0, head .1 ∙ sym (gained v m)))
+            (λ goes. let (same, e, j) = goes in rw same (on v m (σ v) e (cert .closed .target (σ v) j)))
+            (old-own v t o))
+            (λ t.
+            let (e, k, less) = cert .pulled v m t o in rw (entries .pulled v m t o) (on v m (cert .pull v) e k))
+            (bool-cases (atRegion X r p v))
           where
-            has : someOf (g .targets v) R ≡ true → StaysOrHead g X r' σ' v
-            has t =
-                let (e, k) = attracted-own v m o t in
-                inr (e, gained-in placed cert r' gained rest (σ' v) k, gained (σ' v) k ∙ sym (gained v m))
-
-            has-not : someOf (g .targets v) R ≡ false → StaysOrHead g X r' σ' v
-            has-not f =
-                ⊎-elim
-                (λ t.
-                ⊎-elim
-                (λ head. inl (entries .missing v t o (head .0) f, head .1 ∙ sym (gained v m)))
-                (λ goes.
-                let (same, e, j) = goes in
-                absurd (clash (cert .closed .target (σ v) j) (someOf-false (g .targets v) R f (σ v) e)))
-                (old-own v t o))
-                (λ t.
-                let (e, k, less) = cert .pulled v m t o in
-                absurd (clash k (someOf-false (g .targets v) R f (cert .pull v) e)))
-                (bool-cases (atRegion X r p v))
+            on :
+                (v : ℕ) →
+                R v ≡ true →
+                (w : ℕ) →
+                Edge g v w →
+                R w ≡ true →
+                ((w ≡ noEntry) × (g .priority v ≡ r' v)) ⊎ (Edge g v w × (X w ≡ true) × (r' w ≡ r' v))
+            on v m w e k = inr (e, gained-in placed cert r' gained rest w k, gained w k ∙ sym (gained v m))
 
         own-out : (v : ℕ) → X v ≡ true → R v ≡ false → g .owner v ≡ parity (r v) → StaysOrHead g X r' σ' v
         own-out v i out o =
@@ -339,6 +322,115 @@ module _
         -- **Attracting keeps the entries inside the regions.**
         pub entered-attracted : Entered g X r' p σ'
         entered-attracted = record { absent = absent-attracted; own = own-attracted; cycles = cycles-attracted }
+
+-- closing: own vertices of region p without an entry take one, each the lowest-numbered successor in it
+
+module _
+    {g : Game}
+    {X : Set}
+    {r : ℕ → ℕ}
+    {p : ℕ}
+    {R : Set}
+    {σ σ' : ℕ → ℕ}
+    (total : Total g)
+    (small : g .size ≤ noEntry)
+    (placed : Placed g X r p)
+    (entered : Entered g X r p σ)
+    (is-region : (v : ℕ) → R v ≡ true → (X v ≡ true) × (r v ≡ p))
+    (region-is : (v : ℕ) → X v ≡ true → r v ≡ p → R v ≡ true)
+    (leads : (v : ℕ) → R v ≡ true → g .owner v ≡ parity p → someOf (g .targets v) R ≡ true)
+    (fills : Fills g (parity p) R σ σ')
+  where
+    -- an own vertex of R is a head without an entry, or keeps its entry
+    was-own :
+        (v : ℕ) →
+        R v ≡ true →
+        g .owner v ≡ parity p →
+        ((σ v ≡ noEntry) × (g .priority v ≡ p)) ⊎ ((σ' v ≡ σ v) × Edge g v (σ v) × (R (σ v) ≡ true))
+    was-own v m o =
+        let (i, is) = is-region v m in
+        ⊎-elim
+        (λ head. inl (head .0, head .1 ∙ is))
+        (λ goes.
+        let (e, j, on) = goes in
+        inr (fills .given v m o (edge-entry total small e), e, region-is (σ v) j (on ∙ is)))
+        (entered .own v i (o ∙ ap parity (sym is)))
+
+    -- **now it has an entry in R**
+    pub filled-own : (v : ℕ) → R v ≡ true → g .owner v ≡ parity p → Edge g v (σ' v) × (R (σ' v) ≡ true)
+    filled-own v m o =
+        ⊎-elim
+        (λ head.
+        let (w, e, k) = someOf-elim (g .targets v) R (leads v m o) in
+        rw (fills .filled v m o (head .0)) (lowestIn-found g R v w (total .ends v w e) e k))
+        (λ goes. let (same, e, k) = goes in rw same (e, k))
+        (was-own v m o)
+
+    -- outside region p nothing changes
+    unfilled : (v : ℕ) → X v ≡ true → (r v ≡ p → ⊥) → σ' v ≡ σ v
+    unfilled v i differs =
+        fills .elsewhere v (placed .below v i) (not-true-is-false (R v) (λ m. differs (is-region v m .1)))
+
+    filled-stays : (v : ℕ) → X v ≡ true → g .owner v ≡ parity (r v) → StaysOrHead g X r σ' v
+    filled-stays v i o = ⊎-elim inside outside (bool-cases (R v))
+      where
+        inside : R v ≡ true → StaysOrHead g X r σ' v
+        inside m =
+            let (j, is) = is-region v m in
+            let (e, k) = filled-own v m (o ∙ ap parity is) in
+            let (i', is') = is-region (σ' v) k in
+            inr (e, i', is' ∙ sym is)
+
+        outside : R v ≡ false → StaysOrHead g X r σ' v
+        outside m = rw (fills .elsewhere v (placed .below v i) m) (entered .own v i o)
+
+    -- a cycle of region p passes a head or goes by the old entries
+    filled-steps :
+        (x y : ℕ) →
+        Among (λ u. heads g p u ≡ false) (Inside g (parity p) (atRegion X r p) σ') x y →
+        Inside g (parity p) (atRegion X r p) σ x y
+    filled-steps x y s =
+        let t = s .edge .start in
+        record {
+          edge =
+              record {
+                edge = s .edge .edge .edge;
+                fixed =
+                    λ o.
+                    ⊎-elim
+                    (λ head. absurd (eqb-false (g .priority x) p (s .start) (head .1)))
+                    (λ goes. s .edge .edge .fixed o ∙ goes .0)
+                    (was-own x (region-is x (at-in X r p x t) (at-is X r p x t)) o);
+              };
+          start = t;
+          end = s .edge .end;
+        }
+
+    filled-cycles : (q : ℕ) → GoodCycles g (parity q) (atRegion X r q) σ'
+    filled-cycles q = ⊎-elim here elsewhere (equal-cases q p)
+      where
+        here : q ≡ p → GoodCycles g (parity q) (atRegion X r q) σ'
+        here e =
+            rw e
+            (good-by-heads (atRegion X r p) p σ'
+            (λ v t. le-trans (placed .high v (at-in X r p v t)) (le-of-eq (at-is X r p v t)))
+            (λ v m c. entered .cycles p v m (walk-map filled-steps c)))
+
+        elsewhere : (q ≡ p → ⊥) → GoodCycles g (parity q) (atRegion X r q) σ'
+        elsewhere differs =
+            good-cycles-sub (atRegion X r q) (atRegion X r q) σ σ'
+            (λ v t. t)
+            (λ v t o. unfilled v (at-in X r q v t) (λ is. differs (sym (at-is X r q v t) ∙ is)))
+            (entered .cycles q)
+
+    -- **Closing keeps the entries inside the regions.**
+    pub entered-filled : Entered g X r p σ'
+    entered-filled =
+        record {
+          absent = λ v i l. unfilled v i (λ is. omega arith) ∙ entered .absent v i l;
+          own = filled-stays;
+          cycles = filled-cycles;
+        }
 
 -- promoting
 

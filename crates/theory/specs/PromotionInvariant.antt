@@ -10,21 +10,27 @@ use Rattle.rules.specs.Counting.{Set, some, noted, within, union}
 use Rattle.rules.specs.Game.{Player, Game, Total, Edge}
 use Rattle.rules.specs.Words.{noEntry}
 use Rattle.rules.specs.Promotion.{Regions, solvedRegion, unsolved, atStart, regionSet, isOpen, wayOut, roundOf}
-use Rattle.theory.specs.Basics.{clash, not-true-is-false, not-false-is-true, true-same, false-same, within-all, union-cases, some-false}
+use Rattle.theory.specs.Basics.{clash, not-true-is-false, not-false-is-true, true-same, false-same, within-all, union-cases}
+use Rattle.theory.specs.Basics.{some-false}
 use Rattle.theory.specs.Basics.{without-left, without-right}
 use Rattle.theory.specs.Dominion.{Dominion, dominion-cong, dominion-drawn, ranked-held, good-cycles-sub}
 use Rattle.theory.specs.AttractorComplement.{own-stays-out}
 use Rattle.theory.specs.PromotionBasics.{noted-below, atRegion, at-intro}
-use Rattle.theory.specs.PromotionEntries.{mover, remaining, promotedTo, dominionSet, AttractedEntries, PromotedEntries, SolvedEntries}
+use Rattle.theory.specs.PromotionEntries.{mover, remaining, promotedTo, dominionSet, AttractedEntries, Fills}
+use Rattle.theory.specs.PromotionEntries.{PromotedEntries, SolvedEntries}
 use Rattle.theory.specs.PromotionEntries.{RoundEntries, opened, promotes, solves, Rounded, starts, rounds}
 use Rattle.theory.specs.PromotionRegions.{Placed, Promotes}
-use Rattle.theory.specs.PromotionInside.{Entered, entered-afresh, entered-lower, attracted-own, entered-attracted, entered-promoted}
+use Rattle.theory.specs.PromotionInside.{Entered, entered-afresh, entered-lower, entered-attracted, filled-own}
+use Rattle.theory.specs.PromotionInside.{entered-filled, entered-promoted}
 use Rattle.theory.specs.PromotionSolved.{Solved, solved-none, solved-entries, solved-more}
 use Rattle.theory.specs.PromotionTests.{unsolved-below, region-in, closed-own, way-intro, promoted-small}
-use Rattle.theory.specs.PromotionRounds.{attractedRegion, promotedRegion, solvedRegions, attracted-gained, attracted-rest, attracted-unsolved}
-use Rattle.theory.specs.PromotionRounds.{promoted-unsolved, solved-unsolved, loweredTo, loweredState, promotedState, solvedState, round-opens}
+use Rattle.theory.specs.PromotionRounds.{attractedRegion, promotedRegion, solvedRegions, attracted-gained, attracted-rest}
+use Rattle.theory.specs.PromotionRounds.{attracted-unsolved}
+use Rattle.theory.specs.PromotionRounds.{promoted-unsolved, solved-unsolved, loweredTo, loweredState, promotedState}
+use Rattle.theory.specs.PromotionRounds.{solvedState, round-opens}
 use Rattle.theory.specs.PromotionRounds.{round-promotes, round-solves}
-use Rattle.theory.specs.PromotionStanding.{Standing, standing-start, standing-round, start-all, solved-fresh, lowered-less, open-goes-down}
+use Rattle.theory.specs.PromotionStanding.{Standing, standing-start, standing-round, start-all, solved-fresh, lowered-less}
+use Rattle.theory.specs.PromotionStanding.{open-goes-down}
 use Rattle.theory.specs.PromotionStanding.{placed-here, here-region, way-promotes, promotion-moves}
 
 -- what is true of every state with entries that rounds reach
@@ -102,16 +108,35 @@ module _
             (entered-lower (loweredTo g s) (lowered-less g s placed small opens) entered-here)
             (solved-entries σ₁ solved-stays (inv .solved))
 
-        module _ (closed : isOpen g s (regionSet g s) ≡ false) where
+        module _ (closed : isOpen g s (regionSet g s) ≡ false) {σ₂ : ℕ → ℕ} (fills : Fills g (mover s) (regionSet g s) σ₁ σ₂) where
+          -- R is region p now
+          is-region : (v : ℕ) → regionSet g s v ≡ true → (remaining g s v ≡ true) × (attractedRegion g s v ≡ s .current)
+          is-region v m = (region-in g s v m, attracted-gained g s v m)
+
           -- where R is closed, own vertices of R have an entry in R
-          region-own : (v : ℕ) → regionSet g s v ≡ true → g .owner v ≡ mover s → Edge g v (σ₁ v) × (regionSet g s (σ₁ v) ≡ true)
-          region-own v m o = attracted-own total few placed (inv .entered) attracted v m o (closed-own g s closed v m o)
+          region-own : (v : ℕ) → regionSet g s v ≡ true → g .owner v ≡ mover s → Edge g v (σ₂ v) × (regionSet g s (σ₂ v) ≡ true)
+          region-own =
+              filled-own total few (placed-here g s placed) entered-here is-region (here-region g s placed)
+              (closed-own g s closed)
+              fills
+
+          entered-closed : Entered g (remaining g s) (attractedRegion g s) (s .current) σ₂
+          entered-closed =
+              entered-filled total few (placed-here g s placed) entered-here is-region (here-region g s placed)
+              (closed-own g s closed)
+              fills
+
+          -- entries of what was solved stay
+          solved-still : (v : ℕ) → v < g .size → remaining g s v ≡ false → σ₂ v ≡ σ v
+          solved-still v l out =
+              fills .elsewhere v l (not-true-is-false (regionSet g s v) (λ m. clash (region-in g s v m) out)) ∙
+              solved-stays v l out
 
           -- a promotion
           after-promoted :
               some (g .size) (wayOut g s (regionSet g s)) ≡ true →
               {σ' : ℕ → ℕ} →
-              PromotedEntries g s σ₁ σ' →
+              PromotedEntries g s σ₂ σ' →
               After (promotedState g s) σ'
           after-promoted has {σ'} entries =
               after-of
@@ -120,13 +145,13 @@ module _
               (promoted-unsolved g s (promoted-small g s closed has) below-solved)
               (entered-promoted
               (placed-here g s placed)
-              entered-here
+              entered-closed
               up
               (promotedRegion g s)
               (promotion-moves g s placed)
               (λ v i is o.
               let (e, m) = region-own v (here-region g s placed v i is) o in
-              (e, region-in g s (σ₁ v) m, attracted-gained g s (σ₁ v) m ∙ sym is))
+              (e, region-in g s (σ₂ v) m, attracted-gained g s (σ₂ v) m ∙ sym is))
               (λ v i is. entries .promoted v (here-region g s placed v i is))
               (λ v i differs less.
               let out = not-true-is-false (regionSet g s v) (λ m. differs (attracted-gained g s v m)) in
@@ -134,7 +159,7 @@ module _
               (λ v i high.
               let out = not-true-is-false (regionSet g s v) (outside v high) in
               entries .higher v i (rw (attracted-rest g s v i out) at high)))
-              (solved-entries σ' (λ v l out. entries .solved v l out ∙ solved-stays v l out) (inv .solved))
+              (solved-entries σ' (λ v l out. entries .solved v l out ∙ solved-still v l out) (inv .solved))
             where
               up : Promotes g (remaining g s) (attractedRegion g s) (s .current) (promotedTo g s)
               up = way-promotes g s placed closed has
@@ -144,7 +169,7 @@ module _
 
           -- a dominion
           module _ (none : some (g .size) (wayOut g s (regionSet g s)) ≡ false) where
-            region-dominion : Dominion g (mover s) (remaining g s) (regionSet g s) σ₁
+            region-dominion : Dominion g (mover s) (remaining g s) (regionSet g s) σ₂
             region-dominion =
                 record {
                   within = region-in g s;
@@ -162,15 +187,15 @@ module _
                       good-cycles-sub
                       (atRegion (remaining g s) (attractedRegion g s) (s .current))
                       (regionSet g s)
-                      σ₁
-                      σ₁
+                      σ₂
+                      σ₂
                       (λ v m.
                       at-intro (remaining g s) (attractedRegion g s) (s .current) v (region-in g s v m) (attracted-gained g s v m))
                       (λ v m o. refl)
-                      (entered-here .cycles (s .current));
+                      (entered-closed .cycles (s .current));
                 }
 
-            module _ {σ' : ℕ → ℕ} (entries : SolvedEntries g s σ₁ σ') where
+            module _ {σ' : ℕ → ℕ} (entries : SolvedEntries g s σ₂ σ') where
               -- **R is a dominion of the unsolved, and so is D, its attractor among them**
               pub solved-dominion : Dominion g (mover s) (remaining g s) (dominionSet g s) σ'
               solved-dominion =
@@ -197,7 +222,7 @@ module _
                     (mover s)
                     (dominionSet g s)
                     (unsolved-below g (s .region))
-                    (solved-entries σ' (λ v l out. entries .solved v l out ∙ solved-stays v l out) (inv .solved))
+                    (solved-entries σ' (λ v l out. entries .solved v l out ∙ solved-still v l out) (inv .solved))
                     solved-dominion
                     (λ v w i out o e. own-stays-out (entries .certificate .closed) v w i out o e)
                     (λ v. sym (solved-unsolved g s below-solved v))
@@ -239,10 +264,10 @@ module _
               rw
               (round-opens g s opens (open-goes-down g s (inv .standing .small) placed opens))
               (after-opened attracted opens)
-          after (promotes closed has attracted entries) =
-              rw (round-promotes g s closed has) (after-promoted attracted closed has entries)
-          after (solves closed none attracted entries) =
-              rw (round-solves g s closed none) (after-solved attracted closed none entries)
+          after (promotes closed has attracted fills entries) =
+              rw (round-promotes g s closed has) (after-promoted attracted closed fills has entries)
+          after (solves closed none attracted fills entries) =
+              rw (round-solves g s closed none) (after-solved attracted closed fills none entries)
 
     -- **So it holds of every state with entries that rounds reach.**
     pub rounded-invariant : {s : Regions} {σ : ℕ → ℕ} → Rounded g s σ → Invariant g s σ

@@ -9,8 +9,11 @@ use borrow.Author.Tests.{lt-ltb, le-ltb}
 use lib.Dec.{ltb}
 use Rattle.rules.specs.Counting.{Set, some, greatest, noted, without, union, within}
 use Rattle.rules.specs.Game.{Game, same}
-use Rattle.rules.specs.Promotion.{Regions, solvedRegion, unsolved, highestRegion, regionSet, isOpen, wayOut, movedDown, dominionSolved, promoted}
-use Rattle.rules.specs.Promotion.{roundOf}
+use Rattle.rules.specs.Promotion.{Regions, solvedRegion, unsolved, highestRegion, regionSet, isOpen, wayOut, movedDown}
+use Rattle.rules.specs.Promotion.{dominionSolved, promoted}
+use Rattle.rules.specs.Promotion.{roundOf, drawnEntries, closedEntries}
+use Rattle.rules.specs.Distance.{attractorEntry}
+use Rattle.rules.specs.Words.{noEntry}
 use Rattle.theory.specs.Basics.{bool-cases, clash, bool-ext, not-true-is-false, not-false-is-true, lt-or-ge, without-left}
 use Rattle.theory.specs.PromotionBasics.{noted-below}
 use Rattle.theory.specs.PromotionEntries.{mover, remaining, promotedTo, dominionSet}
@@ -159,13 +162,35 @@ module _ (g : Game) (s : Regions) where
   abbrev pub loweredTo : ℕ
   loweredTo = greatest (g .size) lowerVertices attractedRegion
 
+  -- the entries after a promotion and after a dominion
+
+  abbrev pub promotedEntries : ℕ → ℕ
+  promotedEntries =
+      noted noEntry (g .size)
+      (λ v.
+      cond
+      (regionSet g s v)
+      (closedEntries g s (regionSet g s) v)
+      (cond (remaining g s v && ltb (s .region v) (promotedTo g s)) noEntry (s .entries v)))
+
+  abbrev pub solvedEntries : ℕ → ℕ
+  solvedEntries =
+      noted noEntry (g .size)
+      (λ v.
+      cond
+      (regionSet g s v)
+      (closedEntries g s (regionSet g s) v)
+      (cond (remaining g s v) (attractorEntry g (mover s) (remaining g s) (regionSet g s) v) (s .entries v)))
+
   -- the state after each kind of round
 
   abbrev pub loweredState : Regions
-  loweredState = record { region = attractedRegion; current = loweredTo; won = s .won }
+  loweredState =
+      record { region = attractedRegion; current = loweredTo; won = s .won; entries = drawnEntries g s (regionSet g s) }
 
   abbrev pub promotedState : Regions
-  promotedState = record { region = promotedRegion; current = promotedTo g s; won = s .won }
+  promotedState =
+      record { region = promotedRegion; current = promotedTo g s; won = s .won; entries = promotedEntries }
 
   abbrev pub solvedState : Regions
   solvedState =
@@ -173,12 +198,17 @@ module _ (g : Game) (s : Regions) where
         region = solvedRegions;
         current = highestRegion g solvedRegions;
         won = λ b. cond (same (mover s) b) (within (g .size) (union (s .won b) (dominionSet g s))) (s .won b);
+        entries = solvedEntries;
       }
 
   pub round-opens :
       isOpen g s (regionSet g s) ≡ true → some (g .size) lowerVertices ≡ true → roundOf g s ≡ loweredState
   unfolding roundOf movedDown
   round-opens p q = rw (p, roundOf) (rw q refl)
+
+  pub open-entries : isOpen g s (regionSet g s) ≡ true → roundOf g s .entries ≡ drawnEntries g s (regionSet g s)
+  unfolding roundOf movedDown
+  open-entries p = rw (p, roundOf) refl
 
   pub round-promotes :
       isOpen g s (regionSet g s) ≡ false →

@@ -2,7 +2,7 @@
 -- next region below, and what the round makes of the table and of the entries. So code that keeps such a table meets the rules' round.
 use mathlib.Core.Bool.{true, false, _&&_, _||_, not, cond, and-false}
 use mathlib.Core.Logic.{⊎-elim}
-use mathlib.Core.Path.{_≡_, refl, sym, fun-ext, subst, subst₂, subst₃, _∙_}
+use mathlib.Core.Path.{_≡_, refl, sym, ap₂, fun-ext, subst, subst₂, _∙_}
 use Prim.Native.Nat.{ℕ, zero, suc, _≤_, _<_}
 use native.Mathlib.Nat.{le-refl}
 use native.Mathlib.Omega.{arith}
@@ -11,21 +11,28 @@ use lib.Dec.{eqb, ltb}
 use Rattle.rules.specs.Counting.{Set, some, someOf, lowest, greatest, union}
 use Rattle.rules.specs.Game.{Player, Game, Total, parity, same}
 use Rattle.rules.specs.Words.{noEntry}
-use Rattle.rules.specs.Attractor.{Closed}
-use Rattle.rules.specs.Promotion.{Regions, solvedRegion, unsolved, highestRegion, regionSet, isOpen, wayOut, roundOf, atStart, afterRounds, movedDown}
+use Rattle.rules.specs.Promotion.{Regions, solvedRegion, unsolved, highestRegion, regionSet, isOpen, wayOut, roundOf, atStart}
+use Rattle.rules.specs.Promotion.{afterRounds, movedDown}
 use Rattle.rules.specs.Promotion.{promoted}
-use Rattle.theory.specs.Basics.{not-false-is-true, false-some, lowest-none, lowest-le, within-below, some-intro, some-elim, some-false}
-use Rattle.theory.specs.Basics.{someOf-intro, someOf-elim, false-same, same-false, lt-or-ge, bool-cases, clash, bool-ext, and-intro, and-left}
+use Rattle.theory.specs.Basics.{not-false-is-true, false-some, lowest-none, lowest-le, within-below, some-intro, some-elim}
+use Rattle.theory.specs.Basics.{some-false}
+use Rattle.theory.specs.Basics.{someOf-intro, someOf-elim, false-same, same-false, lt-or-ge, bool-cases, clash, bool-ext}
+use Rattle.theory.specs.Basics.{and-intro, and-left}
 use Rattle.theory.specs.Basics.{and-right, some-cong, someOf-cong, not-true-is-false}
-use Rattle.theory.specs.AttractorRank.{Certificate, certificate-is}
+use Rattle.theory.specs.Distance.{nearest}
+use Rattle.theory.specs.AttractorRank.{Certificate, certificate-cong, certificate-is}
 use Rattle.theory.specs.Attractor.{attractor-unique, attractor-is, attractor-same}
 use Rattle.theory.specs.Greatest.{greatest-cong}
 use Rattle.theory.specs.PromotionBasics.{lowest-cong, noted-below, noted-above, atRegion, upTo, at-intro, at-in, at-is}
-use Rattle.theory.specs.PromotionEntries.{mover, remaining, promotedTo, dominionSet, Attracts, AttractedEntries, PromotedEntries, SolvedEntries}
-use Rattle.theory.specs.PromotionTests.{unsolved-below, unsolved-intro, region-in, region-out, region-certificate, way-intro, way-elim}
+use Rattle.theory.specs.PromotionEntries.{mover, remaining, promotedTo, dominionSet, Attracts, AttractedEntries}
+use Rattle.theory.specs.PromotionEntries.{PromotedEntries, SolvedEntries}
+use Rattle.theory.specs.PromotionTests.{unsolved-below, unsolved-intro, region-in, region-out, region-certificate}
+use Rattle.theory.specs.PromotionTests.{way-intro, way-elim}
 use Rattle.theory.specs.PromotionTests.{promoted-small, wayAt}
-use Rattle.theory.specs.PromotionRounds.{Round, opening, promoting, solving, round-kind, lowerVertices, loweredTo, round-opens, round-promotes}
-use Rattle.theory.specs.PromotionRounds.{round-solves, promoted-gained, promoted-reset, promoted-kept, attractedRegion, attracted-gained}
+use Rattle.theory.specs.PromotionRounds.{Round, opening, promoting, solving, round-kind, lowerVertices, loweredTo}
+use Rattle.theory.specs.PromotionRounds.{round-opens, round-promotes}
+use Rattle.theory.specs.PromotionRounds.{round-solves, promoted-gained, promoted-reset, promoted-kept, attractedRegion}
+use Rattle.theory.specs.PromotionRounds.{attracted-gained}
 use Rattle.theory.specs.PromotionRounds.{promotedRegion}
 use Rattle.theory.specs.PromotionStanding.{Standing, open-goes-down}
 
@@ -49,34 +56,6 @@ nextAbove g t p = lowest solvedRegion (λ q. ltb p q && some (g .size) (leadsUp 
 -- the highest region below p
 abbrev pub nextBelow : Game → (ℕ → ℕ) → ℕ → ℕ
 nextBelow g t p = greatest (g .size) (λ v. ltb (t v) p) t
-
--- a certificate depends on the sets by their members alone, and keeps its entries
-certificate-cong :
-    {g : Game} {a : Player} {V₁ V₂ T₁ T₂ S₁ S₂ : Set} →
-    ((v : ℕ) → V₁ v ≡ V₂ v) →
-    ((v : ℕ) → T₁ v ≡ T₂ v) →
-    ((v : ℕ) → S₁ v ≡ S₂ v) →
-    Certificate g a V₁ T₁ S₁ →
-    Certificate g a V₂ T₂ S₂
-certificate-cong {g} {a} {V₁} {V₂} {T₁} {T₂} {S₁} {S₂} sameV sameT sameS cert =
-    record {
-      rank = cert .rank;
-      pull = cert .pull;
-      closed =
-          subst₃ (λ (V' T S : Set). Closed g a V' T S) (fun-ext sameV) (fun-ext sameT) (fun-ext sameS) (cert .closed);
-      inside = λ v m. sym (sameV v) ∙ cert .inside v (sameS v ∙ m);
-      low = λ v m. cert .low v (sameS v ∙ m);
-      start = λ v m. cert .start v (sameT v ∙ m);
-      pulled =
-          λ v m out o.
-          let (e, k, less) = cert .pulled v (sameS v ∙ m) (sameT v ∙ out) o in (e, sym (sameS (cert .pull v)) ∙ k, less);
-      pushed =
-          λ v m out o w e i.
-          let (k, less) = cert .pushed v (sameS v ∙ m) (sameT v ∙ out) o w e (sameV w ∙ i) in (sym (sameS w) ∙ k, less);
-      leads =
-          λ v m out o.
-          let (w, e, i) = cert .leads v (sameS v ∙ m) (sameT v ∙ out) o in (w, e, sym (sameV w) ∙ i);
-    }
 
 -- the table before the round
 
@@ -453,15 +432,24 @@ module _
       -- **What a dominion does to the entries, by the table.**
       pub solved-entries-read :
           {σ σ' : ℕ → ℕ} →
+          ((v : ℕ) →
+          D v ≡ true →
+          atRegion (unsolved g t) t (s .current) v ≡ false →
+          g .owner v ≡ parity (s .current) →
+          cert .pull v ≡ nearest g (parity (s .current)) (unsolved g t) (atRegion (unsolved g t) t (s .current)) v) →
           ((v : ℕ) → D v ≡ true → (t v ≡ s .current → ⊥) → g .owner v ≡ parity (s .current) → σ' v ≡ cert .pull v) →
           ((v : ℕ) → v < g .size → t v ≡ s .current → g .owner v ≡ parity (s .current) → σ' v ≡ σ v) →
           ((v : ℕ) → v < g .size → t v < solvedRegion → D v ≡ false → σ' v ≡ noEntry) →
           ((v : ℕ) → v < g .size → solvedRegion ≤ t v → σ' v ≡ σ v) →
           SolvedEntries g s σ σ'
       unfolding certificate-cong
-      solved-entries-read {σ} {σ'} pulled kept cleared solved =
+      solved-entries-read {σ} {σ'} near pulled kept cleared solved =
           record {
             certificate = certificate-cong unsolved-same region-same dominion-read cert;
+            near =
+                λ v d out o.
+                near v (dominion-read v ∙ d) (region-same v ∙ out) o ∙
+                ap₂ (λ (X Y : Set). nearest g (parity (s .current)) X Y v) (fun-ext unsolved-same) (fun-ext region-same);
             pulled =
                 λ v d out o.
                 let l = unsolved-below g t v (cert .inside v (dominion-read v ∙ d)) in

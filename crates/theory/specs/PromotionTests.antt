@@ -3,7 +3,7 @@
 use mathlib.Core.Bool.{Bool, true, false, _&&_, not, cond}
 use mathlib.Core.Logic.{_⊎_, inl, inr, ⊎-elim}
 use mathlib.Core.List.{Memᴰ·cast}
-use mathlib.Core.Path.{_≡_, refl}
+use mathlib.Core.Path.{_≡_, refl, sym, _∙_}
 use Prim.Native.Nat.{ℕ, _≤_, _<_}
 use native.Mathlib.Nat.{le-of-eq, eq-or-lt-of-le}
 use native.Mathlib.Omega.{arith}
@@ -12,10 +12,15 @@ use lib.Dec.{eqb, ltb}
 use Rattle.rules.specs.Counting.{Set, some, someOf}
 use Rattle.rules.specs.Game.{Game, Edge, same}
 use Rattle.rules.specs.Promotion.{Regions, solvedRegion, unsolved, highestRegion, regionSet, isOpen, wayOut}
-use Rattle.theory.specs.Basics.{bool-cases, clash, and-intro, and-left, and-right, not-false-is-true, same-true, true-same, same-false}
-use Rattle.theory.specs.Basics.{false-same, some-intro, some-elim, some-false, lt-or-ge, someOf-intro, someOf-elim, IsLowest, lowest-found}
+use Rattle.theory.specs.Basics.{bool-cases, clash, and-intro, and-left, and-right, not-false-is-true, same-true, true-same}
+use Rattle.theory.specs.Basics.{same-false}
+use Rattle.theory.specs.Basics.{false-same, some-intro, some-elim, some-false, lt-or-ge, someOf-intro, someOf-elim}
+use Rattle.theory.specs.Basics.{IsLowest, lowest-found}
 use Rattle.theory.specs.Attractor.{Fits}
-use Rattle.theory.specs.AttractorRank.{Certificate, attractor-certificate}
+use Rattle.theory.specs.AttractorRank.{Certificate, attractor-certificate, attractor-pull}
+use Rattle.theory.specs.Distance.{nearest, entry-nearest, entry-none}
+use Rattle.rules.specs.Distance.{outside, attractorEntry}
+use Rattle.rules.specs.Words.{noEntry}
 use Rattle.theory.specs.Greatest.{greatest-bounds, greatest-some, greatest-none}
 use Rattle.theory.specs.PromotionBasics.{atRegion, upTo, at-intro, at-in, at-is, up-intro}
 use Rattle.theory.specs.PromotionBasics.{up-in, up-le}
@@ -74,6 +79,35 @@ module _ (g : Game) (s : Regions) where
       (regionSet g s)
   unfolding regionSet
   region-certificate = attractor-certificate g (mover s) _ _ region-fits
+
+  -- by distances, and so with the rules' entries
+  pub region-near :
+      (v : ℕ) →
+      region-certificate .pull v ≡
+      nearest g (mover s) (upTo (remaining g s) (s .region) (s .current)) (atRegion (remaining g s) (s .region) (s .current)) v
+  unfolding region-certificate
+  region-near v = attractor-pull g (mover s) _ _ region-fits v
+
+  pub region-entry :
+      g .size ≤ outside →
+      (v : ℕ) →
+      regionSet g s v ≡ true →
+      atRegion (remaining g s) (s .region) (s .current) v ≡ false →
+      g .owner v ≡ mover s →
+      attractorEntry g (mover s) (upTo (remaining g s) (s .region) (s .current))
+      (atRegion (remaining g s) (s .region) (s .current)) v ≡
+      region-certificate .pull v
+  unfolding regionSet
+  region-entry few v m t o = entry-nearest g (mover s) _ _ region-fits few v m t o ∙ sym (region-near v)
+
+  -- none where the opponent owns the vertex
+  pub region-bare :
+      (v : ℕ) →
+      (g .owner v ≡ mover s → ⊥) →
+      attractorEntry g (mover s) (upTo (remaining g s) (s .region) (s .current))
+      (atRegion (remaining g s) (s .region) (s .current)) v ≡
+      noEntry
+  region-bare v o = entry-none g (mover s) _ _ region-fits v (λ p t mine. o mine)
 
   -- R is unsolved, in regions up to p, and holds region p
   pub region-in : (v : ℕ) → regionSet g s v ≡ true → remaining g s v ≡ true
@@ -268,7 +302,31 @@ module _ (g : Game) (s : Regions) where
   promoted-small closed has = promoted-lowest closed has .below
 
   -- D has a certificate
+  dominion-fits : Fits g (remaining g s) (regionSet g s)
+  dominion-fits = record { part = region-in; below = unsolved-below g (s .region) }
+
   pub dominion-certificate : Certificate g (mover s) (remaining g s) (regionSet g s) (dominionSet g s)
-  dominion-certificate =
-      attractor-certificate g (mover s) (remaining g s) (regionSet g s)
-      (record { part = region-in; below = unsolved-below g (s .region) })
+  dominion-certificate = attractor-certificate g (mover s) (remaining g s) (regionSet g s) dominion-fits
+
+  -- by distances, and so with the rules' entries
+  pub dominion-near : (v : ℕ) → dominion-certificate .pull v ≡ nearest g (mover s) (remaining g s) (regionSet g s) v
+  unfolding dominion-certificate
+  dominion-near v = attractor-pull g (mover s) (remaining g s) (regionSet g s) dominion-fits v
+
+  pub dominion-entry :
+      g .size ≤ outside →
+      (v : ℕ) →
+      dominionSet g s v ≡ true →
+      regionSet g s v ≡ false →
+      g .owner v ≡ mover s →
+      attractorEntry g (mover s) (remaining g s) (regionSet g s) v ≡ dominion-certificate .pull v
+  dominion-entry few v d out o =
+      entry-nearest g (mover s) (remaining g s) (regionSet g s) dominion-fits few v d out o ∙ sym (dominion-near v)
+
+  -- none outside D, and where the opponent owns the vertex
+  pub dominion-bare :
+      (v : ℕ) →
+      (dominionSet g s v ≡ true → g .owner v ≡ mover s → ⊥) →
+      attractorEntry g (mover s) (remaining g s) (regionSet g s) v ≡ noEntry
+  dominion-bare v not-so =
+      entry-none g (mover s) (remaining g s) (regionSet g s) dominion-fits v (λ d t o. not-so d o)

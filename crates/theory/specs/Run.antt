@@ -7,10 +7,14 @@ use native.Mathlib.Omega.{arith}
 use borrow.Author.Tests.{eq-eqb}
 use Rattle.rules.specs.Counting.{Set, union, without, count}
 use Rattle.rules.specs.Game.{Player, Even, Odd, opponent, Game, Edge, parity}
+use Rattle.rules.specs.Attractor.{attractor}
+use Rattle.rules.specs.Distance.{outside, lowestIn, attractorEntry}
 use Rattle.rules.specs.Zielonka.{highestIn, withPriority}
-use Rattle.theory.specs.Basics.{clash, not-true-is-false, and-intro, someOf-intro, count-strict}
+use Rattle.theory.specs.Basics.{clash, not-true-is-false, and-intro, count-strict}
 use Rattle.theory.specs.Basics.{Subset, without-left, without-right, union-left, union-right}
-use Rattle.theory.specs.AttractorRank.{Certificate, pick, pick-passes}
+use Rattle.theory.specs.Attractor.{Fits}
+use Rattle.theory.specs.Distance.{nearest, entry-nearest, lowestIn-found}
+use Rattle.theory.specs.AttractorRank.{Certificate, attractor-certificate, attractor-pull}
 use Rattle.theory.specs.AttractorComplement.{TotalIn, rest-total}
 use Rattle.theory.specs.Greatest.{greatest-bounds, greatest-attained}
 
@@ -22,10 +26,37 @@ pub record Top (g : Game) (V' : Set) (a : Player) (p : ℕ) : Type 0 where
   pub most : (v : ℕ) → V' v ≡ true → g .priority v ≤ p
   pub mine : parity p ≡ a
 
--- S is the attractor of T in V for c, and `rest` is V without S
+-- S is the attractor of T in V for c, with the entries that distances fix, and `rest` is V without S
 pub record Cut (g : Game) (c : Player) (V' T S rest : Set) : Type 0 where
   pub drawn : Certificate g c V' T S
+  pub near : (v : ℕ) → S v ≡ true → T v ≡ false → g .owner v ≡ c → drawn .pull v ≡ nearest g c V' T v
   pub left : (v : ℕ) → rest v ≡ without V' S v
+
+-- the rules' attractor makes one
+pub attractor-cut :
+    (g : Game) (c : Player) (V' T rest : Set) →
+    Fits g V' T →
+    ((v : ℕ) → rest v ≡ without V' (attractor g c V' T) v) →
+    Cut g c V' T (attractor g c V' T) rest
+attractor-cut g c V' T rest fits left =
+    record {
+      drawn = attractor-certificate g c V' T fits;
+      near = λ v p t o. attractor-pull g c V' T fits v;
+      left = left;
+    }
+
+-- in which the rules' entries are the certificate's, where no vertex has the number for none
+pub cut-entry :
+    {g : Game} {c : Player} {V' T rest : Set} →
+    Fits g V' T →
+    g .size ≤ outside →
+    (cut : Cut g c V' T (attractor g c V' T) rest) →
+    (v : ℕ) →
+    attractor g c V' T v ≡ true →
+    T v ≡ false →
+    g .owner v ≡ c →
+    attractorEntry g c V' T v ≡ cut .drawn .pull v
+cut-entry {g} {c} {V'} {T} fits few cut v p t o = entry-nearest g c V' T fits few v p t o ∙ sym (cut .near v p t o)
 
 -- the opponent won nothing of the rest: a won all of V
 pub record AllWon (a : Player) (V' : Set) (first won : Player → Set) : Type 0 where
@@ -33,11 +64,12 @@ pub record AllWon (a : Player) (V' : Set) (first won : Player → Set) : Type 0 
   pub mine : (v : ℕ) → won a v ≡ V' v
   pub theirs : (v : ℕ) → won (opponent a) v ≡ false
 
--- a's entries then: outside A as they were found there, in A outside U the attractor's, in U any edge that ends in V
+-- a's entries then: outside A as they were found there, in A outside U the attractor's, in U the lowest-numbered successor in V
 pub record AllEntries (g : Game) (a : Player) (V' U A : Set) (pull found σ : ℕ → ℕ) : Type 0 where
   pub kept : (v : ℕ) → V' v ≡ true → A v ≡ false → g .owner v ≡ a → σ v ≡ found v
   pub pulled : (v : ℕ) → A v ≡ true → U v ≡ false → g .owner v ≡ a → σ v ≡ pull v
   pub stays : (v : ℕ) → U v ≡ true → g .owner v ≡ a → Edge g v (σ v) × (V' (σ v) ≡ true)
+  pub lowest : (v : ℕ) → U v ≡ true → g .owner v ≡ a → σ v ≡ lowestIn g V' v
 
 -- the opponent won some vertex of the rest: it won B and what it won of V without B, and a won what it won there
 pub record SomeLost (a : Player) (B : Set) (first second won : Player → Set) : Type 0 where
@@ -117,6 +149,9 @@ run-agrees σ' agree (all-won {a} top cut run result entries e) =
           rw
           (agree a v (result .mine v ∙ cut .drawn .inside v (cut .drawn .closed .target v p)) mine)
           (entries .stays v p mine);
+      lowest =
+          λ v p mine.
+          agree a v (result .mine v ∙ cut .drawn .inside v (cut .drawn .closed .target v p)) mine ∙ entries .lowest v p mine;
     })
     e
 run-agrees {won} σ' agree (some-lost {B} {second} {a} top cut run cut₂ run₂ result entries e) =
@@ -211,17 +246,18 @@ pub first-fewer :
     count (g .size) rest < count (g .size) V'
 first-fewer {p} below top cut = cut-fewer below cut (top .vertex) (and-intro (top .member) (eq-eqb _ p (top .has)))
 
--- entries with which a wins all of V, made of any that were found: some edge inside V in U, and the attractor's in A
+-- entries with which a wins all of V, made of any that were found: the lowest-numbered successor in V in U, the attractor's in A
 pub all-entries :
     {g : Game} {a : Player} {V' U A rest : Set} →
+    ((v : ℕ) → V' v ≡ true → v < g .size) →
     TotalIn g V' →
     (cut : Cut g a V' U A rest) →
     (found : ℕ → ℕ) →
     (σ : ℕ → ℕ) × AllEntries g a V' U A (cut .drawn .pull) found σ
-all-entries {g} {a} {V'} {U} {A} total cut found = (σ, entries)
+all-entries {g} {a} {V'} {U} {A} below total cut found = (σ, entries)
   where
     σ : ℕ → ℕ
-    σ v = cond (U v) (pick (g .targets v) V') (cond (A v) (cut .drawn .pull v) (found v))
+    σ v = cond (U v) (lowestIn g V' v) (cond (A v) (cut .drawn .pull v) (found v))
 
     entries : AllEntries g a V' U A (cut .drawn .pull) found σ
     entries =
@@ -233,7 +269,8 @@ all-entries {g} {a} {V'} {U} {A} total cut found = (σ, entries)
           stays =
               λ v p mine.
               let (w, e, q) = total v (cut .drawn .inside v (cut .drawn .closed .target v p)) in
-              rw p (pick-passes (g .targets v) V' (someOf-intro (g .targets v) V' w e q));
+              rw p (lowestIn-found g V' v w (below w q) e q);
+          lowest = λ v p mine. rw p;
         }
 
 -- entries for the other case, made of any that were found in the two nested calls: the first in W, the attractor's in B

@@ -19,7 +19,7 @@ pub record Same (won won' : Player → Set) (n n' : ℕ) : Type 0 where
   pub calls : n ≡ n'
 
 -- cuts of V for one player and one target are the same
-cut-same :
+pub cut-same :
     {g : Game} {c c' : Player} {V' T T' S S' rest rest' : Set} →
     c ≡ c' →
     ((v : ℕ) → T v ≡ T' v) →
@@ -38,7 +38,7 @@ cut-same {g} {c} {c'} {V'} {T} {T'} {S} {S'} {rest} {rest'} player target cut cu
     drawn = attractor-unique (certificate-is (cut .drawn)) moved
 
 -- the first cuts of V are the same
-first-same :
+pub first-same :
     {g : Game} {a a' : Player} {p p' : ℕ} {V' A A' rest rest' : Set} →
     Top g V' a p →
     Top g V' a' p' →
@@ -102,7 +102,7 @@ same-back : {won won' : Player → Set} {n n' : ℕ} → Same won won' n n' → 
 same-back same-both = record { sets = λ c v. sym (same-both .sets c v); calls = sym (same-both .calls) }
 
 -- what W is: the opponent's part of the rest
-lost-same :
+pub lost-same :
     {first first' : Player → Set} {a a' : Player} {k k' : ℕ} →
     a ≡ a' → Same first first' k k' → (v : ℕ) → first (opponent a) v ≡ first' (opponent a') v
 lost-same {first'} {a} player same-first v =
@@ -120,7 +120,7 @@ not-both-ways :
 not-both-ways player result v lost same-first = clash lost (sym (lost-same player same-first v) ∙ result .nothing v)
 
 -- Two runs on one set give the same.
-same-on :
+pub same-on :
     {g : Game} {V' : Set} {won won' : Player → Set} {σ σ' : ℕ → ℕ} {n n' : ℕ} →
     Run g V' won σ n → Run g V' won' σ' n' → Same won won' n n'
 same-on (empty none nothing e) (empty none' nothing' e') =

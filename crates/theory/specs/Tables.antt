@@ -16,6 +16,7 @@ use lib.Seq.{getD-take, getD-drop}
 use Rattle.rules.specs.Counting.{Set, some}
 use Rattle.rules.specs.Game.{Edge, Total}
 use Rattle.rules.specs.Outcome.{Verdict, none, refused, given, givenAt, _then_}
+use Rattle.rules.specs.Words.{noEntry}
 use Rattle.rules.specs.Tables.{Tables, vertices, edgesIn, degree, targetsOf, gameOf, tableChecks, Accepted}
 use Rattle.rules.specs.Tables.{check1, check2, check3, check4, check5, check6, check7, check8}
 use Rattle.theory.specs.Basics.{or-false-both, some-false, lt-or-ge, member-place, place-member}
@@ -237,6 +238,10 @@ accepted-total t ok = sound-total t (accepted-sound t ok)
 pub accepted-size : (t : Tables) → Accepted t → gameOf t .size ≤ 4096
 unfolding gameOf
 accepted-size t ok = accepted-sound t ok .few-vertices
+
+-- so no vertex or distance has the number for none
+pub accepted-few : (t : Tables) → Accepted t → gameOf t .size ≤ noEntry
+accepted-few t ok = let most = accepted-size t ok in omega arith
 
 -- No priority is above 255.
 pub accepted-priority : (t : Tables) → Accepted t → (v : ℕ) → gameOf t .priority v ≤ 255

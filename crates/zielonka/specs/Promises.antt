@@ -1,6 +1,6 @@
--- What a reader may conclude of `solve_zielonka`, from its contract alone: whenever it answers, its sets are the winning sets of demand 2,
--- each vertex has one winner, the strategy wins and the count is the recursion's calls; it answers whenever nothing is refused and the
--- budget is demand 3's bound or more; and any two results that meet the contract are the same but for the entries of winners' own vertices.
+-- What a reader may conclude of `solve_zielonka`, from its contract alone: whenever it answers, its sets are the winning sets of
+-- demand 2, each vertex has one winner, the strategy wins and the count is the recursion's calls; it answers whenever nothing is
+-- refused and the budget is demand 3's bound or more; and any two results that meet the contract are the same.
 use mathlib.Core.Bool.{true}
 use mathlib.Core.Logic.{_⊎_}
 use mathlib.Core.Path.{_≡_}
@@ -15,16 +15,16 @@ use Rattle.rules.specs.Winning.{WinningSets, WinningEntries}
 use Rattle.rules.specs.Zielonka.{zielonka}
 use Rattle.parity_game.specs.Laws.{then-none}
 use Rattle.theory.specs.Bound.{zielonka-bound}
-use Rattle.theory.specs.Tables.{accepted-total}
-use Rattle.theory.specs.Zielonka.{zielonka-wins}
+use Rattle.theory.specs.Tables.{accepted-total, accepted-few}
+use Rattle.theory.specs.Zielonka.{zielonka-wins, zielonka-entries-win}
 use Rattle.sets.specs.Same.{Narrow}
-use Rattle.solver.specs.Promises.{setFor, gotBy, answer, answered-accepted, answered-count, answered-winning, answered-one, answers-within}
-use Rattle.solver.specs.Promises.{Agree, results-agree}
+use Rattle.solver.specs.Promises.{setFor, gotBy, answered-accepted, answered-count, answered-winning, answered-one}
+use Rattle.solver.specs.Promises.{answers-within, answered-entries, one-result}
 
 -- the contract of `solve_zielonka`
 abbrev pub Promise : ℕ → Tables → Lent → Lent → Outcome → Type 0
 Promise budget t before after o =
-    Solves budget t (zielonka (gameOf t) .calls) (zielonka (gameOf t) .won) before after o
+    Solves budget t (zielonka (gameOf t) .calls) (zielonka (gameOf t) .won) (zielonka (gameOf t) .entries) before after o
 
 module _ {budget : ℕ} {t : Tables} {before after : Lent} {o : Outcome} (p : Promise budget t before after o) where
   -- **The count is the calls of the recursion.**
@@ -59,15 +59,17 @@ pub answered-strategy :
     Promise budget t before after o →
     o .number ≡ 0 →
     WinningEntries (gameOf t) (zielonka (gameOf t) .won) (after .strategy)
-answered-strategy p e = answer p e .entries
+unfolding gameOf
+answered-strategy {t = t} p e =
+    let ok = answered-accepted p e in
+    answered-entries p e (zielonka-entries-win (gameOf t) (accepted-total t ok) (accepted-few t ok))
 
--- **Any two results that meet the contract are the same but for the entries of winners' own vertices.**
-pub zielonka-results-agree :
+-- **Any two results that meet the contract are the same, the strategy too.**
+pub zielonka-one-result :
     {budget : ℕ} {t : Tables} {before after after′ : Lent} {o o′ : Outcome} →
     ((c : Player) → Narrow (setFor after c)) →
     ((c : Player) → Narrow (setFor after′ c)) →
     Promise budget t before after o →
     Promise budget t before after′ o′ →
-    Agree t after after′ o o′
-zielonka-results-agree {t = t} n n′ p p′ =
-    results-agree n n′ (λ e. zielonka-wins (gameOf t) (accepted-total t (answered-accepted p e))) p p′
+    (o ≡ o′) × (after ≡ after′)
+zielonka-one-result n n′ p p′ = one-result n n′ p p′

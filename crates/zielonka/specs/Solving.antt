@@ -2,54 +2,55 @@
 use mathlib.Core.List.{List}
 use mathlib.Core.Path.{_≡_, refl, sym, ap, subst, fun-ext, _∙_}
 use Prim.Native.Nat.{ℕ, _+_, _-_, _*_, _≤_, _<_}
-use native.Mathlib.Nat.{mul-le-mul-left, mul-le-mul-right, mul-assoc, mul-comm}
+use native.Mathlib.Nat.{mul-le-mul-left, mul-le-mul-right, mul-assoc, mul-comm, add-mul}
 use native.Mathlib.Omega.{arith}
 use lib.ListN.{length}
 use Rattle.rules.specs.Counting.{Set, count}
 use Rattle.rules.specs.Game.{Player, Even, Odd, everywhere}
 use Rattle.rules.specs.Tables.{Tables, gameOf, vertices, edgesIn, words, workWords, Accepted}
-use Rattle.rules.specs.Winning.{WinningEntries}
 use Rattle.rules.specs.Zielonka.{zielonka}
 use Rattle.theory.specs.AttractorComplement.{TotalIn}
 use Rattle.theory.specs.Basics.{count-le, not-true-is-false}
 use Rattle.theory.specs.Run.{Run, run-over}
 use Rattle.theory.specs.RunSame.{Same, Needs}
+use Rattle.theory.specs.RunEntries.{run-strategy}
 use Rattle.theory.specs.RunSound.{run-sound}
-use Rattle.theory.specs.Tables.{accepted-total}
-use Rattle.theory.specs.Zielonka.{everywhere-below, everywhere-total, run-is-zielonka, needs-zielonka, run-entries, zielonka-wins}
+use Rattle.theory.specs.Tables.{accepted-total, accepted-few}
+use Rattle.theory.specs.Zielonka.{everywhere-below, everywhere-total, run-is-zielonka, needs-zielonka, zielonka-wins}
+use Rattle.theory.specs.Zielonka.{zielonka-entries-win}
 use Rattle.area.specs.Area.{free, setAt}
 use Rattle.zielonka_level.specs.Level.{wonPlace, onLevel, wonAt, entriesOf, Called, Done, Over}
 use Rattle.zielonka.specs.Calling.{level-fits}
-use Rattle.zielonka_level.specs.PiecesHold.{sound-edges}
+use Rattle.attractor.specs.Attracted.{edges-sound}
 use Rattle.solver.specs.Preparing.{Preparable, Prepared}
 use Rattle.solver.specs.Outputs.{wonFrom, Found}
 
--- W words have room for a level for each vertex and one more
+-- W words have room for a level for each vertex and one more behind the attractor's layers
 first-room : (n m k : ℕ) → k ≤ n → free n m + 4 * (words n * (k + 1)) ≤ workWords n m
 unfolding workWords
 first-room n m k few =
     let more : k + 1 ≤ n + 1 = omega arith in
     let some-levels = mul-le-mul-left (words n) more in
-    let wide : 4 * (n + 1) ≤ 8 * (n + 2) = omega arith in
+    let wide : 4 * (n + 1) + 2 ≤ 8 * (n + 2) = omega arith in
     let all-levels = mul-le-mul-right (words n) wide in
     let same : 4 * (n + 1) * words n ≡ 4 * (words n * (n + 1)) =
     mul-assoc 4 (n + 1) (words n) ∙ ap (λ (x : ℕ). 4 * x) (mul-comm (n + 1) (words n)) in
+    let both : (4 * (n + 1) + 2) * words n ≡ 4 * (n + 1) * words n + 2 * words n = add-mul (4 * (n + 1)) 2 (words n) in
     omega arith
 
--- where the first level begins
-abbrev pub firstBase : Tables → ℕ
-firstBase t = free (vertices t) (edgesIn t)
-
+-- the first level begins where the free words do
 module _ (t : Tables) (ok : Accepted t) (w₀ : List ℕ)
     (room : length w₀ ≡ workWords (vertices t) (edgesIn t))
+    {base : ℕ}
+    (first : base ≡ free (vertices t) (edgesIn t))
   where
     -- what `prepare` asks for
-    pub run-preparable : {s : ℕ} → s ≡ words (vertices t) → Preparable (vertices t) (t .offsets) (t .targets) s (firstBase t) w₀
+    pub run-preparable : {s : ℕ} → s ≡ words (vertices t) → Preparable (vertices t) (t .offsets) (t .targets) s base w₀
     run-preparable size =
         let fits = first-room (vertices t) (edgesIn t) 0 (omega arith) in
         let one : words (vertices t) * (0 + 1) ≡ words (vertices t) = mul-comm (words (vertices t)) 1 ∙ one-mul in
         record {
-          edges = sound-edges t ok;
+          edges = edges-sound t ok;
           size = size;
           low = omega arith;
           high = omega arith;
@@ -58,14 +59,14 @@ module _ (t : Tables) (ok : Accepted t) (w₀ : List ℕ)
         one-mul : 1 * words (vertices t) ≡ words (vertices t)
         one-mul = omega arith
 
-    module _ {w : List ℕ} (prepared : Prepared (vertices t) (t .offsets) (t .targets) (firstBase t) w₀ w) where
+    module _ {w : List ℕ} (prepared : Prepared (vertices t) (t .offsets) (t .targets) base w₀ w) where
       -- V is the set of all vertices
-      full : (v : ℕ) → onLevel t (firstBase t) w v ≡ everywhere (gameOf t) v
+      full : (v : ℕ) → onLevel t base w v ≡ everywhere (gameOf t) v
       unfolding gameOf
       full v = prepared .full v
 
       -- what the recursion asks for
-      pub run-called : Called t (firstBase t) w
+      pub run-called : Called t base w
       unfolding gameOf
       run-called =
           record {
@@ -73,7 +74,7 @@ module _ (t : Tables) (ok : Accepted t) (w₀ : List ℕ)
             table = prepared .listed;
             low = omega arith;
             room =
-                let S = onLevel t (firstBase t) w in
+                let S = onLevel t base w in
                 let fits = first-room (vertices t) (edgesIn t) (count (vertices t) S) (count-le (vertices t) S) in
                 omega (arith, prepared .long);
             below = λ v p. everywhere-below (gameOf t) v (sym (full v) ∙ p);
@@ -82,33 +83,40 @@ module _ (t : Tables) (ok : Accepted t) (w₀ : List ℕ)
           }
 
       -- more calls are needed than the budget
-      pub run-over-budget : {budget : ℕ} → Over t (firstBase t) 0 budget w → budget < zielonka (gameOf t) .calls
+      pub run-over-budget : {budget : ℕ} → Over t base 0 budget w → budget < zielonka (gameOf t) .calls
       run-over-budget {budget} over =
           let needs =
           needs-zielonka (gameOf t) (budget + 1 - 0) (accepted-total t ok)
           (subst (λ (S : Set). Needs (gameOf t) S (budget + 1 - 0)) (fun-ext full) over) in
           omega arith
 
-      module _ {budget calls : ℕ} {w₄ : List ℕ} (done : Done t (firstBase t) 0 budget calls w w₄) where
-        whole-run : Run (gameOf t) (everywhere (gameOf t)) (wonAt t (firstBase t) w₄) (entriesOf t w₄) (done .needed)
+      module _ {budget calls : ℕ} {w₄ : List ℕ} (done : Done t base 0 budget calls w w₄) where
+        whole-run : Run (gameOf t) (everywhere (gameOf t)) (wonAt t base w₄) (entriesOf t w₄) (done .needed)
         whole-run = run-over full (done .run)
 
-        rules : Same (wonAt t (firstBase t) w₄) (zielonka (gameOf t) .won) (done .needed) (zielonka (gameOf t) .calls)
+        rules : Same (wonAt t base w₄) (zielonka (gameOf t) .won) (done .needed) (zielonka (gameOf t) .calls)
         rules = run-is-zielonka (accepted-total t ok) whole-run
 
         pub run-calls : calls ≡ zielonka (gameOf t) .calls
         run-calls = omega (arith, done .counts, rules .calls)
 
         -- all four sets of the level stand in the work area
-        pub run-fits : (firstBase t) + 4 * words (vertices t) ≤ length w₄
+        pub run-fits : base + 4 * words (vertices t) ≤ length w₄
         run-fits = omega (arith, level-fits run-called refl, done .stays .long)
 
-        won-place : {s : ℕ} → s ≡ words (vertices t) → (c : Player) → wonFrom s (firstBase t + 2 * s) c ≡ wonPlace (words (vertices t)) (firstBase t) c
+        won-place :
+            {s : ℕ} →
+            s ≡ words (vertices t) →
+            (c : Player) →
+            wonFrom s (base + 2 * s) c ≡ wonPlace (words (vertices t)) base c
         won-place size Even = omega arith
         won-place size Odd = omega arith
 
         -- **What the recursion has found stands in the work area.**
-        pub run-found : {s : ℕ} → s ≡ words (vertices t) → Found t (zielonka (gameOf t) .won) s (firstBase t + 2 * s) w₄
+        pub run-found :
+            {s : ℕ} →
+            s ≡ words (vertices t) →
+            Found t (zielonka (gameOf t) .won) (zielonka (gameOf t) .entries) s (base + 2 * s) w₄
         unfolding gameOf
         run-found {s} size =
             record {
@@ -120,14 +128,14 @@ module _ (t : Tables) (ok : Accepted t) (w₀ : List ℕ)
               bare =
                   λ c v l.
                   ap (λ (i : ℕ). setAt (vertices t) i w₄ v) (won-place size c) ∙
-                  not-true-is-false (wonAt t (firstBase t) w₄ c v)
+                  not-true-is-false (wonAt t base w₄ c v)
                   (λ p.
                   let small = everywhere-below (gameOf t) v (run-sound whole-run .splits .inside c v p) in omega arith);
               sets = zielonka-wins (gameOf t) (accepted-total t ok);
-              wins =
-                  λ strategy given absent.
-                  subst (λ (S : Player → Set). WinningEntries (gameOf t) S strategy) (fun-ext (λ c. fun-ext (rules .sets c)))
-                  (run-entries (accepted-total t ok) whole-run strategy
+              chosen =
+                  λ strategy long given absent.
+                  run-strategy (accepted-total t ok) (accepted-few t ok) whole-run strategy long
                   (λ c v l p. given c v l (sym (rules .sets c v) ∙ p))
-                  (λ c v l p. absent c v l (sym (rules .sets c v) ∙ p)));
+                  (λ c v l p. absent c v l (sym (rules .sets c v) ∙ p));
+              wins = zielonka-entries-win (gameOf t) (accepted-total t ok) (accepted-few t ok);
             }

@@ -29,7 +29,7 @@ fn run(
         ⌜ (let t =
         tablesOf (now (owners .entry)) (now (priorities .entry)) (now (offsets .entry)) (now (targets .entry)) in
         (now (work .exit) ≡ replicate (length (now (work .entry))) 0) ×
-        Runs budget t (zielonka (gameOf t) .calls) (zielonka (gameOf t) .won)
+        Runs budget t (zielonka (gameOf t) .calls) (zielonka (gameOf t) .won) (zielonka (gameOf t) .entries)
         (record { even = now (even .entry); odd = now (odd .entry); strategy = now (strategy .entry) })
         (record { even = now (even .exit); odd = now (odd .exit); strategy = now (strategy .exit) })
         r) ⌝ }
@@ -37,7 +37,7 @@ fn run(
     let n = owners.len();
     let s = parity_game::set_words(n);
     let entries = n + 1 + targets.len() + n + n;
-    let base = entries + n;
+    let base = entries + n + 2 * (s + 1);
     solver::prepare(offsets, targets, n, s, work, base);
     let ran = zielonka_rec(owners, priorities, offsets, targets, work, base, 0, budget);
     let Ran::Needed(calls) = ran else {
@@ -63,7 +63,7 @@ pub fn solve_zielonka(
     ensures { λ r.
         ⌜ (let t =
         tablesOf (now (owners .entry)) (now (priorities .entry)) (now (offsets .entry)) (now (targets .entry)) in
-        Solves budget t (zielonka (gameOf t) .calls) (zielonka (gameOf t) .won)
+        Solves budget t (zielonka (gameOf t) .calls) (zielonka (gameOf t) .won) (zielonka (gameOf t) .entries)
         (record {
           even = now (even .entry);
           odd = now (odd .entry);

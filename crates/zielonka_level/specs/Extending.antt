@@ -1,26 +1,29 @@
--- The walk that gives the vertices of priority p an edge inside V, where p's player owns them: those that it has passed have one.
+-- The walk that gives the vertices of priority p their lowest-numbered successor in V, where p's player owns them: those that it
+-- has passed have it.
 use mathlib.Core.Bool.{true}
 use mathlib.Core.List.{List}
-use mathlib.Core.Logic.{_⊎_, inr, ⊎-elim}
-use mathlib.Core.Path.{_≡_, refl, sym, ap, _∙_}
+use mathlib.Core.Logic.{inr, ⊎-elim}
+use mathlib.Core.Path.{_≡_, refl, ap, _∙_}
 use Prim.Native.Nat.{ℕ, zero, suc, _+_, _-_, _%_, _≤_, _<_}
 use native.Mathlib.Omega.{arith}
 use borrow.Author.Tests.{eq-eqb, eqb-true}
 use lib.Dec.{eqb}
 use lib.ListN.{length, getD, take, drop, set}
-use Rattle.rules.specs.Game.{Edge, parity, playerOf}
-use Rattle.rules.specs.Tables.{Tables, gameOf, vertices, edgesIn, words, Accepted, targetsOf}
-use Rattle.rules.specs.Words.{setOf}
+use Rattle.rules.specs.Game.{parity, playerOf}
+use Rattle.rules.specs.Tables.{Tables, gameOf, vertices, edgesIn, words, Accepted}
+use Rattle.rules.specs.Distance.{lowestIn}
 use Rattle.rules.specs.Zielonka.{withPriority}
 use Rattle.walk.specs.declared.members.Members.{Members}
 use Rattle.theory.specs.AttractorComplement.{TotalIn}
-use Rattle.theory.specs.Basics.{bool-cases, and-left, and-right, and-intro, someOf-intro}
-use Rattle.theory.specs.Tables.{Sound, accepted-sound, offset-top}
+use Rattle.theory.specs.Basics.{bool-cases, and-left, and-right, and-intro}
+use Rattle.theory.specs.Tables.{Sound, accepted-sound}
+use Rattle.attractor.specs.Attracted.{edges-sound}
+use Rattle.attractor_counters.specs.Counters.{EdgesOf, edges-of}
+use Rattle.successors.specs.Lowest.{lowestEnd}
 use Rattle.area.specs.Area.{entries, free}
-use Rattle.area.specs.Lent.{words-enough, part-length}
+use Rattle.area.specs.Lent.{part-length}
 use Rattle.area.specs.Walked.{Walkable, Keeps, Turn, Always, Beside, same-turn, store-turn, WalkedTo, Walked, kept-lent}
 use Rattle.zielonka_level.specs.Level.{onLevel, entriesOf}
-use Rattle.zielonka_level.specs.Parts.{Inside, Ends}
 
 -- what the walk asks for
 pub record Extends (t : Tables) (s base : ℕ) (work : List ℕ) : Type 0 where
@@ -36,27 +39,21 @@ abbrev pub Chooses : Tables → ℕ → ℕ → List ℕ → ℕ → Type 0
 Chooses t p base work v =
     (withPriority (gameOf t) (onLevel t base work) p v ≡ true) × (gameOf t .owner v ≡ parity p)
 
--- every such vertex has an edge inside V as its entry, and every other entry is as it was
-pub record Extended (t : Tables) (p base : ℕ) (before after : List ℕ) : Type 0 where
-  pub long : length after ≡ length before
-  pub chosen :
-      (v : ℕ) →
-      Chooses t p base before v →
-      Edge (gameOf t) v (entriesOf t after v) × (onLevel t base before (entriesOf t after v) ≡ true)
-  pub kept : (v : ℕ) → v < vertices t → (Chooses t p base before v → ⊥) → entriesOf t after v ≡ entriesOf t before v
-  pub rest :
-      (i : ℕ) →
-      (i < entries (vertices t) (edgesIn t)) ⊎ (free (vertices t) (edgesIn t) ≤ i) →
-      getD after i 0 ≡ getD before i 0
-
--- the entry of a vertex: an edge inside V if it chooses, else as it was
-pub record Chosen (t : Tables) (p base : ℕ) (before : List ℕ) (v w w' : ℕ) : Type 0 where
-  pub chosen : Chooses t p base before v → Edge (gameOf t) v w' × (onLevel t base before w' ≡ true)
-  pub kept : (Chooses t p base before v → ⊥) → w' ≡ w
-
 -- a word that is no entry
 abbrev pub Elsewhere : Tables → ℕ → Type 0
 Elsewhere t = Beside (vertices t) (entries (vertices t) (edgesIn t))
+
+-- every such vertex has its lowest-numbered successor in V as its entry, and every other entry is as it was
+pub record Extended (t : Tables) (p base : ℕ) (before after : List ℕ) : Type 0 where
+  pub long : length after ≡ length before
+  pub chosen : (v : ℕ) → Chooses t p base before v → entriesOf t after v ≡ lowestIn (gameOf t) (onLevel t base before) v
+  pub kept : (v : ℕ) → v < vertices t → (Chooses t p base before v → ⊥) → entriesOf t after v ≡ entriesOf t before v
+  pub rest : (i : ℕ) → Elsewhere t i → getD after i 0 ≡ getD before i 0
+
+-- the entry of a vertex: its lowest-numbered successor in V if it chooses, else as it was
+pub record Chosen (t : Tables) (p base : ℕ) (before : List ℕ) (v w w' : ℕ) : Type 0 where
+  pub chosen : Chooses t p base before v → w' ≡ lowestIn (gameOf t) (onLevel t base before) v
+  pub kept : (Chooses t p base before v → ⊥) → w' ≡ w
 
 -- the vertices that the walk has passed have their entries
 abbrev pub ExtendingTo : Tables → ℕ → ℕ → List ℕ → Members → List ℕ → Type 0
@@ -125,35 +122,24 @@ module _ {t : Tables} {s base : ℕ} {before : List ℕ} (ready : Extends t s ba
         (λ u. d (player-number (getD (t .owners) v 0) (p % 2) (facts .owner-small v (ready .below v member)) (omega arith) (u .1)))
 
     module _ {work : List ℕ} (kept : Keeps (Elsewhere t) Always before work) where
-      -- it has an edge inside V
-      pub extend-inside : Inside (t .offsets) (t .targets) v (take ((base + s) - base) (drop base work))
-      unfolding gameOf
-      extend-inside =
-          let small = ready .below v member in
-          let (w, e, q) = ready .total v member in
-          record {
-            one-more = omega (arith, facts .offset-each);
-            last = offset-top t facts (v + 1) (omega arith);
-            fits =
-                λ e l.
-                rw
-                (kept-lent extend-walkable kept, part-length base (words n) before (ready .high))
-                (words-enough n (getD (t .targets) e 0) (facts .target-below e l));
-            leads = rw (kept-lent extend-walkable kept) (someOf-intro (targetsOf (t .offsets) (t .targets) v) (onLevel t base before) w e q);
-          }
+      -- its edges can be searched
+      pub extend-edges : EdgesOf (t .offsets) (t .targets) v (take ((base + s) - base) (drop base work))
+      extend-edges =
+          edges-of (edges-sound t (ready .accepted)) (ready .below v member)
+          (ap length (kept-lent extend-walkable kept) ∙ part-length base (words n) before (ready .high))
 
-      -- which it takes
+      -- it takes its lowest-numbered successor in V
       pub extending-one :
           {p : ℕ} →
           getD (t .priorities) v 0 ≡ p →
           getD (t .owners) v 0 ≡ p % 2 →
           {w : ℕ} →
-          Ends (t .offsets) (t .targets) v (take ((base + s) - base) (drop base work)) w →
+          w ≡ lowestEnd (vertices t) (t .offsets) (t .targets) v (take ((base + s) - base) (drop base work)) →
           Extending t p base before v work (set work (entries (vertices t) (edgesIn t) + v) w)
-      unfolding gameOf
-      extending-one {p} e o {w} end =
+      unfolding gameOf lowestIn
+      extending-one {p} e o {w} found =
           store-turn (entries n (edgesIn t)) w (ready .below v member) (omega (arith, kept .long, ready .low, ready .high))
           (record {
-            chosen = λ u. (end .edge, ap (λ (ys : List ℕ). setOf ys w) (sym (kept-lent extend-walkable kept)) ∙ end .inside);
+            chosen = λ u. found ∙ ap (lowestEnd n (t .offsets) (t .targets) v) (kept-lent extend-walkable kept);
             kept = λ d. absurd (d (and-intro member (eq-eqb (getD (t .priorities) v 0) p e), ap playerOf o));
           })

@@ -1,23 +1,20 @@
--- How far the search for the highest priority has come; and the edges of a vertex, one after another.
-use mathlib.Core.Bool.{true, false}
+-- How far the search for the highest priority has come.
+use mathlib.Core.Bool.{true}
 use mathlib.Core.List.{List, [], _∷_}
 use mathlib.Core.Path.{_≡_, sym, ap, _∙_}
-use Prim.Native.Nat.{ℕ, _+_, _≤_, _<_, max}
+use Prim.Native.Nat.{ℕ, _≤_, _<_, max}
 use native.Mathlib.Decide.{ℕ-discrete}
 use native.Mathlib.Omega.{arith}
 use lib.ListN.{length, getD}
 use Rattle.rules.specs.Counting.{times}
-use Rattle.rules.specs.Tables.{Tables, gameOf, targetsOf, tablesOf}
 use Rattle.rules.specs.Words.{setOf}
-use Rattle.theory.specs.Basics.{clash, someOf-elim}
 use Rattle.theory.specs.Greatest.{greatest-bounds, greatest-le}
-use Rattle.theory.specs.Tables.{edge-place, place-edge}
 use Rattle.sets.specs.Laws.{member-bit}
 use Rattle.walk.specs.MemberLaws.{times-members}
 use Rattle.walk.specs.Walk.{members, left}
 use Rattle.walk.specs.declared.members.Members.{Members}
 use Rattle.area.specs.Walking.{times-gone, Walking, walking-start, walking-next, next-member, next-other}
-use Rattle.zielonka_level.specs.Parts.{highestOf, Searchable, Inside, Ends}
+use Rattle.zielonka_level.specs.Parts.{highestOf, Searchable}
 
 -- no member that was passed has a priority above `highest`, and `highest` is not above that of V
 pub record SearchedTo (priorities set : List ℕ) (walk : Members) (highest : ℕ) : Type 0 where
@@ -82,44 +79,3 @@ module _ {priorities set : List ℕ} (given : Searchable (length priorities) set
               getD priorities u 0 ≤ higher
           bounded u m gone (yes e) = omega (arith, is, ap (λ (x : ℕ). getD priorities x 0) e)
           bounded u m gone (no d) = omega (arith, is, c .passed u m (next-other rest (c .walking) (moved .0) u d ∙ gone))
-
-module _ {offsets targets : List ℕ} {v : ℕ} {set : List ℕ} (given : Inside offsets targets v set) where
-  abbrev t : Tables
-  t = tablesOf offsets offsets offsets targets
-
-  -- an edge of v that ends inside
-  pub inside-found :
-      (e : ℕ) →
-      getD offsets v 0 ≤ e →
-      e < getD offsets (v + 1) 0 →
-      setOf set (getD targets e 0) ≡ true →
-      Ends offsets targets v set (getD targets e 0)
-  unfolding gameOf
-  inside-found e low high p =
-      record { edge = place-edge t v e low high (omega (arith, given .last)); inside = p }
-
-  -- there is one
-  pub inside-some :
-      (r : ℕ) →
-      ((k : ℕ) → getD offsets v 0 ≤ k → k < getD offsets (v + 1) 0 → setOf set (getD targets k 0) ≡ false) →
-      Ends offsets targets v set r
-  unfolding gameOf
-  inside-some r none =
-      let (w, edge, p) = someOf-elim (targetsOf offsets targets v) (setOf set) (given .leads) in
-      let (e, low, high, top, at) = edge-place t v w edge in
-      absurd (clash p (ap (setOf set) (sym at) ∙ none e low high))
-
-  -- one edge more does not end inside
-  pub inside-next :
-      (e : ℕ) →
-      ((k : ℕ) → getD offsets v 0 ≤ k → k < e → setOf set (getD targets k 0) ≡ false) →
-      setOf set (getD targets e 0) ≡ false →
-      (k : ℕ) →
-      getD offsets v 0 ≤ k →
-      k < e + 1 →
-      setOf set (getD targets k 0) ≡ false
-  inside-next e none p k low l = go (ℕ-discrete k e)
-    where
-      go : Dec (k ≡ e) → setOf set (getD targets k 0) ≡ false
-      go (yes q) = ap (λ (x : ℕ). setOf set (getD targets x 0)) q ∙ p
-      go (no d) = none k low (omega (arith, d))

@@ -1,14 +1,13 @@
--- What the functions below a call ask for and leave behind: the highest priority, the vertices that have it, and an edge inside V for
--- each of them that its player owns.
+-- What the functions below a call ask for and leave behind: the highest priority, and the vertices that have it.
 use mathlib.Core.Bool.{true, false, _&&_}
-use mathlib.Core.List.{List, List·Memᴰ}
+use mathlib.Core.List.{List}
 use mathlib.Core.Logic.{_⊎_}
 use mathlib.Core.Path.{_≡_}
 use Prim.Native.Nat.{ℕ, _+_, _*_, _≤_, _<_}
 use lib.Dec.{eqb}
 use lib.ListN.{length, getD}
-use Rattle.rules.specs.Counting.{Set, greatest, someOf}
-use Rattle.rules.specs.Tables.{words, targetsOf}
+use Rattle.rules.specs.Counting.{Set, greatest}
+use Rattle.rules.specs.Tables.{words}
 use Rattle.rules.specs.Words.{setOf}
 use Rattle.sets.specs.After.{Parts}
 use Rattle.area.specs.Area.{setAt}
@@ -37,15 +36,3 @@ pub record Collected (priorities : List ℕ) (p within into : ℕ) (before after
       (v : ℕ) →
       setAt (length priorities) into after v ≡ (setAt (length priorities) within before v && eqb (getD priorities v 0) p)
   pub rest : (i : ℕ) → (i < into) ⊎ (into + words (length priorities) ≤ i) → getD after i 0 ≡ getD before i 0
-
--- v has an edge that ends inside a set
-pub record Inside (offsets targets : List ℕ) (v : ℕ) (set : List ℕ) : Type 0 where
-  pub one-more : v + 1 < length offsets
-  pub last : getD offsets (v + 1) 0 ≤ length targets
-  pub fits : (e : ℕ) → e < length targets → getD targets e 0 < 64 * length set
-  pub leads : someOf (targetsOf offsets targets v) (setOf set) ≡ true
-
--- the end of such an edge
-pub record Ends (offsets targets : List ℕ) (v : ℕ) (set : List ℕ) (w : ℕ) : Type 0 where
-  pub edge : List·Memᴰ w (targetsOf offsets targets v)
-  pub inside : setOf set w ≡ true

@@ -11,19 +11,19 @@ use Rattle.rules.specs.Counting.{Set, without, some}
 use Rattle.rules.specs.Game.{Player, Even, Odd, opponent, parity, playerOf}
 use Rattle.rules.specs.Tables.{Tables, gameOf, vertices, edgesIn, words, Accepted, tablesOf}
 use Rattle.rules.specs.Attractor.{attractor}
+use Rattle.rules.specs.Distance.{lowestIn}
 use Rattle.rules.specs.Words.{setOf}
 use Rattle.rules.specs.Zielonka.{withPriority}
 use Rattle.sets.specs.After.{Parts, Combined, Cleared, other}
 use Rattle.sets.specs.Laws.{bit-other}
-use Rattle.theory.specs.Attractor.{attractor-below}
+use Rattle.theory.specs.Attractor.{Fits, attractor-below}
 use Rattle.theory.specs.AttractorComplement.{TotalIn}
 use Rattle.theory.specs.Basics.{lt-or-ge, and-left, not-true-is-false}
-use Rattle.theory.specs.Tables.{accepted-sound}
+use Rattle.theory.specs.Run.{Cut, attractor-cut, cut-entry}
+use Rattle.theory.specs.Tables.{accepted-sound, accepted-few}
 use Rattle.area.specs.Area.{entries, free, wordsAt, setAt}
-use Rattle.attractor.specs.Attracted.{Attractable, Attracted}
-use Rattle.attractor.specs.Running.{listed-kept}
+use Rattle.attractor.specs.Attracted.{Attractable, Attracted, listed-kept, edges-sound}
 use Rattle.area.specs.Lent.{part-is, part-length}
-use Rattle.predecessors.specs.Table.{SoundEdges}
 use Rattle.area.specs.SetsAt.{set-kept, set-cleared, set-copied, set-copied-here, set-united, set-reduced}
 use Rattle.zielonka_level.specs.Level.{nextLevel, wonPlace, onLevel, drawnAt, wonAt, entriesOf, Called, Stays}
 use Rattle.zielonka_level.specs.Steps.{CutBy, AllAt, JoinedAt, stays-on, level-stays, cut-over}
@@ -101,20 +101,6 @@ cut-from stays same k =
       kept = λ v l d. k .kept v l d ∙ same v l;
     }
 
--- the edges of accepted tables are sound
-pub sound-edges : (t : Tables) → Accepted t → SoundEdges (vertices t) (t .offsets) (t .targets)
-sound-edges t ok =
-    let f = accepted-sound t ok in
-    record {
-      few-vertices = f .few-vertices;
-      few-edges = f .few-edges;
-      offset-each = f .offset-each;
-      offset-first = f .offset-first;
-      offset-next = f .offset-next;
-      offset-last = f .offset-last;
-      target-below = f .target-below;
-    }
-
 -- ---- the cut
 
 -- what `attract` asks for
@@ -140,7 +126,7 @@ cut-attractable {owners} {offsets} {targets} {s} {base} {work} c =
             below = called .below;
             part = λ v p. c .part v (ap (λ (k : ℕ). setAt (length owners) (base + k) work v) (sym size) ∙ p);
           };
-      edges = sound-edges (tablesOf owners (c .priorities) offsets targets) (called .accepted);
+      edges = edges-sound (tablesOf owners (c .priorities) offsets targets) (called .accepted);
       listed = called .table;
       side = c .player;
     }
@@ -148,6 +134,7 @@ cut-attractable {owners} {offsets} {targets} {s} {base} {work} c =
 module _ {t : Tables} {a : Player} {base looks : ℕ} {w₀ w₁ w₂ w₃ : List ℕ}
     (ok : Accepted t)
     (low : free (vertices t) (edgesIn t) ≤ base)
+    (fits : Fits (gameOf t) (onLevel t base w₀) (drawnAt t base w₀))
     (drawn : Attracted t a base (base + words (vertices t)) w₀ w₁ looks)
     (copied : Combined other (base + 4 * words (vertices t)) base (words (vertices t)) w₁ w₂)
     (reduced : Combined _-_ (base + 4 * words (vertices t)) (base + words (vertices t)) (words (vertices t)) w₂ w₃)
@@ -187,6 +174,9 @@ module _ {t : Tables} {a : Player} {base looks : ℕ} {w₀ w₁ w₂ w₃ : Lis
         (set-copied-here n (base + 4 * s) base w₁ w₂ copied v ∙ level v)
         (set-kept n (base + s) w₁ w₂ (λ i l h. copied .rest i (inl (omega arith))) v ∙ held v)
 
+    made : Cut (gameOf t) a (onLevel t base w₀) (drawnAt t base w₀) S (onLevel t (nextLevel s base) w₃)
+    made = attractor-cut (gameOf t) a (onLevel t base w₀) (drawnAt t base w₀) (onLevel t (nextLevel s base) w₃) fits rest
+
     -- **A cut is made.**
     pub cut-made : CutBy t a base (onLevel t base w₀) (drawnAt t base w₀) w₀ w₃
     unfolding gameOf
@@ -198,15 +188,19 @@ module _ {t : Tables} {a : Player} {base looks : ℕ} {w₀ w₁ w₂ w₃ : Lis
                 table = λ i l. above .low i (omega arith) ∙ drawn .table i l;
                 lower = λ i l h. above .low i (omega arith) ∙ drawn .rest i l (inl h);
               };
-          cut = record { drawn = drawn .certificate; left = rest };
+          cut = made;
           slot =
               λ v.
               set-kept n (base + s) w₁ w₃ (λ i l h. above .low i (omega arith)) v ∙ held v;
           entered =
               λ v p out mine.
               let less = attractor-below (gameOf t) a (onLevel t base w₀) (drawnAt t base w₀) v p in
-              above .low (entries n (edgesIn t) + v) (omega arith) ∙ drawn .entered v p out mine;
-          kept = λ v l d. above .low (entries n (edgesIn t) + v) (omega arith) ∙ drawn .kept v l d;
+              above .low (entries n (edgesIn t) + v) (omega arith) ∙
+              drawn .entered v (p, out, mine) ∙
+              cut-entry fits (accepted-few t ok) made v p out mine;
+          kept =
+              λ v l d.
+              above .low (entries n (edgesIn t) + v) (omega arith) ∙ drawn .kept v l (λ q. d (q .0) (q .1) (q .2));
         }
 
 -- the same, by the number of words that the code has
@@ -223,9 +217,13 @@ pub cut-done :
     (onLevel (tablesOf owners priorities offsets targets) base w₀)
     (drawnAt (tablesOf owners priorities offsets targets) base w₀)
     w₀ w₃
+unfolding gameOf
 cut-done c priorities ok drawn copied reduced =
     let size = c .ready .size in
-    cut-made ok (c .ready .called .low) (rw size at drawn) (rw size at copied) (rw size at reduced)
+    cut-made ok (c .ready .called .low) (record { part = c .part; below = c .ready .called .below })
+    (rw size at drawn)
+    (rw size at copied)
+    (rw size at reduced)
 
 -- the numbers 0 and 1 stand for the players, and 1 less the number for the opponent
 pub other-number : (k : ℕ) → k < 2 → playerOf (1 - k) ≡ opponent (playerOf k)
@@ -437,7 +435,7 @@ module _ {t : Tables} {s base : ℕ} (p : ℕ) {place : ℕ} {w₀ w₁ w₂ : L
           record {
             long = extended .long;
             table = λ i l. extended .rest i (inl (omega arith));
-            lower = λ i l h. extended .rest i (inr l);
+            lower = λ i l h. extended .rest i (inr (omega arith));
           }
 
       level-all : (v : ℕ) → onLevel t base w₂ v ≡ onLevel t base w₀ v
@@ -478,9 +476,8 @@ module _ {t : Tables} {s base : ℕ} (p : ℕ) {place : ℕ} {w₀ w₁ w₂ : L
                 v;
             chosen =
                 λ v u mine.
-                let (e, q) =
-                extended .chosen v (ap (λ (b : Bool). b && eqb (gameOf t .priority v) p) (level-all v) ∙ u, mine) in
-                (e, sym (level-all (entriesOf t w₃ v)) ∙ q);
+                extended .chosen v (ap (λ (b : Bool). b && eqb (gameOf t .priority v) p) (level-all v) ∙ u, mine) ∙
+                ap (λ (S : Set). lowestIn (gameOf t) S v) (fun-ext level-all);
             kept =
                 λ v l d.
                 extended .kept v l

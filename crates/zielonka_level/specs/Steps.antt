@@ -13,10 +13,12 @@ use Rattle.rules.specs.Counting.{Set, count, union}
 use Rattle.rules.specs.Game.{Player, opponent, Game, Edge, parity}
 use Rattle.rules.specs.Tables.{Tables, gameOf, vertices, edgesIn, words}
 use Rattle.rules.specs.Attractor.{attractor}
+use Rattle.rules.specs.Distance.{lowestIn}
 use Rattle.rules.specs.Zielonka.{withPriority}
 use Rattle.area.specs.Area.{free}
-use Rattle.attractor.specs.Running.{listed-kept}
+use Rattle.attractor.specs.Attracted.{listed-kept}
 use Rattle.theory.specs.Basics.{clash, not-true-is-false, and-left, without-right}
+use Rattle.theory.specs.Distance.{lowestIn-found}
 use Rattle.theory.specs.Run.{Top, Cut, empty, all-won, some-lost}
 use Rattle.theory.specs.Run.{cut-inside, cut-total, cut-fewer, first-fewer}
 use Rattle.theory.specs.RunSame.{Needs, needs-one, needs-first, needs-both}
@@ -42,7 +44,7 @@ pub record CutBy (t : Tables) (c : Player) (base : ℕ) (V' T : Set) (before aft
       (attractor (gameOf t) c V' T v ≡ true → T v ≡ false → gameOf t .owner v ≡ c → ⊥) →
       entriesOf t after v ≡ entriesOf t before v
 
--- p's player wins all of V: its vertices of priority p take an edge inside V
+-- p's player wins all of V: its vertices of priority p take their lowest-numbered successor in V
 pub record AllAt (t : Tables) (p base : ℕ) (before after : List ℕ) : Type 0 where
   pub stays : Stays t base before after
   pub mine : (v : ℕ) → wonAt t base after (parity p) v ≡ onLevel t base before v
@@ -51,7 +53,7 @@ pub record AllAt (t : Tables) (p base : ℕ) (before after : List ℕ) : Type 0 
       (v : ℕ) →
       withPriority (gameOf t) (onLevel t base before) p v ≡ true →
       gameOf t .owner v ≡ parity p →
-      Edge (gameOf t) v (entriesOf t after v) × (onLevel t base before (entriesOf t after v) ≡ true)
+      entriesOf t after v ≡ lowestIn (gameOf t) (onLevel t base before) v
   pub kept :
       (v : ℕ) →
       v < vertices t →
@@ -226,6 +228,7 @@ module _ {t : Tables} {base : ℕ} {w₀ : List ℕ} (called : Called t base w�
       ((v : ℕ) → wonAt t (nextLevel (words (vertices t)) base) w₂ (opponent (parity p)) v ≡ false) →
       AllAt t p base w₂ w₃ →
       Done t base calls budget made w₀ w₃
+  unfolding gameOf
   done-all {p} {w₁} {w₂} {w₃} top k d nothing all =
       record {
         needed = 1 + d .needed;
@@ -234,7 +237,7 @@ module _ {t : Tables} {base : ℕ} {w₀ : List ℕ} (called : Called t base w�
         run =
             all-won top (k .cut) (d .run)
             (record { nothing = nothing; mine = λ v. all .mine v ∙ level v; theirs = all .theirs })
-            (record { kept = kept; pulled = pulled; stays = chosen })
+            (record { kept = kept; pulled = pulled; stays = inside; lowest = chosen })
             refl;
         stays = stays-on stays (all .stays);
         entries =
@@ -281,9 +284,18 @@ module _ {t : Tables} {base : ℕ} {w₀ : List ℕ} (called : Called t base w�
           (v : ℕ) →
           withPriority (gameOf t) (onLevel t base w₀) p v ≡ true →
           gameOf t .owner v ≡ parity p →
-          Edge (gameOf t) v (entriesOf t w₃ v) × (onLevel t base w₀ (entriesOf t w₃ v) ≡ true)
+          entriesOf t w₃ v ≡ lowestIn (gameOf t) (onLevel t base w₀) v
       chosen v u mine =
-          let (e, q) = all .chosen v (top-level v ∙ u) mine in (e, sym (level (entriesOf t w₃ v)) ∙ q)
+          all .chosen v (top-level v ∙ u) mine ∙ ap (λ (S : Set). lowestIn (gameOf t) S v) (fun-ext level)
+
+      inside :
+          (v : ℕ) →
+          withPriority (gameOf t) (onLevel t base w₀) p v ≡ true →
+          gameOf t .owner v ≡ parity p →
+          Edge (gameOf t) v (entriesOf t w₃ v) × (onLevel t base w₀ (entriesOf t w₃ v) ≡ true)
+      inside v u mine =
+          let (w, e, q) = called .total v (and-left _ _ u) in
+          rw (chosen v u mine) (lowestIn-found (gameOf t) (onLevel t base w₀) v w (called .below w q) e q)
 
   -- the opponent wins some of V
   pub done-some :

@@ -1,11 +1,12 @@
-// The highest priority in V, the vertices that have it, and an edge inside V for each of them.
+// The highest priority in V, the vertices that have it, and the lowest-numbered successor inside V of each of them.
 use parity_game::Priority;
+use successors::inside::lowest_inside;
 use walk::Members;
 use walk::Next;
 ghost use mathlib.Core.Path.{_≡_};
 ghost use lib.ListN.{length};
 ghost use Rattle.rules.specs.Words.{setOf};
-ghost use Rattle.zielonka_level.specs.Parts.{highestOf, Searchable, Collects, Collected, Inside, Ends};
+ghost use Rattle.zielonka_level.specs.Parts.{highestOf, Searchable, Collects, Collected};
 ghost use Rattle.zielonka_level.specs.Extending.{Extends, Extended};
 ghost use Rattle.rules.specs.Tables.{tablesOf};
 
@@ -49,22 +50,9 @@ pub fn collect(priorities: &[u16], p: usize, s: usize, work: &mut [u64], within:
     }
 }
 
-// The end of the first edge of v that ends inside the set.
-fn first_inside(offsets: &[u16], targets: &[u16], v: usize, set: &[u64]) -> u16
-    requires { ⌜ Inside (now offsets) (now targets) v (now set) ⌝ }
-    ensures { λ r. ⌜ Ends (now (offsets .entry)) (now (targets .entry)) v (now (set .entry)) r ⌝ }
-{
-    for e in offsets[v]..offsets[v + 1] {
-        let w = targets[e as usize];
-        if sets::contains(set, w as usize) {
-            return w;
-        }
-    }
-    0
-}
-
-// Each vertex of V of priority p that p's player owns takes an edge inside V, found by words.
-pub fn extend_arbitrary(
+// The Rust's `extend_arbitrary`: each vertex of V of priority p that p's player owns takes an edge inside V. Here it is
+// the lowest-numbered successor, so that the choice is the same each time.
+pub fn extend_lowest(
     owners: &[u8],
     priorities: &[u16],
     offsets: &[u16],
@@ -91,8 +79,8 @@ pub fn extend_arbitrary(
         let v = member.0;
         if priorities[v] as usize == p {
             if owners[v] as usize == p % 2 {
-                let w = first_inside(offsets, targets, v, &work[base..base + s]);
-                work[n + 1 + m + n + n + v] = w as u64;
+                let w = lowest_inside(n, offsets, targets, v, &work[base..base + s]);
+                work[n + 1 + m + n + n + v] = w;
             }
         }
         walk = rest;

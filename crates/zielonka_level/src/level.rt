@@ -1,7 +1,7 @@
 // The pieces of a call, over the four sets of its level: V at `base`, then the attractor, then what Even and Odd win.
 // The next level begins after them. `s` is the words of a set, `p` the highest priority in V.
 use crate::highest::collect;
-use crate::highest::extend_arbitrary;
+use crate::highest::extend_lowest;
 ghost use mathlib.Core.List.{List};
 ghost use mathlib.Core.Bool.{not};
 ghost use mathlib.Core.Path.{_≡_};
@@ -123,7 +123,7 @@ pub fn lost_nothing(p: usize, s: usize, work: &[u64], base: usize) -> bool
     sets::is_empty(&work[lost..lost + s])
 }
 
-// p's player wins V, and its vertices of priority p take any edge inside V.
+// p's player wins V, and its vertices of priority p take their lowest-numbered successor in V.
 pub fn win_everything(
     owners: &[u8],
     priorities: &[u16],
@@ -143,7 +143,7 @@ pub fn win_everything(
     sets::clear(work, base + 2 * s, 2 * s);
     let won = won_at(base, s, p % 2);
     sets::copy_with(work, won, base, s);
-    extend_arbitrary(owners, priorities, offsets, targets, p, s, work, base);
+    extend_lowest(owners, priorities, offsets, targets, p, s, work, base);
 }
 
 // Each player wins what it won at the next level, and the opponent of p's player B too.

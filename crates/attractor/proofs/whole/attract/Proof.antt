@@ -1,258 +1,526 @@
--- `attract` meets its contract: the members before head are taken, by the rules' steps, and at the end all of them are.
+-- `attract` meets its contract: layer by layer, in rising order, each member is taken by one of the rules' steps.
 use Prim.Native.Nat.{ℕ, _+_, _-_, _≤_, _<_}
 use mathlib.Core.List.{List}
-use mathlib.Core.Path.{_≡_, _∙_}
+use mathlib.Core.Path.{_≡_, sym, ap, _∙_}
 use native.Mathlib.Omega.{arith}
 use borrow.Author.Needs.{needs}
 use lib.ListN.{length, getD}
-use Rattle.area.specs.Area.{queue}
+use Rattle.rules.specs.Counting.{count}
+use Rattle.rules.specs.Tables.{words}
+use Rattle.theory.specs.Basics.{count-le}
+use Rattle.layer.specs.Laws.{unmarked-empty}
+use Rattle.attractor_step.specs.View.{layerAt}
+use Rattle.area.specs.Area.{layerWords}
 use Rattle.attractor.specs.Attracted.{Attractable}
-use Rattle.attractor.specs.Started.{count-ready, fill-ready, started-kept, started-same, started-given, started}
-use Rattle.attractor.specs.Running.{Running, Same, same-back, running-moved, running-more, running-all}
-use Rattle.attractor.specs.Running.{take-ready, place-fits, next-fits, row-rises, looks-few, tail-few}
-use Rattle.attractor.specs.View.{Kept}
-use Rattle.attractor.specs.Views.{kept-then}
+use Rattle.attractor.specs.Started.{count-ready, begin-ready, started-same, started-given, started}
+use Rattle.attractor.specs.Running.{Running, Going, Same, takenAt, marks-read, layer-fits}
+use Rattle.attractor.specs.Running.{pop-ready, mid, mid-long, next-fits, row-rises, looks-few}
+use Rattle.attractor.specs.Running.{take-ready, taken-grows, going-more, turned}
+use Rattle.attractor.specs.Running.{running-on, running-turn, running-all, attracted-moved}
 use Rattle.attractor.proofs.whole.attract.Statement.{statement}
 use Rattle.attractor.proofs.whole.attract.Tie as tie
 
 abbrev Inv-loop : tie.InvT-loop
-Inv-loop owners offsets targets alpha work₀ within set n m s queue tail₀ head₀ looks₀ work tail head looks =
-    Running owners offsets targets alpha within set work₀ head work tail looks
+Inv-loop owners offsets targets alpha work₀ within set n m s first this₀ next₀ far₀ looks₀ work this next far looks =
+    Running owners offsets targets alpha within set work₀ this next far looks work
 
 abbrev μ-loop : tie.MeasureT-loop
-μ-loop owners offsets targets alpha work₀ within set n m s queue tail₀ head₀ looks₀ work tail head looks = length owners - head
+μ-loop owners offsets targets alpha work₀ within set n m s first this₀ next₀ far₀ looks₀ work this next far looks =
+    length owners - count (length owners) (takenAt (length owners) (length targets) set this next work)
 
 -- where the function begins
 abbrev at1 : tie.After-set-words Inv-loop μ-loop → tie.Start Inv-loop μ-loop
 at1 c = c .before .before .before .before .before
 
-abbrev at2 : tie.After-fill-queue Inv-loop μ-loop → tie.Start Inv-loop μ-loop
-at2 c = at1 (c .before .before .before .before .before .before)
+abbrev counted : tie.After-begin-layers Inv-loop μ-loop → tie.After-initialize-attractor-counters Inv-loop μ-loop
+counted c = c .before .before .before .before
 
-abbrev start-of : tie.At-loop Inv-loop μ-loop → tie.Start Inv-loop μ-loop
-start-of c = at2 (c .before .before .before)
+abbrev sized : tie.After-begin-layers Inv-loop μ-loop → tie.After-set-words Inv-loop μ-loop
+sized c = counted c .before .before
 
-abbrev sized : tie.At-loop Inv-loop μ-loop → tie.After-set-words Inv-loop μ-loop
-sized c = c .before .before .before .before .before .before .before .before .before
+abbrev start-of : tie.After-begin-layers Inv-loop μ-loop → tie.Start Inv-loop μ-loop
+start-of c = at1 (sized c)
 
-abbrev turn : tie.After-slice-known7 Inv-loop μ-loop → tie.In-loop Inv-loop μ-loop
-turn c = c .before .before .before .before .before .before .before
-
--- the work area where the loop begins, and what holds of it
-abbrev begin : tie.At-loop Inv-loop μ-loop → List ℕ
-begin c = c .before .before .before .fill-queue .last .0
-
+-- what holds of the work area where the loop begins
 given :
-    (c : tie.At-loop Inv-loop μ-loop) →
+    (c : tie.After-begin-layers Inv-loop μ-loop) →
     let a = start-of c .args in
-    Attractable (a .owners .now) (a .offsets .now) (a .targets .now) (a .alpha) (a .within) (a .set) (begin c)
+    Attractable (a .owners .now) (a .offsets .now) (a .targets .now) (a .alpha) (a .within) (a .set) (c .begin-layers .last .0)
 given c =
-    let f = c .before .before .before in
-    let i = f .before .before .before .before in
-    let w = i .before .before in
+    let i = counted c in
+    let w = sized c in
     let g = at1 w in
     let a = g .args in
-    started-given (a .owners .now) (a .offsets .now) (a .targets .now) (a .alpha) (a .within) (a .set) (w .set-words .result) (a .work .now) (g .pre)
-    (w .set-words .ensures) _ (i .initialize-attractor-counters .ensures) _ (f .fill-queue .result) (f .fill-queue .ensures)
-
-kept :
-    (c : tie.At-loop Inv-loop μ-loop) →
-    let a = start-of c .args in
-    Kept (length (a .owners .now)) (length (a .targets .now)) (a .set) (a .work .now) (begin c)
-kept c =
-    let f = c .before .before .before in
-    let i = f .before .before .before .before in
-    let w = i .before .before in
-    let g = at1 w in
-    let a = g .args in
-    started-kept (a .owners .now) (a .offsets .now) (a .targets .now) (a .alpha) (a .within) (a .set) (w .set-words .result) (a .work .now) (g .pre)
-    (w .set-words .ensures) _ (i .initialize-attractor-counters .ensures) _ (f .fill-queue .result) (f .fill-queue .ensures)
+    started-given (a .owners .now) (a .offsets .now) (a .targets .now) (a .alpha) (a .within) (a .set) (w .set-words .result)
+    (a .work .now)
+    (g .pre) (w .set-words .ensures) _ (i .initialize-attractor-counters .ensures) _ (c .begin-layers .ensures)
 
 same :
-    (c : tie.At-loop Inv-loop μ-loop) →
+    (c : tie.After-begin-layers Inv-loop μ-loop) →
     let a = start-of c .args in
-    Same (length (a .owners .now)) (length (a .targets .now)) (a .within) (a .set) (a .work .now) (begin c)
+    Same (length (a .owners .now)) (length (a .targets .now)) (a .within) (a .set) (a .work .now) (c .begin-layers .last .0)
 same c =
-    let f = c .before .before .before in
-    let i = f .before .before .before .before in
-    let w = i .before .before in
+    let i = counted c in
+    let w = sized c in
     let g = at1 w in
     let a = g .args in
-    started-same (a .owners .now) (a .offsets .now) (a .targets .now) (a .alpha) (a .within) (a .set) (w .set-words .result) (a .work .now) (g .pre)
-    (w .set-words .ensures) _ (i .initialize-attractor-counters .ensures) _ (f .fill-queue .result) (f .fill-queue .ensures)
+    started-same (a .owners .now) (a .offsets .now) (a .targets .now) (a .alpha) (a .within) (a .set) (w .set-words .result)
+    (a .work .now)
+    (g .pre) (w .set-words .ensures) _ (i .initialize-attractor-counters .ensures) _ (c .begin-layers .ensures)
 
-long : (c : tie.At-loop Inv-loop μ-loop) → length (c .loop .work) ≡ length (start-of c .args .work .now)
-long c = c .loop .inv .kept .long ∙ kept c .long
+abbrev begun : tie.At-loop Inv-loop μ-loop → tie.After-begin-layers Inv-loop μ-loop
+begun c = c .before .before .before
 
--- the vertex that is taken
-abbrev next : tie.At-loop Inv-loop μ-loop → ℕ
-next c =
-    let a = start-of c .args in
-    getD (c .loop .work) (queue (length (a .owners .now)) (length (a .targets .now)) + c .loop .head) 0
+long : (c : tie.At-loop Inv-loop μ-loop) → length (c .loop .work) ≡ length (start-of (begun c) .args .work .now)
+long c = c .loop .inv .going .long ∙ same (begun c) .long
 
--- what holds in a turn
+size : (c : tie.At-loop Inv-loop μ-loop) → sized (begun c) .set-words .result ≡ words (length (start-of (begun c)
+    .args .owners .now))
+size c = sized (begun c) .set-words .ensures
+
+-- the layer lies in the work area
 fits :
-    (c : tie.In-loop Inv-loop μ-loop) →
-    let a = start-of (c .before) .args in
-    queue (length (a .owners .now)) (length (a .targets .now)) + c .before .loop .head < length (c .before .loop .work)
+    (c : tie.At-loop Inv-loop μ-loop) →
+    c .loop .this + layerWords (length (start-of (begun c) .args .owners .now)) ≤ length (c .loop .work)
 fits c =
-    let d = c in
-    let a = start-of (d .before) .args in
-    let l = d .before .loop in
-    place-fits (a .owners .now) (a .offsets .now) (a .targets .now) (a .alpha) (a .within) (a .set) (begin (d .before)) (given (d .before)) (l .head)
-    (l .work) (l .tail) (l .looks) (l .inv) (d .loop-test .taken)
+    let b = begun c in
+    let a = start-of b .args in
+    let l = c .loop in
+    layer-fits (a .owners .now) (a .offsets .now) (a .targets .now) (a .alpha) (a .within) (a .set) (b .begin-layers .last .0)
+    (given b) (l .this) (l .next) (l .far) (l .looks) (l .work) (l .inv .going)
+
+-- the loop's head of a turn
+abbrev head : tie.After-pop Inv-loop μ-loop → tie.At-loop Inv-loop μ-loop
+head c = c .before .before .before .before
+
+kept :
+    (c : tie.After-pop Inv-loop μ-loop) →
+    let b = begun (head c) in
+    let a = start-of b .args in
+    let l = head c .loop in
+    let work = mid (a .owners .now) (a .offsets .now) (a .targets .now) (a .alpha) (a .within) (a .set)
+    (b .begin-layers .last .0) (given b) (l .this) (l .next) (l .far) (l .looks) (l .work) (l .inv .going)
+    (sized b .set-words .result) (size (head c)) (c .before .before .if1 .taken) (c .pop .result) (c .pop .last .0)
+    (c .pop .ensures) in
+    length work ≡ length (b .begin-layers .last .0)
+kept c =
+    let b = begun (head c) in
+    let a = start-of b .args in
+    let l = head c .loop in
+    mid-long (a .owners .now) (a .offsets .now) (a .targets .now) (a .alpha) (a .within) (a .set)
+    (b .begin-layers .last .0) (given b) (l .this) (l .next) (l .far) (l .looks) (l .work) (l .inv .going)
+    (sized b .set-words .result) (size (head c)) (c .before .before .if1 .taken) (c .pop .result) (c .pop .last .0)
+    (c .pop .ensures)
 
 starts :
-    (c : tie.In-loop Inv-loop μ-loop) →
-    let a = start-of (c .before) .args in
-    next (c .before) + 1 < length (c .before .loop .work)
+    (c : tie.After-pop Inv-loop μ-loop) →
+    let b = begun (head c) in
+    let a = start-of b .args in
+    let l = head c .loop in
+    let work = mid (a .owners .now) (a .offsets .now) (a .targets .now) (a .alpha) (a .within) (a .set)
+    (b .begin-layers .last .0) (given b) (l .this) (l .next) (l .far) (l .looks) (l .work) (l .inv .going)
+    (sized b .set-words .result) (size (head c)) (c .before .before .if1 .taken) (c .pop .result) (c .pop .last .0)
+    (c .pop .ensures) in
+    c .pop .result + 1 < length work
 starts c =
-    let d = c in
-    let a = start-of (d .before) .args in
-    let l = d .before .loop in
-    next-fits (a .owners .now) (a .offsets .now) (a .targets .now) (a .alpha) (a .within) (a .set) (begin (d .before)) (given (d .before)) (l .head)
-    (l .work) (l .tail) (l .looks) (l .inv) (d .loop-test .taken)
+    let b = begun (head c) in
+    let a = start-of b .args in
+    let l = head c .loop in
+    next-fits (a .owners .now) (a .offsets .now) (a .targets .now) (a .alpha) (a .within) (a .set)
+    (b .begin-layers .last .0) (given b) (l .this) (l .next) (l .far) (l .looks) (l .work) (l .inv .going)
+    (sized b .set-words .result) (size (head c)) (c .before .before .if1 .taken) (c .pop .result) (c .pop .last .0)
+    (c .pop .ensures)
 
 rises :
-    (c : tie.In-loop Inv-loop μ-loop) →
-    let a = start-of (c .before) .args in
-    getD (c .before .loop .work) (next (c .before)) 0 ≤ getD (c .before .loop .work) (next (c .before) + 1) 0
+    (c : tie.After-pop Inv-loop μ-loop) →
+    let b = begun (head c) in
+    let a = start-of b .args in
+    let l = head c .loop in
+    let work = mid (a .owners .now) (a .offsets .now) (a .targets .now) (a .alpha) (a .within) (a .set)
+    (b .begin-layers .last .0) (given b) (l .this) (l .next) (l .far) (l .looks) (l .work) (l .inv .going)
+    (sized b .set-words .result) (size (head c)) (c .before .before .if1 .taken) (c .pop .result) (c .pop .last .0)
+    (c .pop .ensures) in
+    getD work (c .pop .result) 0 ≤ getD work (c .pop .result + 1) 0
 rises c =
-    let d = c in
-    let a = start-of (d .before) .args in
-    let l = d .before .loop in
-    row-rises (a .owners .now) (a .offsets .now) (a .targets .now) (a .alpha) (a .within) (a .set) (begin (d .before)) (given (d .before)) (l .head)
-    (l .work) (l .tail) (l .looks) (l .inv) (d .loop-test .taken)
+    let b = begun (head c) in
+    let a = start-of b .args in
+    let l = head c .loop in
+    row-rises (a .owners .now) (a .offsets .now) (a .targets .now) (a .alpha) (a .within) (a .set)
+    (b .begin-layers .last .0) (given b) (l .this) (l .next) (l .far) (l .looks) (l .work) (l .inv .going)
+    (sized b .set-words .result) (size (head c)) (c .before .before .if1 .taken) (c .pop .result) (c .pop .last .0)
+    (c .pop .ensures)
 
 few :
-    (c : tie.In-loop Inv-loop μ-loop) →
-    let a = start-of (c .before) .args in
-    c .before .loop .looks + (getD (c .before .loop .work) (next (c .before) + 1) 0 - getD (c .before .loop .work) (next (c .before)) 0) ≤ 67108864
+    (c : tie.After-pop Inv-loop μ-loop) →
+    let b = begun (head c) in
+    let a = start-of b .args in
+    let l = head c .loop in
+    let work = mid (a .owners .now) (a .offsets .now) (a .targets .now) (a .alpha) (a .within) (a .set)
+    (b .begin-layers .last .0) (given b) (l .this) (l .next) (l .far) (l .looks) (l .work) (l .inv .going)
+    (sized b .set-words .result) (size (head c)) (c .before .before .if1 .taken) (c .pop .result) (c .pop .last .0)
+    (c .pop .ensures) in
+    l .looks + (getD work (c .pop .result + 1) 0 - getD work (c .pop .result) 0) ≤ 67125248
 few c =
-    let d = c in
-    let a = start-of (d .before) .args in
-    let l = d .before .loop in
-    looks-few (a .owners .now) (a .offsets .now) (a .targets .now) (a .alpha) (a .within) (a .set) (begin (d .before)) (given (d .before)) (l .head)
-    (l .work) (l .tail) (l .looks) (l .inv) (d .loop-test .taken)
+    let b = begun (head c) in
+    let a = start-of b .args in
+    let l = head c .loop in
+    looks-few (a .owners .now) (a .offsets .now) (a .targets .now) (a .alpha) (a .within) (a .set)
+    (b .begin-layers .last .0) (given b) (l .this) (l .next) (l .far) (l .looks) (l .work) (l .inv .going)
+    (sized b .set-words .result) (size (head c)) (c .before .before .if1 .taken) (c .pop .result) (c .pop .last .0)
+    (c .pop .ensures)
+
+-- the turn of w
+abbrev popped : tie.After-take Inv-loop μ-loop → tie.After-pop Inv-loop μ-loop
+popped c = c .before .before .before .before .before .before
+
+going :
+    (c : tie.After-take Inv-loop μ-loop) →
+    let P = popped c in
+    let b = begun (head P) in
+    let a = start-of b .args in
+    let l = head P .loop in
+    let work = mid (a .owners .now) (a .offsets .now) (a .targets .now) (a .alpha) (a .within) (a .set)
+    (b .begin-layers .last .0) (given b) (l .this) (l .next) (l .far) (l .looks) (l .work) (l .inv .going)
+    (sized b .set-words .result) (size (head P)) (P .before .before .if1 .taken) (P .pop .result) (P .pop .last .0)
+    (P .pop .ensures) in
+    Going (a .owners .now) (a .offsets .now) (a .targets .now) (a .alpha) (a .within) (a .set) (b .begin-layers .last .0)
+    (l .this) (l .next) (l .far)
+    (l .looks + (getD work (P .pop .result + 1) 0 - getD work (P .pop .result) 0)) (c .take .last .1 .1 .1 .1 .0)
+going c =
+    let P = popped c in
+    let b = begun (head P) in
+    let a = start-of b .args in
+    let l = head P .loop in
+    going-more (a .owners .now) (a .offsets .now) (a .targets .now) (a .alpha) (a .within) (a .set)
+    (b .begin-layers .last .0) (given b) (l .this) (l .next) (l .far) (l .looks) (l .work) (l .inv .going)
+    (sized b .set-words .result) (size (head P)) (P .before .before .if1 .taken) (P .pop .result) (P .pop .last .0)
+    (P .pop .ensures) (c .take .last .1 .1 .1 .1 .0) (c .take .ensures)
+
+grows :
+    (c : tie.After-take Inv-loop μ-loop) →
+    let P = popped c in
+    let a = start-of (begun (head P)) .args in
+    let l = head P .loop in
+    let n = length (a .owners .now) in
+    let m = length (a .targets .now) in
+    count n (takenAt n m (a .set) (l .this) (l .next) (l .work)) < count n (takenAt n m (a .set) (l .this) (l .next)
+    (c .take .last .1 .1 .1 .1 .0))
+grows c =
+    let P = popped c in
+    let b = begun (head P) in
+    let a = start-of b .args in
+    let l = head P .loop in
+    taken-grows (a .owners .now) (a .offsets .now) (a .targets .now) (a .alpha) (a .within) (a .set)
+    (b .begin-layers .last .0) (given b) (l .this) (l .next) (l .far) (l .looks) (l .work) (l .inv .going)
+    (sized b .set-words .result) (size (head P)) (P .before .before .if1 .taken) (P .pop .result) (P .pop .last .0)
+    (P .pop .ensures) (c .take .last .1 .1 .1 .1 .0) (c .take .ensures)
 
 set-words-requires : tie.Need-set-words-requires Inv-loop μ-loop
 set-words-requires c κs = search needs
 
-add-queue : tie.Need-add-queue Inv-loop μ-loop
-add-queue c = search needs
+add-first : tie.Need-add-first Inv-loop μ-loop
+add-first c = search needs
 
-add-queue-2 : tie.Need-add-queue-2 Inv-loop μ-loop
-add-queue-2 c = search needs
+add-first-2 : tie.Need-add-first-2 Inv-loop μ-loop
+add-first-2 c = search needs
 
-add-queue-3 : tie.Need-add-queue-3 Inv-loop μ-loop
-add-queue-3 c = search needs
+add-first-3 : tie.Need-add-first-3 Inv-loop μ-loop
+add-first-3 c = search needs
+
+add-first-4 : tie.Need-add-first-4 Inv-loop μ-loop
+add-first-4 c = search needs
+
+add-first-5 : tie.Need-add-first-5 Inv-loop μ-loop
+add-first-5 c = search needs
 
 initialize-attractor-counters-requires :
     tie.Need-initialize-attractor-counters-requires Inv-loop μ-loop
 initialize-attractor-counters-requires c κs =
     let g = at1 (c .before) in
     let a = g .args in
-    count-ready (a .owners .now) (a .offsets .now) (a .targets .now) (a .alpha) (a .within) (a .set) (c .before .set-words .result) (a .work .now) (g .pre)
-    (c .before .set-words .ensures)
+    count-ready (a .owners .now) (a .offsets .now) (a .targets .now) (a .alpha) (a .within) (a .set)
+    (c .before .set-words .result) (a .work .now) (g .pre) (c .before .set-words .ensures)
 
-fill-queue-requires : tie.Need-fill-queue-requires Inv-loop μ-loop
-fill-queue-requires c κs =
+begin-layers-requires : tie.Need-begin-layers-requires Inv-loop μ-loop
+begin-layers-requires c κs =
     let i = c .before .before .before in
     let w = i .before .before in
     let g = at1 w in
     let a = g .args in
-    fill-ready (a .owners .now) (a .offsets .now) (a .targets .now) (a .alpha) (a .within) (a .set) (w .set-words .result) (a .work .now) (g .pre)
-    (w .set-words .ensures) _ (i .initialize-attractor-counters .ensures)
+    begin-ready (a .owners .now) (a .offsets .now) (a .targets .now) (a .alpha) (a .within) (a .set) (w .set-words .result)
+    (a .work .now)
+    (g .pre) (w .set-words .ensures) _ (i .initialize-attractor-counters .ensures)
+
+add-next : tie.Need-add-next Inv-loop μ-loop
+add-next c =
+    let b = c .before .before in
+    omega (
+      arith,
+      sized b .set-words .ensures,
+      given b .placed .set-low,
+      given b .placed .set-high,
+      same b .long,
+      start-of b .good,
+    )
+
+add-next-2 : tie.Need-add-next-2 Inv-loop μ-loop
+add-next-2 c =
+    let b = c .before .before in
+    omega (
+      arith,
+      sized b .set-words .ensures,
+      given b .placed .set-low,
+      given b .placed .set-high,
+      same b .long,
+      start-of b .good,
+    )
 
 loop-holds : tie.Need-loop-holds Inv-loop μ-loop
 loop-holds c =
-    let f = c .before .before in
-    let i = f .before .before .before .before in
-    let w = i .before .before in
+    let b = c .before .before in
+    let i = counted b in
+    let w = sized b in
     let g = at1 w in
     let a = g .args in
-    started (a .owners .now) (a .offsets .now) (a .targets .now) (a .alpha) (a .within) (a .set) (w .set-words .result) (a .work .now) (g .pre)
-    (w .set-words .ensures) _ (i .initialize-attractor-counters .ensures) _ (f .fill-queue .result) (f .fill-queue .ensures)
+    started (a .owners .now) (a .offsets .now) (a .targets .now) (a .alpha) (a .within) (a .set) (w .set-words .result)
+    (a .work .now)
+    (g .pre) (w .set-words .ensures) _ (i .initialize-attractor-counters .ensures) _ (b .begin-layers .ensures)
 
-add-w : tie.Need-add-w Inv-loop μ-loop
-add-w c = omega (arith, fits c, long (c .before), start-of (c .before) .good)
+add-if1 : tie.Need-add-if1 Inv-loop μ-loop
+add-if1 c = omega (arith, fits (c), size (c), long (c), start-of (begun (c)) .good)
 
-mul-w : tie.Need-mul-w Inv-loop μ-loop
-mul-w c = omega (arith, fits c, long (c .before), start-of (c .before) .good)
+mul-if1 : tie.Need-mul-if1 Inv-loop μ-loop
+mul-if1 c = omega (arith, fits (c), size (c), long (c), start-of (begun (c)) .good)
 
-slice-read-w : tie.Need-slice-read-w Inv-loop μ-loop
-slice-read-w c = fits (c .before)
+slice-read-if1 : tie.Need-slice-read-if1 Inv-loop μ-loop
+slice-read-if1 c = omega (arith, fits (c .before), size (c .before), long (c .before), start-of (begun (c .before)) .good)
+
+add-pop : tie.Need-add-pop Inv-loop μ-loop
+add-pop c = omega (
+  arith,
+  fits (c .before .before),
+  size (c .before .before),
+  long (c .before .before),
+  start-of (begun
+      (c .before .before)) .good,
+)
+
+add-pop-2 : tie.Need-add-pop-2 Inv-loop μ-loop
+add-pop-2 c = omega (
+  arith,
+  fits (c .before .before),
+  size (c .before .before),
+  long (c .before .before),
+  start-of (begun
+      (c .before .before)) .good,
+)
+
+mul-pop : tie.Need-mul-pop Inv-loop μ-loop
+mul-pop c = omega (
+  arith,
+  fits (c .before .before),
+  size (c .before .before),
+  long (c .before .before),
+  start-of (begun
+      (c .before .before)) .good,
+)
+
+sub-pop : tie.Need-sub-pop Inv-loop μ-loop
+sub-pop c = omega (
+  arith,
+  fits (c .before .before),
+  size (c .before .before),
+  long (c .before .before),
+  start-of (begun
+      (c .before .before)) .good,
+)
+
+part-pop-start : tie.Need-part-pop-start Inv-loop μ-loop
+part-pop-start c = omega (
+  arith,
+  fits (c .before .before),
+  size (c .before .before),
+  long (c .before .before),
+  start-of (begun
+      (c .before .before)) .good,
+)
+
+part-pop-end : tie.Need-part-pop-end Inv-loop μ-loop
+part-pop-end c = omega (
+  arith,
+  fits (c .before .before),
+  size (c .before .before),
+  long (c .before .before),
+  start-of (begun
+      (c .before .before)) .good,
+)
+
+pop-requires : tie.Need-pop-requires Inv-loop μ-loop
+pop-requires c κs =
+    let d = c .before .before .before in
+    let b = begun d in
+    let a = start-of b .args in
+    let l = d .loop in
+    pop-ready (a .owners .now) (a .offsets .now) (a .targets .now) (a .alpha) (a .within) (a .set)
+    (b .begin-layers .last .0) (given b) (l .this) (l .next) (l .far) (l .looks) (l .work) (l .inv .going)
+    (sized b .set-words .result) (size d) (c .before .if1 .taken)
 
 add-looks : tie.Need-add-looks Inv-loop μ-loop
-add-looks c = omega (arith, starts (c .before), long (c .before .before), start-of (c .before .before) .good)
+add-looks c = omega (
+  arith,
+  starts (c .before .before),
+  kept (c .before .before),
+  same (begun (head (c .before .before))) .long,
+  start-of (begun (head (c .before .before))) .good,
+)
 
 mul-looks : tie.Need-mul-looks Inv-loop μ-loop
-mul-looks c = omega (arith, starts (c .before), long (c .before .before), start-of (c .before .before) .good)
+mul-looks c = omega (
+  arith,
+  starts (c .before .before),
+  kept (c .before .before),
+  same (begun (head (c .before .before))) .long,
+  start-of (begun (head (c .before .before))) .good,
+)
 
 slice-read-looks : tie.Need-slice-read-looks Inv-loop μ-loop
-slice-read-looks c = starts (c .before .before)
+slice-read-looks c = starts (c .before .before .before)
 
 mul-looks-2 : tie.Need-mul-looks-2 Inv-loop μ-loop
-mul-looks-2 c = omega (arith, starts (c .before .before), long (c .before .before .before), start-of (c .before .before .before) .good)
+mul-looks-2 c = omega (
+  arith,
+  starts (c .before .before .before),
+  kept (c .before .before .before),
+  same (begun (head
+      (c .before .before .before))) .long,
+  start-of (begun (head (c .before .before .before))) .good,
+)
 
 slice-read-looks-2 : tie.Need-slice-read-looks-2 Inv-loop μ-loop
-slice-read-looks-2 c = omega (arith, starts (c .before .before .before))
+slice-read-looks-2 c = omega (arith, starts (c .before .before .before .before))
 
 sub-looks : tie.Need-sub-looks Inv-loop μ-loop
-sub-looks c = rises (c .before .before .before)
+sub-looks c = rises (c .before .before .before .before)
 
 add-looks-2 : tie.Need-add-looks-2 Inv-loop μ-loop
-add-looks-2 c = omega (arith, few (c .before .before .before))
+add-looks-2 c = omega (arith, few (c .before .before .before .before))
 
 take-requires : tie.Need-take-requires Inv-loop μ-loop
 take-requires c κs =
-    let d = c .before .before .before .before in
-    let a = start-of (d .before) .args in
-    let l = d .before .loop in
-    take-ready (a .owners .now) (a .offsets .now) (a .targets .now) (a .alpha) (a .within) (a .set) (begin (d .before)) (given (d .before)) (l .head)
-    (l .work) (l .tail) (l .looks) (l .inv) (d .loop-test .taken)
-    (sized (d .before) .set-words .result) (sized (d .before) .set-words .ensures)
+    let P = c .before .before .before .before .before in
+    let b = begun (head P) in
+    let a = start-of b .args in
+    let l = head P .loop in
+    take-ready (a .owners .now) (a .offsets .now) (a .targets .now) (a .alpha) (a .within) (a .set)
+    (b .begin-layers .last .0) (given b) (l .this) (l .next) (l .far) (l .looks) (l .work) (l .inv .going)
+    (sized b .set-words .result) (size (head P)) (P .before .before .if1 .taken) (P .pop .result) (P .pop .last .0)
+    (P .pop .ensures)
 
-add-head : tie.Need-add-head Inv-loop μ-loop
-add-head c = omega (arith, fits (turn c), long (turn c .before), start-of (turn c .before) .good)
+add-if2 : tie.Need-add-if2 Inv-loop μ-loop
+add-if2 c =
+    let e = c .before .before in
+    let d = head (popped e) in
+    omega (arith, fits d, size d, long d, going e .long, d .loop .inv .going .long, start-of (begun d) .good)
+
+mul-if2 : tie.Need-mul-if2 Inv-loop μ-loop
+mul-if2 c =
+    let e = c .before .before in
+    let d = head (popped e) in
+    omega (arith, fits d, size d, long d, going e .long, d .loop .inv .going .long, start-of (begun d) .good)
+
+slice-read-if2 : tie.Need-slice-read-if2 Inv-loop μ-loop
+slice-read-if2 c =
+    let e = c .before .before .before in
+    let d = head (popped e) in
+    omega (arith, fits d, size d, long d, going e .long, d .loop .inv .going .long, start-of (begun d) .good)
+
+add-far : tie.Need-add-far Inv-loop μ-loop
+add-far c =
+    let e = c .before .before .before .before in
+    let d = head (popped e) in
+    let a = start-of (begun d) .args in
+    omega (
+      arith,
+      d .loop .inv .deep,
+      count-le (length (a .owners .now)) (takenAt (length (a .owners .now)) (length (a .targets .now)) (a .set) (d .loop .this)
+          (d .loop .next) (d .loop .work)),
+      given (begun d) .edges .few-vertices,
+    )
 
 loop-less : tie.Need-loop-less Inv-loop μ-loop
 loop-less c =
-    let d = turn c in
-    let a = start-of (d .before) .args in
-    let l = d .before .loop in
-    omega (
-      arith,
-      d .loop-test .taken,
-      tail-few (a .owners .now) (a .offsets .now) (a .targets .now) (a .alpha) (a .within) (a .set) (begin (d .before)) (given (d .before)) (l .head)
-          (l .work) (l .tail) (l .looks) (l .inv),
-    )
+    let e = c .before .before .before .before in
+    let P = popped e in
+    let b = begun (head P) in
+    let a = start-of b .args in
+    let l = head P .loop in
+    let n = length (a .owners .now) in
+    let m = length (a .targets .now) in
+    let same-count =
+    ap (count n)
+    (turned (a .owners .now) (a .offsets .now) (a .targets .now) (a .alpha) (a .within) (a .set) (b .begin-layers .last .0)
+    (given b) (l .this) (l .next) (l .far)
+    _ (e .take .last .1 .1 .1 .1 .0) (going e)
+    (ap (λ (k : ℕ). getD (e .take .last .1 .1 .1 .1 .0) (l .this + k) 0) (sym (size (head P))) ∙ c .if2 .taken)) in
+    omega (arith, grows e, count-le n (takenAt n m (a .set) (l .this) (l .next) (e .take .last .1 .1 .1 .1 .0)))
 
 loop-again : tie.Need-loop-again Inv-loop μ-loop
 loop-again c =
-    let d = turn c in
-    let t = c .before .before in
-    let a = start-of (d .before) .args in
-    let l = d .before .loop in
-    running-more (a .owners .now) (a .offsets .now) (a .targets .now) (a .alpha) (a .within) (a .set) (begin (d .before)) (given (d .before))
-    (l .head) (l .work) (l .tail) (l .looks) (l .inv) (d .loop-test .taken)
-    _ (t .take .result) (t .take .ensures)
+    let e = c .before .before .before .before in
+    let P = popped e in
+    let b = begun (head P) in
+    let a = start-of b .args in
+    let l = head P .loop in
+    running-turn (a .owners .now) (a .offsets .now) (a .targets .now) (a .alpha) (a .within) (a .set) (b .begin-layers .last .0)
+    (given b) (l .this) (l .next)
+    (l .far) _ (e .take .last .1 .1 .1 .1 .0) (going e) (omega (arith, grows e, l .inv .deep))
+    (ap (λ (k : ℕ). getD (e .take .last .1 .1 .1 .1 .0) (l .this + k) 0) (sym (size (head P))) ∙ c .if2 .taken)
+
+loop-less-2 : tie.Need-loop-less-2 Inv-loop μ-loop
+loop-less-2 c =
+    let e = c .before .before .before .before in
+    let P = popped e in
+    let b = begun (head P) in
+    let a = start-of b .args in
+    let l = head P .loop in
+    omega (
+      arith,
+      grows e,
+      count-le (length (a .owners .now)) (takenAt (length (a .owners .now)) (length (a .targets .now))
+          (a .set) (l .this) (l .next) (e .take .last .1 .1 .1 .1 .0)),
+    )
+
+loop-again-2 : tie.Need-loop-again-2 Inv-loop μ-loop
+loop-again-2 c =
+    let e = c .before .before .before .before in
+    let P = popped e in
+    let b = begun (head P) in
+    let a = start-of b .args in
+    let l = head P .loop in
+    running-on (a .owners .now) (a .offsets .now) (a .targets .now) (a .alpha) (a .within) (a .set) (b .begin-layers .last .0)
+    (given b) (l .this) (l .next)
+    (l .far) _ (e .take .last .1 .1 .1 .1 .0) (going e) (omega (arith, grows e, l .inv .deep))
+    (λ z. c .if2 .left (ap (λ (k : ℕ). getD (e .take .last .1 .1 .1 .1 .0) (l .this + k) 0) (size (head P)) ∙ z))
 
 same-length : tie.Need-same-length Inv-loop μ-loop
-same-length c = long (c .before)
+same-length c = long (c .before .before)
 
 returns : tie.Need-returns Inv-loop μ-loop
 returns c priorities ok =
-    let d = c .before in
-    let g = start-of d in
-    let a = g .args in
+    let d = c .before .before in
+    let b = begun d in
+    let a = start-of b .args in
     let l = d .loop in
-    running-all (a .owners .now) (a .offsets .now) (a .targets .now) (a .alpha) (a .within) (a .set) (a .work .now) (g .pre) (l .head) (l .work)
-    (l .tail) (l .looks)
-    (running-moved (a .owners .now) (a .offsets .now) (a .targets .now) (a .alpha) (a .within) (a .set)
-    (begin d) (a .work .now) (l .head) (l .work) (l .tail) (l .looks) (same-back (same d))
-    (kept-then (kept d) (l .inv .kept)) (l .inv))
-    (c .loop-test .left) priorities ok
+    let none =
+    marks-read (a .owners .now) (a .offsets .now) (a .targets .now) (a .alpha) (a .within) (a .set)
+    (b .begin-layers .last .0) (given b) (l .this) (l .next) (l .far) (l .looks) (l .work) (l .inv .going) ∙
+    ap (λ (k : ℕ). getD (l .work) (l .this + k) 0) (sym (size d)) ∙
+    c .if1 .left in
+    attracted-moved (same b)
+    (running-all (a .owners .now) (a .offsets .now) (a .targets .now) (a .alpha) (a .within) (a .set)
+    (b .begin-layers .last .0) (given b) (l .this) (l .next) (l .far) (l .looks) (l .work) (l .inv .going)
+    (unmarked-empty (layerAt (length (a .owners .now)) (l .this) (l .work)) (l .inv .going .layer) none) (l .inv .last none)
+    priorities ok)
 
 pub attract-spec : {M : Type 1} → statement M
 attract-spec =
@@ -261,15 +529,26 @@ attract-spec =
     Inv-loop
     μ-loop
     set-words-requires
-    add-queue
-    add-queue-2
-    add-queue-3
+    add-first
+    add-first-2
+    add-first-3
+    add-first-4
+    add-first-5
     initialize-attractor-counters-requires
-    fill-queue-requires
+    begin-layers-requires
+    add-next
+    add-next-2
     loop-holds
-    add-w
-    mul-w
-    slice-read-w
+    add-if1
+    mul-if1
+    slice-read-if1
+    add-pop
+    add-pop-2
+    mul-pop
+    sub-pop
+    part-pop-start
+    part-pop-end
+    pop-requires
     add-looks
     mul-looks
     slice-read-looks
@@ -278,8 +557,13 @@ attract-spec =
     sub-looks
     add-looks-2
     take-requires
-    add-head
+    add-if2
+    mul-if2
+    slice-read-if2
+    add-far
     loop-less
     loop-again
+    loop-less-2
+    loop-again-2
     same-length
     returns)

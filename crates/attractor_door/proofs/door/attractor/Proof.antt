@@ -10,7 +10,7 @@ use Rattle.parity_game.specs.Laws.{accepted-sound}
 use Rattle.parity_game.specs.Said.{is}
 use Rattle.parity_game.proofs.Matched.{went-on, refusal-not-zero}
 use Rattle.rules.specs.Attracts.{Lent, attractorChecks}
-use Rattle.attractor_door.specs.Door.{Ran}
+use Rattle.attractor_run.specs.Work.{Ran}
 use Rattle.attractor_door.specs.Answered.{Passed, numbered-checks, checks-passed, run-ready, attracts-refused, attracts-answered}
 use Rattle.area.specs.Lent.{work-cleared}
 use Rattle.attractor_door.proofs.door.attractor.Statement.{statement}
@@ -27,10 +27,10 @@ tables c =
     }
 
 abbrev lent : tie.Start → Lent
-lent c = record { result = c .args .result .now; strategy = c .args .strategy .now; work = c .args .work .now }
+lent c = record { result = c .args .result .now; strategy = c .args .strategy .now; distances = c .args .distances .now; work = c .args .work .now }
 
 abbrev at1 : tie.After-check-all → tie.Start
-at1 c = c .before .before .before .before .before .before .before .before .before .before
+at1 c = c .before .before .before .before .before .before .before .before .before .before .before
 
 abbrev at2 : tie.Else1 → tie.Start
 at2 c = at1 (c .before .before)
@@ -46,11 +46,11 @@ no-refusal c =
 passed :
     (c : tie.Else1) →
     let g = at2 c in
-    Passed (tables g) (g .args .within .now) (g .args .target .now) (length (g .args .result .now)) (length (g .args .strategy .now))
+    Passed (tables g) (g .args .within .now) (g .args .target .now) (length (g .args .result .now)) (length (g .args .strategy .now)) (length (g .args .distances .now))
     (length (g .args .work .now))
 passed c =
     let g = at2 c in
-    checks-passed (tables g) (g .args .within .now) (g .args .target .now) (length (g .args .result .now)) (length (g .args .strategy .now))
+    checks-passed (tables g) (g .args .within .now) (g .args .target .now) (length (g .args .result .now)) (length (g .args .strategy .now)) (length (g .args .distances .now))
     (length (g .args .work .now)) (no-refusal c)
 
 check-all-requires : tie.Need-check-all-requires
@@ -81,16 +81,16 @@ part-run-start c = search needs
 
 part-run-end : tie.Need-part-run-end
 part-run-end c =
-    let w = c .before .before .before in
+    let w = c .before .before .before .before in
     omega (arith, passed (w .before) .sizes .work-size, w .work-words .ensures)
 
 run-requires : tie.Need-run-requires
 run-requires c κs =
-    let d = c .before .before .before in
+    let d = c .before .before .before .before in
     let w = d .before in
     let g = at2 (w .before) in
     let a = g .args in
-    run-ready (tables g) (d .side .result) (w .work-words .result) (a .within .now) (a .target .now) (a .result .now) (a .strategy .now) (a .work .now)
+    run-ready (tables g) (d .side .result) (w .work-words .result) (a .within .now) (a .target .now) (a .result .now) (a .strategy .now) (a .distances .now) (a .work .now)
     (d .side .ensures .1) (w .work-words .ensures) (passed (w .before))
 
 same-length : tie.Need-same-length
@@ -102,21 +102,24 @@ same-length-2 c = search needs
 same-length-3 : tie.Need-same-length-3
 same-length-3 c = search needs
 
+same-length-4 : tie.Need-same-length-4
+same-length-4 c = search needs
+
 returns-2 : tie.Need-returns-2
 returns-2 c =
-    let r = c .before .before .before .before .before .before in
-    let d = r .before .before .before .before in
+    let r = c .before .before .before .before .before .before .before .before in
+    let d = r .before .before .before .before .before in
     let w = d .before in
     let e = w .before in
     let g = at2 e in
     let a = g .args in
     attracts-answered (tables g) (is (a .player)) (a .within .now) (a .target .now) (lent g)
-    (record { result = _; strategy = _; work = _ })
+    (record { result = _; strategy = _; distances = _; work = _ })
     (r .run .result)
     (no-refusal e)
     (subst
     (λ (p : Player). Ran (tables g) p (a .within .now) (a .target .now) (r .run .last .1 .1 .1 .1 .1 .1 .0)
-    (r .run .last .1 .1 .1 .1 .1 .1 .1 .0) (r .run .result))
+    (r .run .last .1 .1 .1 .1 .1 .1 .1 .0) (r .run .last .1 .1 .1 .1 .1 .1 .1 .1 .0) (r .run .result))
     (d .side .ensures .0)
     (r .run .ensures .1 (a .priorities .now) (passed e .accepted)))
     (work-cleared (tables g) (w .work-words .result) (a .work .now) _ (w .work-words .ensures) (passed e .sizes .work-size) (r .run .ensures .0))
@@ -137,4 +140,5 @@ attractor-spec =
     same-length
     same-length-2
     same-length-3
+    same-length-4
     returns-2)

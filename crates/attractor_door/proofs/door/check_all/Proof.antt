@@ -38,20 +38,20 @@ past2 c = past1 (c .before .before .before)
 abbrev sizes : tie.Start → Verdict
 sizes c =
     sizeChecks (vertices (tables c)) (edgesIn (tables c)) (length (c .args .within .now)) (length (c .args .target .now)) (c .args .result)
-    (c .args .strategy) (c .args .work)
+    (c .args .strategy) (c .args .distances) (c .args .work)
 
 abbrev bits : tie.Start → Verdict
 bits c = check12 (vertices (tables c)) (c .args .within .now) (c .args .target .now)
 
 abbrev whole : tie.Start → Verdict
-whole c = checksBy (tables c) (c .args .within .now) (c .args .target .now) (c .args .result) (c .args .strategy) (c .args .work)
+whole c = checksBy (tables c) (c .args .within .now) (c .args .target .now) (c .args .result) (c .args .strategy) (c .args .distances) (c .args .work)
 
 in-order : (c : tie.Start) → tableChecks (tables c) then (sizes c then bits c) ≡ whole c
 in-order c =
     ap
     (λ (v : Verdict). tableChecks (tables c) then v)
     (then-assoc
-    (check9 (vertices (tables c)) (length (c .args .within .now) ∷ length (c .args .target .now) ∷ c .args .result ∷ []) (c .args .strategy ∷ []))
+    (check9 (vertices (tables c)) (length (c .args .within .now) ∷ length (c .args .target .now) ∷ c .args .result ∷ []) (c .args .strategy ∷ c .args .distances ∷ []))
     (check10 (vertices (tables c)) (edgesIn (tables c)) (c .args .work))
     (bits c))
 
@@ -116,7 +116,7 @@ check-bits-requires c κs =
     let g = past2 c in
     let right =
     sizes-right (vertices (tables g)) (edgesIn (tables g)) (length (g .args .within .now)) (length (g .args .target .now)) (g .args .result)
-    (g .args .strategy) (g .args .work) (none2 c) in
+    (g .args .strategy) (g .args .distances) (g .args .work) (none2 c) in
     (right .within-size, right .target-size, sound (c .before .before .before) .few-vertices)
 
 returns-3 : tie.Need-returns-3

@@ -4,7 +4,7 @@ use native.Mathlib.Omega.{arith}
 use borrow.Author.Needs.{needs}
 use Rattle.rules.specs.Outcome.{Verdict, outcome, answered}
 use Rattle.rules.specs.Tables.{words}
-use Rattle.attractor_door.specs.DoorLaws.{size-within, size-target, size-result, size-strategy, size-work, size-right}
+use Rattle.attractor_door.specs.DoorLaws.{size-within, size-target, size-result, size-strategy, size-distances, size-work, size-right}
 use Rattle.attractor_door.proofs.door.check_sizes.Statement.{statement}
 use Rattle.attractor_door.proofs.door.check_sizes.Tie as tie
 
@@ -28,20 +28,20 @@ set-words-requires c κs = search needs
 returns : tie.Need-returns
 returns c =
     let a = c .before .before .args in
-    out (size-within (a .n) (a .m) (a .within) (a .target) (a .result) (a .strategy) (a .work)
+    out (size-within (a .n) (a .m) (a .within) (a .target) (a .result) (a .strategy) (a .distances) (a .work)
     (λ e. c .if1 .taken (e ∙ sym (c .before .set-words .ensures))))
 
 returns-2 : tie.Need-returns-2
 returns-2 c =
     let a = c .before .before .before .args in
-    out (size-target (a .n) (a .m) (a .within) (a .target) (a .result) (a .strategy) (a .work)
+    out (size-target (a .n) (a .m) (a .within) (a .target) (a .result) (a .strategy) (a .distances) (a .work)
     (one (c .before)) (λ e. c .if2 .taken (e ∙ sym (c .before .before .set-words .ensures))))
 
 returns-3 : tie.Need-returns-3
 returns-3 c =
     let a = c .before .before .before .before .args in
     out
-    (size-result (a .n) (a .m) (a .within) (a .target) (a .result) (a .strategy) (a .work)
+    (size-result (a .n) (a .m) (a .within) (a .target) (a .result) (a .strategy) (a .distances) (a .work)
     (one (c .before .before)) (two (c .before))
     (λ e. c .if3 .taken (e ∙ sym (c .before .before .before .set-words .ensures))))
 
@@ -49,31 +49,38 @@ returns-4 : tie.Need-returns-4
 returns-4 c =
     let d = c .before in
     let a = d .before .before .before .before .args in
-    out (size-strategy (a .n) (a .m) (a .within) (a .target) (a .result) (a .strategy) (a .work)
+    out (size-strategy (a .n) (a .m) (a .within) (a .target) (a .result) (a .strategy) (a .distances) (a .work)
     (one (d .before .before)) (two (d .before)) (three d) (c .if4 .taken))
+
+returns-5 : tie.Need-returns-5
+returns-5 c =
+    let d = c .before .before in
+    let a = d .before .before .before .before .args in
+    out (size-distances (a .n) (a .m) (a .within) (a .target) (a .result) (a .strategy) (a .distances) (a .work)
+    (one (d .before .before)) (two (d .before)) (three d) (c .before .if4 .left) (c .if5 .taken))
 
 work-words-requires : tie.Need-work-words-requires
 work-words-requires c κs = search needs
 
-returns-5 : tie.Need-returns-5
-returns-5 c =
-    let w = c .before in
-    let d = w .before .before in
-    let a = d .before .before .before .before .args in
-    out
-    (size-work (a .n) (a .m) (a .within) (a .target) (a .result) (a .strategy) (a .work)
-    (one (d .before .before)) (two (d .before)) (three d) (w .before .if4 .left)
-    (omega (arith, c .if5 .taken, w .work-words .ensures)))
-
 returns-6 : tie.Need-returns-6
 returns-6 c =
     let w = c .before in
-    let d = w .before .before in
+    let d = w .before .before .before in
     let a = d .before .before .before .before .args in
     out
-    (size-right (a .n) (a .m) (a .within) (a .target) (a .result) (a .strategy) (a .work)
-    (one (d .before .before)) (two (d .before)) (three d) (w .before .if4 .left)
-    (omega (arith, c .if5 .left, w .work-words .ensures)))
+    (size-work (a .n) (a .m) (a .within) (a .target) (a .result) (a .strategy) (a .distances) (a .work)
+    (one (d .before .before)) (two (d .before)) (three d) (w .before .before .if4 .left) (w .before .if5 .left)
+    (omega (arith, c .if6 .taken, w .work-words .ensures)))
+
+returns-7 : tie.Need-returns-7
+returns-7 c =
+    let w = c .before in
+    let d = w .before .before .before in
+    let a = d .before .before .before .before .args in
+    out
+    (size-right (a .n) (a .m) (a .within) (a .target) (a .result) (a .strategy) (a .distances) (a .work)
+    (one (d .before .before)) (two (d .before)) (three d) (w .before .before .if4 .left) (w .before .if5 .left)
+    (omega (arith, c .if6 .left, w .work-words .ensures)))
 
 pub check-sizes-spec : {M : Type 1} → statement M
 check-sizes-spec =
@@ -84,6 +91,7 @@ check-sizes-spec =
     returns-2
     returns-3
     returns-4
-    work-words-requires
     returns-5
-    returns-6)
+    work-words-requires
+    returns-6
+    returns-7)

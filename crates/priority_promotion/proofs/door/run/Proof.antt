@@ -9,8 +9,8 @@ use Rattle.theory.specs.Tables.{accepted-sound}
 use Rattle.area.specs.Lent.{words-few}
 use Rattle.sets.specs.Laws.{cleared-all}
 use Rattle.solver.specs.Outputs.{Found, found-writable, found-finished}
-use Rattle.promotion_region.specs.Layout.{evenAt}
-use Rattle.priority_promotion.specs.Running.{wonIn, run-preparable, run-beginnable, run-reached, run-over, run-rounds, run-found}
+use Rattle.promotion_tables.specs.Layout.{evenAt}
+use Rattle.priority_promotion.specs.Running.{wonIn, entriesIn, run-preparable, run-beginnable, run-reached, run-over, run-rounds, run-found}
 use borrow.Author.Needs.{needs}
 use Rattle.priority_promotion.proofs.door.run.Statement.{statement}
 use Rattle.priority_promotion.proofs.door.run.Tie as tie
@@ -41,8 +41,11 @@ prepared d = begun d .before .before .before .before
 abbrev sized : tie.After-struct-known → tie.After-set-words
 sized d = prepared d .before .before
 
+abbrev start-at : tie.After-set-words → tie.Start
+start-at c = c .before .before .before .before .before .before .before .before .before
+
 abbrev start : tie.After-struct-known → tie.Start
-start d = sized d .before .before .before .before .before .before .before .before .before
+start d = start-at (sized d)
 
 -- the same in a run that solved all: where the outputs are written, and where the rounds have ended
 abbrev written : tie.After-slice-known12 → tie.After-write-out
@@ -64,7 +67,7 @@ found :
     ended d .solve .result .unsolved ≡ 0 →
     let g = start d in
     let s = sized d .set-words .result in
-    Found (tables g) (wonIn (tables g) (g .args .budget)) s
+    Found (tables g) (wonIn (tables g) (g .args .budget)) (entriesIn (tables g) (g .args .budget)) s
     (evenAt (length (g .args .owners .now)) (length (g .args .targets .now)) s) (left d)
 found d z = run-found (ended d .solve .ensures) z
 
@@ -84,7 +87,16 @@ add-entries-4 : tie.Need-add-entries-4
 add-entries-4 c = search needs
 
 add-unsolved : tie.Need-add-unsolved
-add-unsolved c = omega (arith, few (c .before .before .before .before .before .before .before .before .before))
+add-unsolved c = omega (arith, few (start-at c))
+
+add-unsolved-2 : tie.Need-add-unsolved-2
+add-unsolved-2 c = omega (arith, few (start-at c), c .set-words .ensures)
+
+mul-unsolved : tie.Need-mul-unsolved
+mul-unsolved c = omega (arith, few (start-at c), c .set-words .ensures)
+
+add-unsolved-3 : tie.Need-add-unsolved-3
+add-unsolved-3 c = omega (arith, few (start-at c), c .set-words .ensures)
 
 prepare-requires : tie.Need-prepare-requires
 prepare-requires c κs =
@@ -188,6 +200,9 @@ run-spec =
     add-entries-3
     add-entries-4
     add-unsolved
+    add-unsolved-2
+    mul-unsolved
+    add-unsolved-3
     prepare-requires
     begin-requires
     solve-requires

@@ -17,7 +17,7 @@ use Rattle.area.specs.Lent.{work-cleared}
 use Rattle.lent_checks.specs.Checks.{numbered-checks, Passed, checks-passed}
 use Rattle.solver.specs.declared.ran.Ran.{Ran}
 use Rattle.solver.specs.Running.{outputsOf, Runs, ranOutcome, run-ready, solves-refused, solves-ran}
-use Rattle.priority_promotion.specs.Running.{wonIn}
+use Rattle.priority_promotion.specs.Running.{wonIn, entriesIn}
 use borrow.Author.Needs.{needs}
 use Rattle.priority_promotion.proofs.door.solve_priority_promotion.Statement.{statement}
 use Rattle.priority_promotion.proofs.door.solve_priority_promotion.Tie as tie
@@ -30,12 +30,15 @@ abbrev lent : tie.Start → Lent
 lent g =
     let a = g .args in record { even = a .even .now; odd = a .odd .now; strategy = a .strategy .now; work = a .work .now }
 
--- the rounds needed, and the sets that they win
+-- the rounds needed, the sets that they win and the entries that they choose
 abbrev needed : tie.Start → ℕ
 needed g = roundsNeeded (gameOf (tables g)) (g .args .budget)
 
 abbrev won : tie.Start → Player → Set
 won g = wonIn (tables g) (g .args .budget)
+
+abbrev entries : tie.Start → ℕ → ℕ
+entries g = entriesIn (tables g) (g .args .budget)
 
 -- where the function begins
 abbrev start : tie.Else1 → tie.Start
@@ -84,14 +87,14 @@ solved :
     (r : tie.After-run) {x : Ran} →
     r .run .result ≡ x →
     let g = began r in
-    Solves (g .args .budget) (tables g) (needed g) (won g) (lent g) (after r)
+    Solves (g .args .budget) (tables g) (needed g) (won g) (entries g) (lent g) (after r)
     (ranOutcome (g .args .budget) x)
 solved r {x} e =
     let g = began r in
-    solves-ran (g .args .budget) (tables g) (needed g) (won g) (lent g) (after r) x
+    solves-ran (g .args .budget) (tables g) (needed g) (won g) (entries g) (lent g) (after r) x
     (no-refusal (checked r))
     (subst
-    (Runs (g .args .budget) (tables g) (needed g) (won g) (outputsOf (lent g)) (outputsOf (after r)))
+    (Runs (g .args .budget) (tables g) (needed g) (won g) (entries g) (outputsOf (lent g)) (outputsOf (after r)))
     e
     (r .run .ensures .1))
     (work-cleared (tables g) (words r) (g .args .work .now) (r .run .last .1 .1 .1 .1 .1 .1 .1 .1 .0)
@@ -106,7 +109,7 @@ number-requires c κs = search needs
 returns : tie.Need-returns
 returns c =
     let g = c .before .before .before .before .before .before .before .before .before .before .before in
-    solves-refused (g .args .budget) (tables g) (needed g) (won g) (lent g) _
+    solves-refused (g .args .budget) (tables g) (needed g) (won g) (entries g) (lent g) _
     (c .before .before .check-all .ensures) (refusal-not-zero (c .before .before .check-all .result) (c .if1 .taken) (c .before .number .ensures))
 
 work-words-requires : tie.Need-work-words-requires

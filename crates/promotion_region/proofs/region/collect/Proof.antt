@@ -7,7 +7,7 @@ use Rattle.walk.specs.declared.members.Members.{Members}
 use Rattle.walk.specs.Walk.{left, Walks}
 use Rattle.area.specs.Area.{wordsAt}
 use Rattle.area.specs.Walked.{Walkable, WalkedTo, walked-none, walked-few, walked-all, walked-small, walked-shorter, walked-more}
-use Rattle.promotion_region.specs.Regions.{regionAt}
+use Rattle.promotion_tables.specs.Regions.{regionAt}
 use Rattle.promotion_region.specs.Sorting.{Bare, Apart, pairAt, Sorts, collect-walkable, sort-ready, sort-turn}
 use borrow.Author.Needs.{needs}
 use Rattle.promotion_region.proofs.region.collect.Statement.{statement}

@@ -1,5 +1,5 @@
 -- `query` meets its contract: each call finds what it asks for in what the calls before it left.
-use Rattle.promotion_region.specs.Query.{collect-ready, attract-ready, settle-ready, queried}
+use Rattle.promotion_region.specs.Query.{collect-ready, attract-ready, claim-ready, queried}
 use borrow.Author.Needs.{needs}
 use Rattle.promotion_region.proofs.region.query.Statement.{statement}
 use Rattle.promotion_region.proofs.region.query.Tie as tie
@@ -8,20 +8,29 @@ use Rattle.promotion_region.proofs.region.query.Tie as tie
 abbrev first : tie.After-clear → tie.Start
 first c = c .before .before .before .before .before .before
 
-add-entries : tie.Need-add-entries
-add-entries c = search needs
+add-layers : tie.Need-add-layers
+add-layers c = search needs
 
-add-entries-2 : tie.Need-add-entries-2
-add-entries-2 c = search needs
+add-layers-2 : tie.Need-add-layers-2
+add-layers-2 c = search needs
 
-add-entries-3 : tie.Need-add-entries-3
-add-entries-3 c = search needs
+add-layers-3 : tie.Need-add-layers-3
+add-layers-3 c = search needs
 
-add-entries-4 : tie.Need-add-entries-4
-add-entries-4 c = search needs
+add-layers-4 : tie.Need-add-layers-4
+add-layers-4 c = search needs
+
+add-layers-5 : tie.Need-add-layers-5
+add-layers-5 c = search needs
 
 add-unsolved : tie.Need-add-unsolved
 add-unsolved c = search needs
+
+mul-unsolved : tie.Need-mul-unsolved
+mul-unsolved c = search needs
+
+add-unsolved-2 : tie.Need-add-unsolved-2
+add-unsolved-2 c = search needs
 
 add-lower : tie.Need-add-lower
 add-lower c = search needs
@@ -61,14 +70,14 @@ attract-requires c κs =
     attract-ready (a .owners .now) (g .pre .priorities) (g .pre .accepted) (a .p) (g .pre .ready) (g .pre .small)
     (d .clear .ensures) (e .collect .ensures)
 
-assign-missing-strategies-requires : tie.Need-assign-missing-strategies-requires
-assign-missing-strategies-requires c κs =
+claim-requires : tie.Need-claim-requires
+claim-requires c κs =
     let f = c .before .before .before in
     let e = f .before .before .before .before in
     let d = e .before .before .before .before in
     let g = first d in
     let a = g .args in
-    settle-ready (a .owners .now) (g .pre .priorities) (g .pre .accepted) (a .p) (g .pre .ready) (g .pre .small)
+    claim-ready (a .owners .now) (g .pre .priorities) (g .pre .accepted) (a .p) (g .pre .ready) (g .pre .small)
     (d .clear .ensures) (e .collect .ensures) (f .attract .ensures (g .pre .priorities) (g .pre .accepted))
 
 same-length : tie.Need-same-length
@@ -83,17 +92,20 @@ returns c priorities ok =
     let g = first d in
     let a = g .args in
     queried (a .owners .now) priorities ok (a .p) (g .pre .ready) (g .pre .small)
-    (d .clear .ensures) (e .collect .ensures) (f .attract .ensures priorities ok) (h .assign-missing-strategies .ensures)
+    (d .clear .ensures) (e .collect .ensures) (f .attract .ensures priorities ok) (h .claim .ensures)
 
 pub query-spec : {M : Type 1} → statement M
 query-spec =
     tie.close
     (tie.spec
-    add-entries
-    add-entries-2
-    add-entries-3
-    add-entries-4
+    add-layers
+    add-layers-2
+    add-layers-3
+    add-layers-4
+    add-layers-5
     add-unsolved
+    mul-unsolved
+    add-unsolved-2
     add-lower
     add-held
     mul-regions
@@ -103,6 +115,6 @@ query-spec =
     clear-requires
     collect-requires
     attract-requires
-    assign-missing-strategies-requires
+    claim-requires
     same-length
     returns)

@@ -38,6 +38,15 @@ add-lower c = search needs
 add-lower-2 : tie.Need-add-lower-2 Inv-loop μ-loop
 add-lower-2 c = search needs
 
+mul-lower : tie.Need-mul-lower Inv-loop μ-loop
+mul-lower c = search needs
+
+add-lower-3 : tie.Need-add-lower-3 Inv-loop μ-loop
+add-lower-3 c = search needs
+
+add-lower-4 : tie.Need-add-lower-4 Inv-loop μ-loop
+add-lower-4 c = search needs
+
 add-regions : tie.Need-add-regions Inv-loop μ-loop
 add-regions c = search needs
 
@@ -129,6 +138,9 @@ begin-spec =
     add-entries-4
     add-lower
     add-lower-2
+    mul-lower
+    add-lower-3
+    add-lower-4
     add-regions
     mul-regions
     add-regions-2

@@ -50,7 +50,7 @@ use denote.Triple.Walked.{says, needs, Stays, stay-none, stay-none-slice, stay-s
 use denote.Exit.{yes}
 use borrow.Rule.Slice.Lend.{keptF, sl-relend, sl-relent-backˡ}
 use Rattle.promotion_rounds.specs.declared.round.State.{State}
-use Rattle.promotion_region.specs.Layout.{regionsAt}
+use Rattle.promotion_tables.specs.Layout.{regionsAt}
 use Rattle.promotion_rounds.specs.Rounds.{RoundReady, RoundDone}
 use Rattle.promotion_rounds.specs.Solve.{Reached, reached-ready, reached-more}
 use Rattle.promotion_rounds.proofs.Bare.{Bare, bared, valued}

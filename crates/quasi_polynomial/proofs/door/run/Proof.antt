@@ -54,7 +54,7 @@ few g =
 -- both sets stand in the work area
 fits :
     (g : tie.Start) →
-    allAt (tables g) + length (g .args .even .now) + length (g .args .even .now) ≤ length (g .args .work .now)
+    allAt (tables g) (length (g .args .even .now)) + length (g .args .even .now) + length (g .args .even .now) ≤ length (g .args .work .now)
 fits g = run-fits (g .pre)
 
 -- the work area stays as long
@@ -79,6 +79,15 @@ add-all-4 c = omega (arith, few (start c))
 
 add-all-5 : tie.Need-add-all-5
 add-all-5 c = omega (arith, few (start c))
+
+add-all-6 : tie.Need-add-all-6
+add-all-6 c = omega (arith, few (start c))
+
+mul-all : tie.Need-mul-all
+mul-all c = omega (arith, few (start c))
+
+add-all-7 : tie.Need-add-all-7
+add-all-7 c = omega (arith, few (start c))
 
 add-base : tie.Need-add-base
 add-base c = omega (arith, few (start c))
@@ -131,7 +140,7 @@ copy-from-requires c κs =
     let d = c .before .before .before .before .before in
     let g = whole d in
     let s = length (g .args .even .now) in
-    let base = allAt (tables g) + s in
+    let base = allAt (tables g) s + s in
     sym
     (ap length (part-is base s (d .difference-with .last .0)) ∙
     part-length base s (d .difference-with .last .0) (omega (arith, fits g, long d)))
@@ -158,8 +167,8 @@ copy-from-requires-2 c κs =
     let s = length (g .args .even .now) in
     g .pre .odd-size ∙
     sym
-    (ap length (part-is (allAt (tables g)) s (d .difference-with .last .0)) ∙
-    part-length (allAt (tables g)) s (d .difference-with .last .0) (omega (arith, fits g, long d)) ∙
+    (ap length (part-is (allAt (tables g) s) s (d .difference-with .last .0)) ∙
+    part-length (allAt (tables g) s) s (d .difference-with .last .0) (omega (arith, fits g, long d)) ∙
     g .pre .even-size)
 
 clear-requires : tie.Need-clear-requires
@@ -200,6 +209,9 @@ run-spec =
     add-all-3
     add-all-4
     add-all-5
+    add-all-6
+    mul-all
+    add-all-7
     add-base
     prepare-requires
     copy-with-requires

@@ -23,10 +23,13 @@ same-length-2 c = search needs
 same-length-3 : tie.Need-same-length-3
 same-length-3 c = search needs
 
+same-length-4 : tie.Need-same-length-4
+same-length-4 c = search needs
+
 returns : tie.Need-returns
 returns c =
-    let called = c .before .before .before .before .before .before .before .before .before in
-    let asked = called .before .before .before .before in
+    let called = c .before .before .before .before .before .before .before .before .before .before .before in
+    let asked = called .before .before .before .before .before in
     attracts-as (asked .from-index .ensures) (c .tell .ensures) (called .attractor .ensures)
 
 pub reckonbough-attractor-spec : {M : Type 1} → statement M
@@ -39,4 +42,5 @@ reckonbough-attractor-spec =
     same-length
     same-length-2
     same-length-3
+    same-length-4
     returns)

@@ -27,7 +27,7 @@ same-length-4 c = search needs
 returns : tie.Need-returns
 returns c =
     let called = c .before .before .before .before .before .before .before .before .before .before .before in
-    subst (Solves _ _ _ _ _ _) (c .tell .ensures) (called .solve-priority-promotion .ensures)
+    subst (Solves _ _ _ _ _ _ _) (c .tell .ensures) (called .solve-priority-promotion .ensures)
 
 pub reckonbough-priority-promotion-spec : {M : Type 1} → statement M
 reckonbough-priority-promotion-spec =

@@ -106,6 +106,9 @@ add-row-8 c = omega (arith, few (start c))
 add-base : tie.Need-add-base
 add-base c = omega (arith, few (start c))
 
+add-base-2 : tie.Need-add-base-2
+add-base-2 c = omega (arith, few (start c))
+
 mark-good-requires : tie.Need-mark-good-requires
 mark-good-requires c κs =
     let g = start (c .before) in
@@ -196,6 +199,7 @@ run-spec =
     add-row-7
     add-row-8
     add-base
+    add-base-2
     mark-good-requires
     place-requires
     add-attract

@@ -7,7 +7,7 @@ use lib.ListN.{length}
 use Rattle.rules.specs.Tables.{Tables, words, gameOf, tablesOf}
 use Rattle.rules.specs.Zielonka.{zielonka}
 use Rattle.theory.specs.Tables.{accepted-sound}
-use Rattle.area.specs.Area.{free}
+use Rattle.area.specs.Area.{layers, free}
 use Rattle.area.specs.Lent.{words-few}
 use Rattle.zielonka.specs.Ending.{Ends}
 use Rattle.zielonka.specs.Solving.{run-preparable, run-called, run-over-budget, run-calls, run-found}
@@ -18,12 +18,19 @@ use borrow.Author.Needs.{needs}
 use Rattle.zielonka.proofs.door.run.Statement.{statement}
 use Rattle.zielonka.proofs.door.run.Tie as tie
 
--- the tables, and where the first level stands
 abbrev tables : tie.Start → Tables
 tables g = tablesOf (g .args .owners .now) (g .args .priorities .now) (g .args .offsets .now) (g .args .targets .now)
 
-abbrev base : tie.Start → ℕ
-base g = free (length (g .args .owners .now)) (length (g .args .targets .now))
+-- the words of a set are known: where the function began, and where the first level stands
+abbrev began : tie.After-set-words → tie.Start
+began z = z .before .before .before .before .before .before .before .before .before
+
+abbrev base : tie.After-set-words → ℕ
+base z =
+    let a = began z .args in layers (length (a .owners .now)) (length (a .targets .now)) + 2 * (z .set-words .result + 1)
+
+first : (z : tie.After-set-words) → let a = began z .args in base z ≡ free (length (a .owners .now)) (length (a .targets .now))
+first z = omega (arith, z .set-words .ensures)
 
 -- there are few vertices, edges and words
 few :
@@ -42,7 +49,7 @@ abbrev sized : tie.After-zielonka-rec → tie.After-set-words
 sized r = prepared r .before .before
 
 abbrev start : tie.After-zielonka-rec → tie.Start
-start r = sized r .before .before .before .before .before .before .before .before .before
+start r = began (sized r)
 
 abbrev left : tie.After-zielonka-rec → List ℕ
 left r = r .zielonka-rec .last .1 .1 .1 .1 .0
@@ -53,7 +60,7 @@ kept-long r = r .zielonka-rec .kept .1 .1 .1 .1 .0 ∙ prepared r .prepare .ensu
 -- by what it gave
 abbrev EndsAs : tie.After-zielonka-rec → Ran → Type 0
 EndsAs r =
-    let g = start r in Ends (tables g) (base g) 0 (g .args .budget) (prepared r .prepare .last .1 .1 .1 .1 .0) (left r)
+    let g = start r in Ends (tables g) (base (sized r)) 0 (g .args .budget) (prepared r .prepare .last .1 .1 .1 .1 .0) (left r)
 
 ends : (r : tie.After-zielonka-rec) {x : Ran} → r .zielonka-rec .result ≡ x → EndsAs r x
 ends r e = subst (EndsAs r) e (r .zielonka-rec .ensures)
@@ -66,11 +73,13 @@ found :
     (d : tie.After-known-told) →
     let g = start (ended d) in
     let s = sized (ended d) .set-words .result in
-    Found (tables g) (zielonka (gameOf (tables g)) .won) s (base g + 2 * s) (left (ended d))
+    Found (tables g) (zielonka (gameOf (tables g)) .won) (zielonka (gameOf (tables g)) .entries) s
+    (base (sized (ended d)) + 2 * s)
+    (left (ended d))
 found d =
     let r = ended d in
     let g = start r in
-    run-found (tables g) (g .pre .accepted) (g .args .work .now) (g .pre .room) (prepared r .prepare .ensures)
+    run-found (tables g) (g .pre .accepted) (g .args .work .now) (g .pre .room) (first (sized r)) (prepared r .prepare .ensures)
     (ends r (d .before .ran .given .1)) (sized r .set-words .ensures)
 
 set-words-requires : tie.Need-set-words-requires
@@ -89,18 +98,29 @@ add-entries-4 : tie.Need-add-entries-4
 add-entries-4 c = search needs
 
 add-base : tie.Need-add-base
-add-base c = omega (arith, few (c .before .before .before .before .before .before .before .before .before))
+add-base c = omega (arith, few (began c))
+
+add-base-2 : tie.Need-add-base-2
+add-base-2 c = omega (arith, few (began c), c .set-words .ensures)
+
+mul-base : tie.Need-mul-base
+mul-base c = omega (arith, few (began c), c .set-words .ensures)
+
+add-base-3 : tie.Need-add-base-3
+add-base-3 c = omega (arith, few (began c), c .set-words .ensures)
 
 prepare-requires : tie.Need-prepare-requires
 prepare-requires c κs =
-    let g = c .before .before .before .before .before .before .before .before .before .before in
-    run-preparable (tables g) (g .pre .accepted) (g .args .work .now) (g .pre .room) (c .before .set-words .ensures)
+    let z = c .before in
+    let g = began z in
+    run-preparable (tables g) (g .pre .accepted) (g .args .work .now) (g .pre .room) (first z) (z .set-words .ensures)
 
 zielonka-rec-requires : tie.Need-zielonka-rec-requires
 zielonka-rec-requires c κs =
     let d = c .before .before .before in
-    let g = d .before .before .before .before .before .before .before .before .before .before .before in
-    run-called (tables g) (g .pre .accepted) (g .args .work .now) (g .pre .room) (d .prepare .ensures)
+    let z = d .before .before in
+    let g = began z in
+    run-called (tables g) (g .pre .accepted) (g .args .work .now) (g .pre .room) (first z) (d .prepare .ensures)
 
 enum-known-ran : tie.Need-enum-known-ran
 enum-known-ran c = search needs
@@ -121,7 +141,8 @@ returns c =
       cleared-all (g .args .work .now) (left r) (kept-long r) (c .before .before .clear .ensures),
       record {
         over =
-            run-over-budget (tables g) (g .pre .accepted) (g .args .work .now) (g .pre .room) (prepared r .prepare .ensures)
+            run-over-budget (tables g) (g .pre .accepted) (g .args .work .now) (g .pre .room) (first (sized r))
+            (prepared r .prepare .ensures)
             (ends r (c .before .before .before .before .enum-told .given .1));
         same = refl;
       },
@@ -163,7 +184,9 @@ returns-2 c =
     let done = ends r (d .before .ran .given .1) in (
       cleared-all (g .args .work .now) (left r) (kept-long r) (c .before .before .clear2 .ensures),
       found-finished (found d) (g .pre .strategy-size) (written .write-out .ensures)
-          (run-calls (tables g) (g .pre .accepted) (g .args .work .now) (g .pre .room) (prepared r .prepare .ensures) done)
+          (run-calls (tables g) (g .pre .accepted) (g .args .work .now) (g .pre .room) (first (sized r))
+          (prepared r .prepare .ensures)
+          done)
           (done .within),
     )
 
@@ -177,6 +200,9 @@ run-spec =
     add-entries-3
     add-entries-4
     add-base
+    add-base-2
+    mul-base
+    add-base-3
     prepare-requires
     zielonka-rec-requires
     enum-known-ran

@@ -36,6 +36,9 @@ calls g = zielonka (gameOf (tables g)) .calls
 abbrev won : tie.Start → Player → Set
 won g = zielonka (gameOf (tables g)) .won
 
+abbrev choice : tie.Start → ℕ → ℕ
+choice g = zielonka (gameOf (tables g)) .entries
+
 abbrev start : tie.Else1 → tie.Start
 start d = d .before .before .before .before .before .before .before .before .before .before .before
 
@@ -82,13 +85,13 @@ solved :
     r .run .result ≡ x →
     let g = began r in
     let a = g .args in
-    Solves (a .budget) (tables g) (calls g) (won g) (lent g) (after r) (ranOutcome (a .budget) x)
+    Solves (a .budget) (tables g) (calls g) (won g) (choice g) (lent g) (after r) (ranOutcome (a .budget) x)
 solved r {x} e =
     let g = began r in
     let a = g .args in
-    solves-ran (a .budget) (tables g) (calls g) (won g) (lent g) (after r) x
+    solves-ran (a .budget) (tables g) (calls g) (won g) (choice g) (lent g) (after r) x
     (no-refusal (sized r .before))
-    (subst (Runs (a .budget) (tables g) (calls g) (won g) (outputsOf (lent g)) (outputsOf (after r))) e
+    (subst (Runs (a .budget) (tables g) (calls g) (won g) (choice g) (outputsOf (lent g)) (outputsOf (after r))) e
     (r .run .ensures .1))
     (work-cleared (tables g) (words r) (a .work .now) (r .run .last .1 .1 .1 .1 .1 .1 .1 .1 .0)
     (sized r .work-words .ensures)
@@ -104,7 +107,7 @@ number-requires c κs = search needs
 returns : tie.Need-returns
 returns c =
     let g = c .before .before .before .before .before .before .before .before .before .before .before in
-    solves-refused (g .args .budget) (tables g) (calls g) (won g) (lent g) _
+    solves-refused (g .args .budget) (tables g) (calls g) (won g) (choice g) (lent g) _
     (c .before .before .check-all .ensures)
     (refusal-not-zero (c .before .before .check-all .result) (c .if1 .taken) (c .before .number .ensures))
 

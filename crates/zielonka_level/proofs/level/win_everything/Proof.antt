@@ -16,7 +16,7 @@ after-clear c = c .before .before .before
 abbrev after-won-at : tie.After-copy-with → tie.After-won-at
 after-won-at c = c .before .before
 
-abbrev after-copy : tie.After-extend-arbitrary → tie.After-copy-with
+abbrev after-copy : tie.After-extend-lowest → tie.After-copy-with
 after-copy c = c .before .before .before .before
 
 mul-clear : tie.Need-mul-clear
@@ -43,8 +43,8 @@ copy-with-requires c κs =
     won-parts (g .args .base) (parity (g .args .p)) (placed .won-at .ensures) (omega arith)
     (omega (arith, g .pre .high, cleared .clear .kept .0))
 
-extend-arbitrary-requires : tie.Need-extend-arbitrary-requires
-extend-arbitrary-requires c κs =
+extend-lowest-requires : tie.Need-extend-lowest-requires
+extend-lowest-requires c κs =
     let copied = c .before .before .before in
     let placed = after-won-at copied in
     let cleared = after-clear placed in
@@ -62,7 +62,7 @@ returns c =
     let cleared = after-clear placed in
     let g = start-of cleared in
     all-made (g .args .p) (g .pre) (placed .won-at .ensures) (cleared .clear .ensures) (copied .copy-with .ensures)
-    (extended .extend-arbitrary .ensures)
+    (extended .extend-lowest .ensures)
 
 pub win-everything-spec : {M : Type 1} → statement M
 win-everything-spec =
@@ -74,6 +74,6 @@ win-everything-spec =
     clear-requires
     won-at-requires
     copy-with-requires
-    extend-arbitrary-requires
+    extend-lowest-requires
     same-length
     returns)

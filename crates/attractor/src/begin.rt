@@ -1,0 +1,12 @@
+// The layers at first: the target is the one that is taken first, and none is found yet.
+use layer::marked::mark;
+ghost use Rattle.attractor.specs.Begun.{Beginnable, Begun};
+
+pub fn begin_layers(work: &mut [u64], first: usize, set: usize, s: usize)
+    requires { ⌜ Beginnable first set s (now work) ⌝ }
+    ensures { λ _. ⌜ Begun first set s (now (work .entry)) (now (work .exit)) ⌝ }
+{
+    sets::copy_with(work, first, set, s);
+    mark(&mut work[first..first + s + 1]);
+    sets::clear(work, first + s + 1, s + 1);
+}

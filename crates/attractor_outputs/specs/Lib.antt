@@ -1,0 +1,2 @@
+-- The strategy and the distances, entry by entry.
+pub mod Outputs

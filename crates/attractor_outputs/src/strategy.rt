@@ -1,0 +1,54 @@
+// The strategy, of the entries that the attractor left in the work area.
+ghost use mathlib.Core.Path.{_≡_};
+ghost use lib.ListN.{length};
+ghost use Rattle.rules.specs.Counting.{listed};
+ghost use Rattle.attractor_outputs.specs.Outputs.{wordOf, Entered, chosen, Enterable};
+
+// The entry of v: its own where v is an own vertex of the result outside the target, else none.
+fn strategy_entry(
+    owners: &[u8],
+    alpha: u8,
+    target: &[u64],
+    result: &[u64],
+    work: &[u64],
+    entries: usize,
+    v: usize,
+) -> u16
+    requires { ⌜ Entered (now owners) alpha (now target) (now result) (now work) entries v ⌝ }
+    ensures { λ r.
+        ⌜ r ≡ chosen (now (owners .entry)) alpha (now (target .entry)) (now (result .entry))
+        (wordOf (now (work .entry)) entries) v ⌝ }
+{
+    if !sets::contains(result, v) {
+        return 65535;
+    }
+    if sets::contains(target, v) {
+        return 65535;
+    }
+    if owners[v] != alpha {
+        return 65535;
+    }
+    work[entries + v] as u16
+}
+
+// Every entry of the strategy.
+pub fn write_strategy(
+    owners: &[u8],
+    alpha: u8,
+    target: &[u64],
+    result: &[u64],
+    work: &[u64],
+    entries: usize,
+    strategy: &mut [u16],
+)
+    requires { ⌜ Enterable (now owners) alpha (now target) (now result) (now work) entries (now strategy) ⌝ }
+    ensures { λ _.
+        ⌜ now (strategy .exit)
+        ≡ listed (length (now (owners .entry)))
+        (chosen (now (owners .entry)) alpha (now (target .entry)) (now (result .entry))
+        (wordOf (now (work .entry)) entries)) ⌝ }
+{
+    for v in 0..owners.len() {
+        strategy[v] = strategy_entry(owners, alpha, target, result, work, entries, v);
+    }
+}

@@ -1,0 +1,501 @@
+-- What the operations make of a layer: the laws that answer their contracts, and those that callers use.
+use mathlib.Core.Bool.{Bool, true, false, cond}
+use mathlib.Core.List.{List}
+use mathlib.Core.Logic.{_⊎_, inl, inr, ⊎-elim}
+use mathlib.Core.Path.{_≡_, refl, sym, ap, ap₂, _∙_}
+use Prim.Native.Nat.{ℕ, suc, _+_, _-_, _*_, _/_, _%_, _^_, _≤_, _<_}
+use native.Mathlib.Decide.{ℕ-discrete}
+use native.Mathlib.Nat.{zero-add}
+use native.Mathlib.Omega.{arith}
+use borrow.Author.Tests.{eq-eqb, ne-eqb}
+use lib.Bits.{bitOr}
+use lib.Dec.{eqb}
+use lib.ListN.{length, getD, take, set, length-set, length-take}
+use lib.Seq.{getD-set-same, getD-set-other}
+use Rattle.rules.specs.Words.{digit, bit, setOf}
+use Rattle.theory.specs.Basics.{lt-or-ge}
+use Rattle.sets.specs.Digits.{digit-lt, digit-zero, digits-tell}
+use Rattle.sets.specs.Laws.{bit-past, bit-take, bit-member, bit-other, bit-of-set, put-set}
+use Rattle.sets.specs.Single.{digit-insert, put-insert}
+use Rattle.layer.specs.Lowest.{others, lowestOf, lowest-digits, others-higher, lowest-small}
+use Rattle.layer.specs.Layer.{room, marks, inLayer, Lent, Layer, Marked, Addable, Added, Poppable, Popped}
+
+-- ---- members by their words
+
+pub layer-past : (xs : List ℕ) (u : ℕ) → 64 * room xs ≤ u → inLayer xs u ≡ false
+layer-past xs u h = bit-other (take (room xs) xs) u (bit-past (take (room xs) xs) u (omega (arith, length-take (room xs) xs)))
+
+pub layer-bit : (xs : List ℕ) (u : ℕ) → u < 64 * room xs → inLayer xs u ≡ setOf xs u
+unfolding setOf
+layer-bit xs u h = ap (λ (x : ℕ). eqb x 1) (bit-take (room xs) xs u h)
+
+-- a bit by its word
+set-word : (xs ys : List ℕ) (u : ℕ) → getD xs (u / 64) 0 ≡ getD ys (u / 64) 0 → setOf xs u ≡ setOf ys u
+unfolding setOf bit
+set-word xs ys u e = ap (λ (x : ℕ). eqb (digit x (u % 64)) 1) e
+
+-- a word of 0 has no bit
+bit-blank : (xs : List ℕ) (u : ℕ) → getD xs (u / 64) 0 ≡ 0 → bit xs u ≡ 0
+unfolding bit
+bit-blank xs u e = ap (λ (x : ℕ). digit x (u % 64)) e ∙ digit-zero (u % 64)
+
+digit-cases : (x k : ℕ) → (digit x k ≡ 0) ⊎ (digit x k ≡ 1)
+digit-cases x k = go (ℕ-discrete (digit x k) 0)
+  where
+    go : Dec (digit x k ≡ 0) → (digit x k ≡ 0) ⊎ (digit x k ≡ 1)
+    go (yes z) = inl z
+    go (no d) = inr (omega (arith, d, digit-lt x k))
+
+-- two layers whose words are alike but at the place of v, where a digit changes
+alike :
+    (xs ys : List ℕ) (v : ℕ) (t : Bool) →
+    length ys ≡ length xs →
+    v < 64 * room xs →
+    ((u : ℕ) → u < 64 * room xs → setOf ys u ≡ cond (eqb u v) t (setOf xs u)) →
+    (u : ℕ) → inLayer ys u ≡ cond (eqb u v) t (inLayer xs u)
+alike xs ys v t long small h u = ⊎-elim below past (lt-or-ge u (64 * room xs))
+  where
+    below : u < 64 * room xs → inLayer ys u ≡ cond (eqb u v) t (inLayer xs u)
+    below l =
+        layer-bit ys u (omega arith) ∙ h u l ∙ ap (λ (b : Bool). cond (eqb u v) t b) (sym (layer-bit xs u l))
+
+    past : 64 * room xs ≤ u → inLayer ys u ≡ cond (eqb u v) t (inLayer xs u)
+    past l =
+        layer-past ys u (omega arith) ∙
+        sym (layer-past xs u l) ∙
+        ap (λ (b : Bool). cond b t (inLayer xs u)) (sym (ne-eqb u v (λ e. omega arith)))
+
+-- ---- one member more
+
+module _ (xs : List ℕ) (v : ℕ) (given : Addable v xs) where
+  abbrev s : ℕ
+  s = room xs
+
+  -- the word of v with its digit, and then the marks with the word's
+  abbrev bigger : ℕ
+  bigger = bitOr (getD xs (v / 64) 0) ((1 * 2 ^ (v % 64)) % 2 ^ 64)
+
+  abbrev put-in : List ℕ
+  put-in = set xs (v / 64) bigger
+
+  abbrev added-marks : ℕ
+  added-marks = bitOr (getD put-in s 0) ((1 * 2 ^ (v / 64)) % 2 ^ 64)
+
+  abbrev added : List ℕ
+  added = set put-in s added-marks
+
+  pub word-below : v / 64 < s
+  word-below = omega (arith, given .small)
+
+  added-long : length added ≡ length xs
+  added-long = length-set put-in s added-marks ∙ length-set xs (v / 64) bigger
+
+  old-marks : getD put-in s 0 ≡ marks xs
+  old-marks = getD-set-other xs (v / 64) s bigger 0 (λ e. omega (arith, word-below))
+
+  marks-digit : (i : ℕ) → digit (marks added) i ≡ cond (eqb i (v / 64)) 1 (digit (marks xs) i)
+  marks-digit i =
+      ap (λ (k : ℕ). digit (getD added (k - 1) 0) i) added-long ∙
+      ap (λ (x : ℕ). digit x i)
+      (getD-set-same put-in s added-marks 0 (omega (arith, length-set xs (v / 64) bigger, given .layer .lent .some))) ∙
+      digit-insert (getD put-in s 0) (v / 64) i (omega (arith, word-below, given .layer .lent .few)) ∙
+      ap (λ (x : ℕ). cond (eqb i (v / 64)) 1 (digit x i)) old-marks
+
+  word-here : getD added (v / 64) 0 ≡ bigger
+  word-here =
+      getD-set-other put-in s (v / 64) added-marks 0 (λ e. omega (arith, word-below)) ∙
+      getD-set-same xs (v / 64) bigger 0 (omega (arith, word-below))
+
+  word-there : (i : ℕ) → i < s → (i ≡ v / 64 → ⊥) → getD added i 0 ≡ getD xs i 0
+  word-there i l d =
+      getD-set-other put-in s i added-marks 0 (λ e. omega arith) ∙ getD-set-other xs (v / 64) i bigger 0 d
+
+  here-some : getD added (v / 64) 0 ≡ 0 → ⊥
+  here-some z =
+      let one = digit-insert (getD xs (v / 64) 0) (v % 64) (v % 64) (omega arith) in
+      let is : cond (eqb (v % 64) (v % 64)) 1 (digit (getD xs (v / 64) 0) (v % 64)) ≡ 1 = rw (eq-eqb (v % 64) (v % 64) refl) in
+      let none = ap (λ (x : ℕ). digit x (v % 64)) (sym word-here ∙ z) ∙ digit-zero (v % 64) in
+      omega arith
+
+  pub layer-added : Added v xs added
+  layer-added =
+      record {
+        long = added-long;
+        set = alike xs added v true added-long (given .small) bits;
+        layer =
+            record {
+              lent =
+                  record {
+                    some = omega (arith, added-long, given .layer .lent .some);
+                    few = omega (
+                      arith,
+                      added-long,
+                      given .layer .lent .few,
+                    );
+                  };
+              marked = λ i l e. marked-at i l e (ℕ-discrete i (v / 64));
+              blank = λ i l e. blank-at i l e (ℕ-discrete i (v / 64));
+            };
+      }
+    where
+      same-word : (u : ℕ) → u < 64 * s → setOf added u ≡ setOf put-in u
+      same-word u l =
+          set-word added put-in u (getD-set-other put-in s (u / 64) added-marks 0 (λ e. omega arith))
+
+      bits : (u : ℕ) → u < 64 * s → setOf added u ≡ cond (eqb u v) true (setOf xs u)
+      bits u l = same-word u l ∙ put-set v 1 xs put-in (put-insert xs v (omega (arith, given .small))) u
+
+      marked-at : (i : ℕ) → i < 64 → digit (marks added) i ≡ 1 → Dec (i ≡ v / 64) → (i < room added) × (getD added i 0 ≡ 0 → ⊥)
+      marked-at i l e (yes is) = (
+        omega (arith, added-long, word-below),
+        λ z. here-some (ap (λ (k : ℕ). getD added k 0) (sym is)
+            ∙ z),
+      )
+      marked-at i l e (no d) =
+          let old = sym (ap (λ (b : Bool). cond b 1 (digit (marks xs) i)) (ne-eqb i (v / 64) d)) ∙ sym (marks-digit i) ∙ e in
+          let (less, some) = given .layer .marked i l old in
+          (omega (arith, added-long), λ z. some (sym (word-there i less d) ∙ z))
+
+      blank-at : (i : ℕ) → i < room added → digit (marks added) i ≡ 0 → Dec (i ≡ v / 64) → getD added i 0 ≡ 0
+      blank-at i l e (yes is) =
+          absurd (let one = marks-digit i ∙ ap (λ (b : Bool). cond b 1 (digit (marks xs) i)) (eq-eqb i (v / 64) is)
+          in omega arith)
+      blank-at i l e (no d) =
+          let old = sym (ap (λ (b : Bool). cond b 1 (digit (marks xs) i)) (ne-eqb i (v / 64) d)) ∙ sym (marks-digit i) ∙ e in
+          let less : i < s = omega (arith, added-long) in
+          word-there i less d ∙ given .layer .blank i less old
+
+-- ---- the lowest member out
+
+module _ (xs : List ℕ) (given : Poppable xs) (marks-fit : marks xs < 2 ^ 64) where
+  abbrev pub at : ℕ
+  at = lowestOf (marks xs)
+
+  -- a word whose digit in the marks is 1
+  mark-here : digit (marks xs) at ≡ 1
+  mark-here =
+      let one : _≡_ {A = ℕ} (cond (eqb at at) 1 0) 1 = rw (eq-eqb at at refl) in
+      omega (
+        arith,
+        lowest-digits (marks xs) marks-fit (given .some) at (lowest-small (marks xs) marks-fit (given .some)),
+        digit-lt (marks xs) at,
+      )
+
+  pub at-small : at < 64
+  at-small = lowest-small (marks xs) marks-fit (given .some)
+
+  pub at-below : at < room xs
+  at-below = given .layer .marked at at-small mark-here .0
+
+  abbrev word : ℕ
+  word = getD xs at 0
+
+  pub word-some : word ≡ 0 → ⊥
+  word-some = given .layer .marked at at-small mark-here .1
+
+  -- the other marks
+  marks-other : (j : ℕ) → j < 64 → (j ≡ at → ⊥) → digit (others (marks xs)) j ≡ digit (marks xs) j
+  marks-other j l d =
+      sym (lowest-digits (marks xs) marks-fit (given .some) j l ∙ ap (λ (b : Bool). cond b 1 0 + digit (others (marks xs)) j)
+      (ne-eqb j at d) ∙ zero-add (digit (others (marks xs)) j))
+
+  -- words below have none
+  word-lower : (j : ℕ) → j < at → getD xs j 0 ≡ 0
+  word-lower j l =
+      given .layer .blank j (omega (arith, at-below))
+      (let same = marks-other j (omega (arith, at-small)) (λ e. omega arith) in
+      ⊎-elim
+      (λ z. z)
+      (λ one. absurd (let h = others-higher (marks xs) marks-fit (given .some) j (omega (arith, at-small)) (same ∙ one)
+      in omega arith))
+      (digit-cases (marks xs) j))
+
+  module _ (word-fits : word < 2 ^ 64) where
+    abbrev low : ℕ
+    low = lowestOf word
+
+    abbrev v : ℕ
+    v = 64 * at + low
+
+    low-small : low < 64
+    low-small = lowest-small word word-fits word-some
+
+    v-word : v / 64 ≡ at
+    v-word = omega (arith, low-small)
+
+    v-place : v % 64 ≡ low
+    v-place = omega (arith, low-small)
+
+    v-small : v < 64 * room xs
+    v-small = omega (arith, low-small, at-below)
+
+    low-set : digit word low ≡ 1
+    low-set =
+        let one : _≡_ {A = ℕ} (cond (eqb low low) 1 0) 1 = rw (eq-eqb low low refl) in
+        omega (arith, lowest-digits word word-fits word-some low low-small, digit-lt word low)
+
+    word-other : (j : ℕ) → j < 64 → (j ≡ low → ⊥) → digit (others word) j ≡ digit word j
+    word-other j l d =
+        sym
+        (lowest-digits word word-fits word-some j l ∙
+        ap (λ (b : Bool). cond b 1 0 + digit (others word) j) (ne-eqb j low d) ∙
+        zero-add (digit (others word) j))
+
+    word-gone : digit (others word) low ≡ 0
+    word-gone =
+        let one : _≡_ {A = ℕ} (cond (eqb low low) 1 0) 1 = rw (eq-eqb low low refl) in
+        omega (arith, lowest-digits word word-fits word-some low low-small, low-set)
+
+    pub popped-member : inLayer xs v ≡ true
+    unfolding bit
+    popped-member =
+        layer-bit xs v v-small ∙
+        bit-member xs v (ap₂ (λ (i k : ℕ). digit (getD xs i 0) k) v-word v-place ∙ low-set)
+
+    pub popped-lowest : (u : ℕ) → u < v → inLayer xs u ≡ false
+    unfolding bit
+    popped-lowest u l = layer-bit xs u (omega (arith, v-small)) ∙ bit-other xs u (zero-at (ℕ-discrete (u / 64) at))
+      where
+        zero-at : Dec (u / 64 ≡ at) → digit (getD xs (u / 64) 0) (u % 64) ≡ 0
+        zero-at (yes e) =
+            let lower : u % 64 < low = omega arith in
+            let same = word-other (u % 64) (omega arith) (λ z. omega arith) in
+            ap (λ (i : ℕ). digit (getD xs i 0) (u % 64)) e ∙
+            ⊎-elim
+            (λ z. z)
+            (λ one. absurd (let h = others-higher word word-fits word-some (u % 64) (omega arith) (same ∙ one) in omega arith))
+            (digit-cases word (u % 64))
+        zero-at (no d) =
+            let lower : u / 64 < at = omega (arith, low-small, d) in
+            ap (λ (x : ℕ). digit x (u % 64)) (word-lower (u / 64) lower) ∙ digit-zero (u % 64)
+
+    abbrev less : List ℕ
+    less = set xs at (others word)
+
+    less-long : length less ≡ length xs
+    less-long = length-set xs at (others word)
+
+    less-here : getD less at 0 ≡ others word
+    less-here = getD-set-same xs at (others word) 0 (omega (arith, at-below))
+
+    less-there : (j : ℕ) → (j ≡ at → ⊥) → getD less j 0 ≡ getD xs j 0
+    less-there j d = getD-set-other xs at j (others word) 0 d
+
+    less-bits : (u : ℕ) → setOf less u ≡ cond (eqb u v) false (setOf xs u)
+    unfolding setOf bit
+    less-bits u = at-word (ℕ-discrete (u / 64) at)
+      where
+        here : u / 64 ≡ at → Dec (u % 64 ≡ low) → eqb (digit (others word) (u % 64)) 1 ≡ cond (eqb u v) false (eqb (digit word
+            (u % 64)) 1)
+        here e (yes p) =
+            ap (λ (k : ℕ). eqb (digit (others word) k) 1) p ∙
+            ap (λ (x : ℕ). eqb x 1) word-gone ∙
+            ap (λ (b : Bool). cond b false (eqb (digit word (u % 64)) 1)) (sym (eq-eqb u v (omega arith)))
+        here e (no d) =
+            ap (λ (x : ℕ). eqb x 1) (word-other (u % 64) (omega arith) d) ∙
+            ap (λ (b : Bool). cond b false (eqb (digit word (u % 64)) 1))
+            (sym (ne-eqb u v (λ z. d (ap (λ (k : ℕ). k % 64) z ∙ v-place))))
+
+        at-word : Dec (u / 64 ≡ at) → eqb (digit (getD less (u / 64) 0) (u % 64)) 1 ≡ cond (eqb u v) false (eqb (digit (getD xs
+            (u / 64) 0) (u % 64)) 1)
+        at-word (yes e) =
+            ap (λ (i : ℕ). eqb (digit (getD less i 0) (u % 64)) 1) e ∙
+            ap (λ (x : ℕ). eqb (digit x (u % 64)) 1) less-here ∙
+            here e (ℕ-discrete (u % 64) low) ∙
+            ap (λ (i : ℕ). cond (eqb u v) false (eqb (digit (getD xs i 0) (u % 64)) 1)) (sym e)
+        at-word (no d) =
+            ap (λ (x : ℕ). eqb (digit x (u % 64)) 1) (less-there (u / 64) d) ∙
+            ap (λ (b : Bool). cond b false (eqb (digit (getD xs (u / 64) 0) (u % 64)) 1))
+            (sym (ne-eqb u v (λ z. d (ap (λ (k : ℕ). k / 64) z ∙ v-word))))
+
+    lent-still : (ys : List ℕ) → length ys ≡ length xs → Lent ys
+    lent-still ys long = record { some = omega (arith, given .layer .lent .some); few = omega (arith, given .layer .lent .few) }
+
+    less-marks : marks less ≡ marks xs
+    less-marks =
+        ap (λ (k : ℕ). getD less (k - 1) 0) less-long ∙ less-there (room xs) (λ e. omega (arith, at-below))
+
+    -- the word has members still
+    pub popped-some : (others word ≡ 0 → ⊥) → Popped v xs less
+    popped-some more =
+        record {
+          long = less-long;
+          member = popped-member;
+          lowest = popped-lowest;
+          set = alike xs less v false less-long v-small (λ u l. less-bits u);
+          layer =
+              record {
+                lent = lent-still less less-long;
+                marked = λ j l e. marked-at j l (ap (λ (x : ℕ). digit x j) (sym less-marks) ∙ e) (ℕ-discrete j at);
+                blank = λ j l e. blank-at j (omega (arith, less-long)) (ap (λ (x : ℕ). digit x j) (sym less-marks) ∙ e)
+                    (ℕ-discrete j at);
+              };
+        }
+      where
+        marked-at : (j : ℕ) → j < 64 → digit (marks xs) j ≡ 1 → Dec (j ≡ at) → (j < room less) × (getD less j 0 ≡ 0 → ⊥)
+        marked-at j l e (yes is) = (
+          omega (arith, less-long, at-below),
+          λ z. more (sym less-here ∙ ap (λ (k : ℕ). getD less k 0)
+              (sym is) ∙ z),
+        )
+        marked-at j l e (no d) =
+            let (below, some) = given .layer .marked j l e in
+            (omega (arith, less-long), λ z. some (sym (less-there j d) ∙ z))
+
+        blank-at : (j : ℕ) → j < room xs → digit (marks xs) j ≡ 0 → Dec (j ≡ at) → getD less j 0 ≡ 0
+        blank-at j l e (yes is) = absurd (let one = ap (λ (k : ℕ). digit (marks xs) k) is ∙ mark-here in omega arith)
+        blank-at j l e (no d) = less-there j d ∙ given .layer .blank j l e
+
+    -- the word is empty, and its mark goes
+    abbrev unmarked : List ℕ
+    unmarked = set less (room xs) (others (marks xs))
+
+    pub popped-last : others word ≡ 0 → Popped v xs unmarked
+    popped-last none =
+        record {
+          long = long;
+          member = popped-member;
+          lowest = popped-lowest;
+          set = alike xs unmarked v false long v-small (λ u l. set-word unmarked less u (there (u / 64) (omega arith)) ∙
+              less-bits u);
+          layer =
+              record {
+                lent = lent-still unmarked long;
+                marked = λ j l e. marked-at j l (ap (λ (x : ℕ). digit x j) (sym new-marks) ∙ e);
+                blank = λ j l e. blank-at j (omega (arith, long)) (ap (λ (x : ℕ). digit x j) (sym new-marks) ∙ e)
+                    (ℕ-discrete j at);
+              };
+        }
+      where
+        long : length unmarked ≡ length xs
+        long = length-set less (room xs) (others (marks xs)) ∙ less-long
+
+        there : (j : ℕ) → j < room xs → getD unmarked j 0 ≡ getD less j 0
+        there j l = getD-set-other less (room xs) j (others (marks xs)) 0 (λ e. omega arith)
+
+        new-marks : marks unmarked ≡ others (marks xs)
+        new-marks =
+            ap (λ (k : ℕ). getD unmarked (k - 1) 0) long ∙
+            getD-set-same less (room xs) (others (marks xs)) 0 (omega (arith, less-long, given .layer .lent .some))
+
+        marked-at : (j : ℕ) → j < 64 → digit (others (marks xs)) j ≡ 1 → (j < room unmarked) × (getD unmarked j 0 ≡ 0 → ⊥)
+        marked-at j l e =
+            let higher = others-higher (marks xs) marks-fit (given .some) j l e in
+            let apart : j ≡ at → ⊥ = λ z. omega arith in
+            let (below, some) = given .layer .marked j l (sym (marks-other j l apart) ∙ e) in
+            (omega (arith, long), λ z. some (sym (there j below ∙ less-there j apart) ∙ z))
+
+        blank-at : (j : ℕ) → j < room xs → digit (others (marks xs)) j ≡ 0 → Dec (j ≡ at) → getD unmarked j 0 ≡ 0
+        blank-at j l e (yes is) =
+            ap (λ (k : ℕ). getD unmarked k 0) is ∙ there at at-below ∙ less-here ∙ none
+        blank-at j l e (no d) =
+            there j l ∙
+            less-there j d ∙
+            given .layer .blank j l (sym (marks-other j (omega (arith, given .layer .lent .few)) d) ∙ e)
+
+-- ---- marks for words that stand there
+
+-- the digits below i say which of the first i words are not 0, and there are no others
+pub record Marking (xs : List ℕ) (so-far i : ℕ) : Type 0 where
+  pub high : i ≤ room xs
+  pub marked : (j : ℕ) → j < 64 → digit so-far j ≡ 1 → (j < i) × (getD xs j 0 ≡ 0 → ⊥)
+  pub blank : (j : ℕ) → j < i → digit so-far j ≡ 0 → getD xs j 0 ≡ 0
+
+pub marking-none : (xs : List ℕ) → Marking xs 0 0
+marking-none xs =
+    record {
+      high = omega arith;
+      marked = λ j l e. absurd (let z = digit-zero j in omega arith);
+      blank = λ j l e. absurd (omega arith);
+    }
+
+module _ (xs : List ℕ) (so-far i : ℕ) (lent : Lent xs) (c : Marking xs so-far i) (more : i < room xs) where
+  pub marking-word : (getD xs i 0 ≡ 0 → ⊥) → Marking xs (bitOr so-far ((1 * 2 ^ i) % 2 ^ 64)) (i + 1)
+  marking-word some =
+      record {
+        high = omega arith;
+        marked = λ j l e. marked-at j l (sym (digit-insert so-far i j small) ∙ e) (ℕ-discrete j i);
+        blank = λ j l e. blank-at j l (sym (digit-insert so-far i j small) ∙ e) (ℕ-discrete j i);
+      }
+    where
+      small : i < 64
+      small = omega (arith, lent .few)
+
+      marked-at : (j : ℕ) → j < 64 → cond (eqb j i) 1 (digit so-far j) ≡ 1 → Dec (j ≡ i) → (j < i + 1) × (getD xs j 0 ≡ 0 → ⊥)
+      marked-at j l e (yes is) = (omega arith, λ z. some (ap (λ (k : ℕ). getD xs k 0) (sym is) ∙ z))
+      marked-at j l e (no d) =
+          let (below, old) = c .marked j l (ap (λ (b : Bool). cond b 1 (digit so-far j)) (sym (ne-eqb j i d)) ∙ e) in
+          (omega arith, old)
+
+      blank-at : (j : ℕ) → j < i + 1 → cond (eqb j i) 1 (digit so-far j) ≡ 0 → Dec (j ≡ i) → getD xs j 0 ≡ 0
+      blank-at j l e (yes is) =
+          absurd (let one = ap (λ (b : Bool). cond b 1 (digit so-far j)) (sym (eq-eqb j i is)) ∙ e in omega arith)
+      blank-at j l e (no d) =
+          c .blank j (omega (arith, d)) (ap (λ (b : Bool). cond b 1 (digit so-far j)) (sym (ne-eqb j i d)) ∙ e)
+
+  pub marking-zero : getD xs i 0 ≡ 0 → Marking xs so-far (i + 1)
+  marking-zero none =
+      record {
+        high = omega arith;
+        marked = λ j l e. let (below, some) = c .marked j l e in (omega arith, some);
+        blank = λ j l e. blank-at j l e (ℕ-discrete j i);
+      }
+    where
+      blank-at : (j : ℕ) → j < i + 1 → digit so-far j ≡ 0 → Dec (j ≡ i) → getD xs j 0 ≡ 0
+      blank-at j l e (yes is) = ap (λ (k : ℕ). getD xs k 0) is ∙ none
+      blank-at j l e (no d) = c .blank j (omega (arith, d)) e
+
+-- all words are passed
+pub marking-all :
+    (xs : List ℕ) (so-far i : ℕ) → Lent xs → Marking xs so-far i → room xs ≤ i → Marked xs (set xs (room xs) so-far)
+marking-all xs so-far i lent c done =
+    record {
+      long = long;
+      same = there;
+      layer =
+          record {
+            lent = record { some = omega (arith, long, lent .some); few = omega (arith, long, lent .few) };
+            marked =
+                λ j l e.
+                let (below, some) = c .marked j l (ap (λ (x : ℕ). digit x j) (sym new-marks) ∙ e) in
+                (omega (arith, long, c .high), λ z. some (sym (there j (omega (arith, c .high))) ∙ z));
+            blank =
+                λ j l e.
+                there j (omega (arith, long)) ∙ c .blank j (omega (arith, long)) (ap (λ (x : ℕ). digit x j) (sym new-marks) ∙ e);
+          };
+    }
+  where
+    long : length (set xs (room xs) so-far) ≡ length xs
+    long = length-set xs (room xs) so-far
+
+    there : (j : ℕ) → j < room xs → getD (set xs (room xs) so-far) j 0 ≡ getD xs j 0
+    there j l = getD-set-other xs (room xs) j so-far 0 (λ e. omega arith)
+
+    new-marks : marks (set xs (room xs) so-far) ≡ so-far
+    new-marks =
+        ap (λ (k : ℕ). getD (set xs (room xs) so-far) (k - 1) 0) long ∙
+        getD-set-same xs (room xs) so-far 0 (omega (arith, lent .some))
+
+-- ---- for callers
+
+-- a layer of zeros
+pub zeros-layer : (xs : List ℕ) → Lent xs → ((i : ℕ) → i < length xs → getD xs i 0 ≡ 0) → Layer xs
+zeros-layer xs lent zeros =
+    record {
+      lent = lent;
+      marked = λ i l e. absurd (let z = ap (λ (x : ℕ). digit x i) none ∙ digit-zero i in omega arith);
+      blank = λ i l e. zeros i (omega arith);
+    }
+  where
+    none : marks xs ≡ 0
+    none = zeros (room xs) (omega (arith, lent .some))
+
+-- where no word is marked the layer is empty
+pub unmarked-empty : (xs : List ℕ) → Layer xs → marks xs ≡ 0 → (u : ℕ) → inLayer xs u ≡ false
+unmarked-empty xs layer none u = ⊎-elim below (λ l. layer-past xs u l) (lt-or-ge u (64 * room xs))
+  where
+    below : u < 64 * room xs → inLayer xs u ≡ false
+    below l =
+        layer-bit xs u l ∙
+        bit-other xs u
+        (bit-blank xs u (layer .blank (u / 64) (omega arith) (ap (λ (x : ℕ). digit x (u / 64)) none ∙ digit-zero (u / 64))))

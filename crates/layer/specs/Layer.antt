@@ -1,0 +1,61 @@
+-- A layer as words: all but the last are a set, and the last has a digit for each of them that is not 0. What the operations
+-- ask for and leave.
+use mathlib.Core.Bool.{true, false, cond}
+use mathlib.Core.List.{List}
+use mathlib.Core.Path.{_≡_}
+use Prim.Native.Nat.{ℕ, _-_, _*_, _≤_, _<_}
+use lib.Dec.{eqb}
+use lib.ListN.{length, getD, take}
+use Rattle.rules.specs.Counting.{Set}
+use Rattle.rules.specs.Words.{digit, setOf}
+
+-- how many words the set has
+abbrev pub room : List ℕ → ℕ
+room xs = length xs - 1
+
+-- the last word
+abbrev pub marks : List ℕ → ℕ
+marks xs = getD xs (room xs) 0
+
+-- the set
+abbrev pub inLayer : List ℕ → Set
+inLayer xs = setOf (take (room xs) xs)
+
+-- what is lent: at most 64 words and the one for the marks
+pub record Lent (xs : List ℕ) : Type 0 where
+  pub some : 1 ≤ length xs
+  pub few : length xs ≤ 65
+
+-- the marks are right
+pub record Layer (xs : List ℕ) : Type 0 where
+  pub lent : Lent xs
+  pub marked : (i : ℕ) → i < 64 → digit (marks xs) i ≡ 1 → (i < room xs) × (getD xs i 0 ≡ 0 → ⊥)
+  pub blank : (i : ℕ) → i < room xs → digit (marks xs) i ≡ 0 → getD xs i 0 ≡ 0
+
+-- after `mark`: the set as it was, with right marks
+pub record Marked (before after : List ℕ) : Type 0 where
+  pub long : length after ≡ length before
+  pub same : (i : ℕ) → i < room before → getD after i 0 ≡ getD before i 0
+  pub layer : Layer after
+
+pub record Addable (v : ℕ) (xs : List ℕ) : Type 0 where
+  pub layer : Layer xs
+  pub small : v < 64 * room xs
+
+-- after `add`: v came in
+pub record Added (v : ℕ) (before after : List ℕ) : Type 0 where
+  pub long : length after ≡ length before
+  pub set : (u : ℕ) → inLayer after u ≡ cond (eqb u v) true (inLayer before u)
+  pub layer : Layer after
+
+pub record Poppable (xs : List ℕ) : Type 0 where
+  pub layer : Layer xs
+  pub some : marks xs ≡ 0 → ⊥
+
+-- after `pop`: v, the lowest member, went out
+pub record Popped (v : ℕ) (before after : List ℕ) : Type 0 where
+  pub long : length after ≡ length before
+  pub member : inLayer before v ≡ true
+  pub lowest : (u : ℕ) → u < v → inLayer before u ≡ false
+  pub set : (u : ℕ) → inLayer after u ≡ cond (eqb u v) false (inLayer before u)
+  pub layer : Layer after

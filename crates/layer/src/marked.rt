@@ -1,0 +1,46 @@
+// The operations on a layer: marks for words that stand there, one member more, the lowest member out.
+ghost use Rattle.layer.specs.Layer.{Lent, Marked, Addable, Added, Poppable, Popped};
+
+// The last word comes to say which of the others are not 0.
+pub fn mark(layer: &mut [u64])
+    requires { ⌜ Lent (now layer) ⌝ }
+    ensures { λ _. ⌜ Marked (now (layer .entry)) (now (layer .exit)) ⌝ }
+{
+    let s = layer.len() - 1;
+    let mut marks: u64 = 0;
+    for i in 0..s {
+        if layer[i] != 0 {
+            marks |= 1u64 << i;
+        }
+    }
+    layer[s] = marks;
+}
+
+// v comes in.
+pub fn add(layer: &mut [u64], v: usize)
+    requires { ⌜ Addable v (now layer) ⌝ }
+    ensures { λ _. ⌜ Added v (now (layer .entry)) (now (layer .exit)) ⌝ }
+{
+    let s = layer.len() - 1;
+    layer[v / 64] |= 1u64 << (v % 64);
+    layer[s] |= 1u64 << (v / 64);
+}
+
+// Takes the lowest member out.
+pub fn pop(layer: &mut [u64]) -> usize
+    requires { ⌜ Poppable (now layer) ⌝ }
+    ensures { λ r. ⌜ Popped r (now (layer .entry)) (now (layer .exit)) ⌝ }
+{
+    let s = layer.len() - 1;
+    let marks = layer[s];
+    let i = u64::trailing_zeros(marks) as usize;
+    let word = layer[i];
+    let v = 64 * i + u64::trailing_zeros(word) as usize;
+    let rest = word & (word - 1);
+    layer[i] = rest;
+    if rest != 0 {
+        return v;
+    }
+    layer[s] = marks & (marks - 1);
+    v
+}

@@ -1,0 +1,67 @@
+// The entries when R closes.
+use successors::inside::lowest_inside;
+use walk::Members;
+use walk::Next;
+ghost use Rattle.promotion_moves.specs.Filling.{Fillable, Filled, FillAll, FilledAll};
+
+// v, of R, takes its lowest-numbered successor in R where it is own and has no entry.
+fn fill_entry(
+    owners: &[u8],
+    offsets: &[u16],
+    targets: &[u16],
+    alpha: u8,
+    s: usize,
+    work: &mut [u64],
+    held: usize,
+    entries: usize,
+    v: usize,
+)
+    requires { ⌜ Fillable (now owners) (now offsets) (now targets) s held entries v (now work) ⌝ }
+    ensures { λ r.
+        ⌜ Filled (now (owners .entry)) (now (offsets .entry)) (now (targets .entry)) alpha held entries v
+        (now (work .entry)) (now (work .exit)) ⌝ }
+{
+    if owners[v] == alpha {
+        if work[entries + v] == 65535 {
+            let w = lowest_inside(owners.len(), offsets, targets, v, &work[held..held + s]);
+            work[entries + v] = w;
+        }
+    }
+}
+
+// Own vertices of R without an entry get one.
+pub fn assign_missing_strategies(
+    owners: &[u8],
+    offsets: &[u16],
+    targets: &[u16],
+    alpha: u8,
+    s: usize,
+    work: &mut [u64],
+    held: usize,
+    entries: usize,
+)
+    requires { ⌜ FillAll (now owners) (now offsets) (now targets) s held entries (now work) ⌝ }
+    ensures { λ r.
+        ⌜ FilledAll (now (owners .entry)) (now (offsets .entry)) (now (targets .entry)) alpha held entries
+        (now (work .entry)) (now (work .exit)) ⌝ }
+{
+    let mut walk = Members::new(&work[held..held + s]);
+    loop {
+        let next = walk.next(&work[held..held + s]);
+        let Next::Member(index, rest) = next else {
+            return;
+        };
+        fill_entry(
+            owners,
+            offsets,
+            targets,
+            alpha,
+            s,
+            work,
+            held,
+            entries,
+            index.0,
+        );
+        walk = rest;
+    }
+}

@@ -1,0 +1,3 @@
+-- What the two tests on R ask for and find.
+pub mod Escapes
+pub mod Opening
