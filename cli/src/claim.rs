@@ -1,11 +1,11 @@
 //! The checker's findings as sentences.
 
 use crate::paritysol::Claim;
-use reckonbough::{Game, Player, Refusal};
+use reckonbough::{Game, Player, Refusal, WorkArea};
 
 /// The checker's answer to the claim.
-pub fn checked(game: &Game, claim: &Claim) -> Result<(), Refusal> {
-    game.check(&claim.even, &claim.odd, &claim.strategy)
+pub fn checked(game: &Game, claim: &Claim, work: &mut WorkArea) -> Result<(), Refusal> {
+    game.check_in(&claim.even, &claim.odd, &claim.strategy, work)
 }
 
 /// What is wrong with the claim.

@@ -5,7 +5,7 @@ use crate::games;
 use crate::input;
 use crate::output::Said;
 use crate::paritysol::Claim;
-use reckonbough::{Game, Player, Run};
+use reckonbough::{Game, Player, Run, WorkArea};
 use std::collections::BTreeSet;
 use std::path::Path;
 
@@ -16,7 +16,7 @@ pub fn file(path: &Path, solution: Option<&Path>, from: Option<u64>) -> Result<S
     let run = from.map(|vertex| games::run(path, &game, vertex)).transpose()?;
     let drawing = drawing(&game, claim.as_ref(), &run.as_ref().map_or_else(BTreeSet::new, way));
     if let (Some(file), Some(claim)) = (solution, &claim) {
-        if let Err(refused) = checked(&game, claim) {
+        if let Err(refused) = checked(&game, claim, &mut WorkArea::new()) {
             return Ok(Said::bad(drawing, wrong(&input::name(file), &game, claim, refused)));
         }
     }

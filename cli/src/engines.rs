@@ -1,6 +1,6 @@
 //! The engines on one game, and whether their winners are the same.
 
-use reckonbough::{Game, Opinion, Refusal, Solved};
+use reckonbough::{Game, Opinion, Refusal, Solved, WorkArea};
 
 /// Which engines are to run, in how many calls and rounds.
 #[derive(Clone, Copy)]
@@ -31,11 +31,12 @@ pub struct Ran {
 }
 
 impl Ran {
-    pub fn on(game: &Game, wanted: Wanted) -> Ran {
+    /// One after another, in the one work area.
+    pub fn on(game: &Game, wanted: Wanted, work: &mut WorkArea) -> Ran {
         Ran {
-            zielonka: wanted.zielonka.then(|| game.solve_zielonka(wanted.budget)),
-            promotion: wanted.promotion.then(|| game.solve_priority_promotion(wanted.budget)),
-            quasi: wanted.quasi.then(|| game.solve_quasi_polynomial()),
+            zielonka: wanted.zielonka.then(|| game.solve_zielonka_in(wanted.budget, work)),
+            promotion: wanted.promotion.then(|| game.solve_priority_promotion_in(wanted.budget, work)),
+            quasi: wanted.quasi.then(|| game.solve_quasi_polynomial_in(work)),
         }
     }
 

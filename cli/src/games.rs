@@ -4,7 +4,7 @@ use crate::claim::{checked, wrong};
 use crate::output::Said;
 use crate::paritysol::Claim;
 use crate::{input, refusal};
-use reckonbough::{Edit, Export, Game, Run};
+use reckonbough::{Edit, Export, Game, Run, WorkArea};
 use std::path::Path;
 
 /// The game in the file, or a sentence that says why there is none.
@@ -22,7 +22,7 @@ pub fn check(path: &Path, solution: &Path) -> Result<Said, String> {
     let name = input::name(path);
     let game = read(path)?;
     let claim = Claim::read(solution, game.vertices())?;
-    Ok(match checked(&game, &claim) {
+    Ok(match checked(&game, &claim, &mut WorkArea::new()) {
         Ok(()) => Said::good(format!("{name} yes\n")),
         Err(refused) => {
             let (number, place) = refused.number_and_place();

@@ -19,7 +19,7 @@ mod solve;
 use clap::error::ErrorKind;
 use clap::ArgMatches;
 use engines::Wanted;
-use output::{complain, Said};
+use output::Said;
 use reckonbough::Edit;
 use std::fs;
 use std::path::{Path, PathBuf};
@@ -67,20 +67,22 @@ fn solve_all(given: &ArgMatches, quiet: bool) -> bool {
     let wanted = Wanted::named(engine, number(given, "budget").unwrap_or(0));
     let options = solve::Options { wanted, strategy: given.get_flag("strategy"), solution };
     let mut good = true;
-    let done = many::in_order(&files, quiet, |file| solve::file(file, &options), |said| good &= said.print(quiet));
+    let done =
+        many::in_order(&files, quiet, |file, work| solve::file(file, &options, work), |said| good &= said.print(quiet));
     done && good
 }
 
 fn sheet_of_all(given: &ArgMatches, quiet: bool) -> bool {
     let budget = args::BUDGET.parse().unwrap_or(0);
     let mut parts = Vec::new();
-    let done = many::in_order(&paths(given), quiet, |file| sheet::file(file, budget), |part| parts.push(part));
+    let done =
+        many::in_order(&paths(given), quiet, |file, work| sheet::file(file, budget, work), |part| parts.push(part));
     output::print(page::text(&parts).as_bytes());
     let good = done && parts.iter().all(|part| part.outcome == sheet::Outcome::Passed);
     match given.get_one::<PathBuf>("html").map(|out| (out, fs::write(out, page::html(&parts)))) {
         Some((out, Err(error))) => {
-            complain(&format!("{}: the file cannot be written: {error}", input::name(out)));
-            false
+            let why = format!("{}: the file cannot be written: {error}", input::name(out));
+            Said::bad("", why).print(quiet)
         }
         _ => good,
     }

@@ -1,7 +1,9 @@
-//! Many files side by side, one thread a core; what they come to is taken in the order given.
+//! Many files side by side, one thread a core, each with one work area for all its files; what they come to is taken in the
+//! order given.
 
 use crate::output::complain;
 use indicatif::{ProgressBar, ProgressDrawTarget};
+use reckonbough::WorkArea;
 use std::collections::BTreeMap;
 use std::path::{Path, PathBuf};
 use std::sync::atomic::{AtomicUsize, Ordering};
@@ -15,7 +17,7 @@ const STACK: usize = 8 << 20;
 pub fn in_order<T: Send>(
     files: &[PathBuf],
     quiet: bool,
-    work: impl Fn(&Path) -> T + Sync,
+    work: impl Fn(&Path, &mut WorkArea) -> T + Sync,
     mut take: impl FnMut(T),
 ) -> bool {
     let (bar, next) = (progress(files.len(), quiet), AtomicUsize::new(0));
@@ -25,9 +27,10 @@ pub fn in_order<T: Send>(
         for _ in 0..threads().min(files.len()) {
             let (sender, next, work) = (sender.clone(), &next, &work);
             let worker = move || {
+                let mut area = WorkArea::new();
                 while let Some((index, file)) = following(files, next) {
                     // the receiver goes away only with the command
-                    let _ = sender.send((index, work(file)));
+                    let _ = sender.send((index, work(file, &mut area)));
                 }
             };
             started += usize::from(thread::Builder::new().stack_size(STACK).spawn_scoped(scope, worker).is_ok());

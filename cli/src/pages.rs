@@ -64,5 +64,16 @@ fn shown(arg: &Arg) -> Vec<Inline> {
 }
 
 fn described(page: &mut Roff, arg: &Arg) {
-    page.control("TP", []).text(shown(arg)).text([roman(said(arg.get_help()))]);
+    page.control("TP", []).text(shown(arg)).text([roman(said(arg.get_help()) + &choices(arg))]);
+}
+
+/// The values that an option takes, where they are few, and what it is where it is not given.
+fn choices(arg: &Arg) -> String {
+    if !arg.get_action().takes_values() {
+        return String::new();
+    }
+    let values: Vec<String> = arg.get_possible_values().iter().map(|value| value.get_name().into()).collect();
+    let defaults = arg.get_default_values().iter().map(|value| value.to_string_lossy());
+    let one_of = if values.is_empty() { String::new() } else { format!("; one of {}", values.join(", ")) };
+    one_of + &defaults.map(|value| format!("; {value} where none is given")).collect::<String>()
 }

@@ -4,7 +4,7 @@ use crate::claim::{checked, wrong};
 use crate::engines::{Ran, Wanted};
 use crate::paritysol::Claim;
 use crate::{input, refusal};
-use reckonbough::{Game, Player, Refusal, Solved};
+use reckonbough::{Game, Player, Refusal, Solved, WorkArea};
 use sha2::{Digest, Sha256};
 use std::io::{self, Read};
 use std::path::Path;
@@ -20,14 +20,17 @@ pub enum Outcome {
     FailedCheck,
 }
 
-/// A file's part of the sheet: its name, and rows of what and how.
+/// What and how, a row each.
+pub type Rows = Vec<(&'static str, String)>;
+
+/// A file's part of the sheet.
 pub struct Part {
     pub name: String,
-    pub rows: Vec<(&'static str, String)>,
+    pub rows: Rows,
     pub outcome: Outcome,
 }
 
-pub fn file(path: &Path, budget: u64) -> Part {
+pub fn file(path: &Path, budget: u64, work: &mut WorkArea) -> Part {
     let name = input::name(path);
     let (text, hash) = match read(path) {
         Ok(read) => read,
@@ -38,7 +41,7 @@ pub fn file(path: &Path, budget: u64) -> Part {
     };
     let mut rows = vec![("SHA-256", hash)];
     let outcome = match Game::read(&text) {
-        Ok(game) => facts(&name, &game, budget, &mut rows),
+        Ok(game) => facts(&name, &game, budget, work, &mut rows),
         Err(refused) => {
             rows.push(("refused", refusal::of_text(&name, &text, refused)));
             Outcome::Refused
@@ -66,8 +69,8 @@ fn read(path: &Path) -> io::Result<(Vec<u8>, String)> {
     Ok((text, hash))
 }
 
-fn facts(name: &str, game: &Game, budget: u64, rows: &mut Vec<(&'static str, String)>) -> Outcome {
-    let ran = Ran::on(game, Wanted::named("all", budget));
+fn facts(name: &str, game: &Game, budget: u64, work: &mut WorkArea, rows: &mut Rows) -> Outcome {
+    let ran = Ran::on(game, Wanted::named("all", budget), work);
     rows.push(("vertices", game.vertices().to_string()));
     rows.push(("edges", game.edges().to_string()));
     rows.push(("priorities", format!("{} different", different(game))));
@@ -78,7 +81,7 @@ fn facts(name: &str, game: &Game, budget: u64, rows: &mut Vec<(&'static str, Str
     rows.push(("rounds", counted(&ran.promotion)));
     rows.push(("engines", agreement(&ran).into()));
     let answers = [("Zielonka", &ran.zielonka), ("promotion", &ran.promotion)];
-    let good = answers.map(|(engine, given)| strategy(name, game, engine, given, rows));
+    let good = answers.map(|(engine, given)| strategy((name, game), (engine, given), work, rows));
     match good {
         _ if !ran.agree() => Outcome::Disagree,
         good if good.contains(&Some(false)) => Outcome::FailedCheck,
@@ -111,11 +114,10 @@ fn agreement(ran: &Ran) -> &'static str {
 
 /// Has the checker check an engine's strategy; whether it says yes, where there is one.
 fn strategy(
-    name: &str,
-    game: &Game,
-    engine: &str,
-    given: &Option<Result<Solved, Refusal>>,
-    rows: &mut Vec<(&'static str, String)>,
+    (name, game): (&str, &Game),
+    (engine, given): (&str, &Option<Result<Solved, Refusal>>),
+    work: &mut WorkArea,
+    rows: &mut Rows,
 ) -> Option<bool> {
     let solved = match given {
         Some(Ok(solved)) => solved,
@@ -125,7 +127,7 @@ fn strategy(
         }
     };
     let claim = Claim::of(solved);
-    let answer = checked(game, &claim);
+    let answer = checked(game, &claim, work);
     let said = match answer {
         Ok(()) => "yes".into(),
         Err(refused) => format!("NO, {}", wrong(name, game, &claim, refused)),

@@ -4,7 +4,7 @@ use crate::engines::{column, Ran, Wanted};
 use crate::output::Said;
 use crate::paritysol::Claim;
 use crate::{input, refusal};
-use reckonbough::Game;
+use reckonbough::{Game, WorkArea};
 use std::fs;
 use std::path::{Path, PathBuf};
 
@@ -15,14 +15,14 @@ pub struct Options {
 }
 
 /// The line of one file, and what is to be said of it.
-pub fn file(path: &Path, options: &Options) -> Said {
+pub fn file(path: &Path, options: &Options, work: &mut WorkArea) -> Said {
     let name = input::name(path);
     let text = match input::read(path) {
         Ok(text) => text,
         Err(why) => return Said::bad(format!("{name} unreadable\n"), why),
     };
     match Game::read(&text) {
-        Ok(game) => answer(&name, &Ran::on(&game, options.wanted), options),
+        Ok(game) => answer(&name, &Ran::on(&game, options.wanted, work), options),
         Err(refused) => {
             let (number, place) = refused.number_and_place();
             Said::bad(format!("{name} refused {number} {place}\n"), refusal::of_text(&name, &text, refused))

@@ -1,8 +1,8 @@
 //! A game that was checked, with the solvers as its methods.
 #![forbid(unsafe_code)]
 
-use crate::doors::{self, opinion_words, set_words, work_words};
-use crate::{Answer, Refusal, KEPT, MAX_TEXT, NONE};
+use crate::doors::{self, set_words};
+use crate::{Answer, Refusal, WorkArea, KEPT, MAX_TEXT, NONE};
 
 /// Even or Odd; `player as u8` is the number in the tables.
 #[derive(Clone, Copy, Debug, PartialEq, Eq, Hash)]
@@ -39,7 +39,8 @@ pub struct Tables<'a> {
 /// The tables of a game. They were checked when it was made, so no method refuses them; each says what else it refuses.
 ///
 /// Each call of a solver, of [`attractor`](Game::attractor) and of [`check`](Game::check) allocates a work area of its own,
-/// up to 17 MB for the largest game. [`doors`] has the same functions on buffers that can be used again.
+/// up to 17 MB for the largest game. The method of the same name with `_in` behind it takes a [`WorkArea`] instead, which can be used
+/// again; [`doors`] has the same functions on buffers that the caller lends.
 #[derive(Clone, Debug, PartialEq, Eq)]
 pub struct Game {
     owners: Vec<u8>,
@@ -404,7 +405,12 @@ impl Game {
     /// are always enough; `u64::MAX` asks for an answer however long it takes. It nests at most n + 1 calls: on x86-64 2 MiB
     /// of stack are enough, the size that `std::thread` gives.
     pub fn solve_zielonka(&self, budget: u64) -> Result<Solved, Refusal> {
-        self.solve(doors::zielonka, budget)
+        self.solve_zielonka_in(budget, &mut WorkArea::new())
+    }
+
+    /// [`solve_zielonka`](Game::solve_zielonka) in a work area that can be used again.
+    pub fn solve_zielonka_in(&self, budget: u64, work: &mut WorkArea) -> Result<Solved, Refusal> {
+        self.solve(doors::zielonka, budget, work)
     }
 
     /// Solves by priority promotion, in at most `budget` rounds.
@@ -412,7 +418,12 @@ impl Game {
     /// Refuses by [`Refusal::OverBudget`] alone. With n vertices and d different priorities n·(n+2)^d rounds are always enough;
     /// `u64::MAX` asks for an answer however long it takes.
     pub fn solve_priority_promotion(&self, budget: u64) -> Result<Solved, Refusal> {
-        self.solve(doors::priority_promotion, budget)
+        self.solve_priority_promotion_in(budget, &mut WorkArea::new())
+    }
+
+    /// [`solve_priority_promotion`](Game::solve_priority_promotion) in a work area that can be used again.
+    pub fn solve_priority_promotion_in(&self, budget: u64, work: &mut WorkArea) -> Result<Solved, Refusal> {
+        self.solve(doors::priority_promotion, budget, work)
     }
 
     /// A second opinion, by the quasi-polynomial recursion: the same sets by another way, without a strategy and without a budget.
@@ -426,17 +437,20 @@ impl Game {
     /// # Ok::<(), reckonbough::Refusal>(())
     /// ```
     pub fn solve_quasi_polynomial(&self) -> Opinion {
+        self.solve_quasi_polynomial_in(&mut WorkArea::new())
+    }
+
+    /// [`solve_quasi_polynomial`](Game::solve_quasi_polynomial) in a work area that can be used again.
+    pub fn solve_quasi_polynomial_in(&self, work: &mut WorkArea) -> Opinion {
         let (mut even, mut odd) = (self.set(), self.set());
-        let mut work = vec![0; opinion_words(self.vertices(), self.edges())];
-        let answer = doors::quasi_polynomial(self.tables(), &mut even, &mut odd, &mut work);
+        let answer = doors::quasi_polynomial(self.tables(), &mut even, &mut odd, self.words_of(work));
         answer.result().expect("a checked game with buffers that fit is answered");
         Opinion { even: self.members(&even), odd: self.members(&odd) }
     }
 
-    fn solve(&self, solver: Solver, budget: u64) -> Result<Solved, Refusal> {
-        let (mut even, mut odd) = (self.set(), self.set());
-        let (mut strategy, mut work) = (self.strategy(), self.work());
-        let answer = solver(self.tables(), budget, &mut even, &mut odd, &mut strategy, &mut work);
+    fn solve(&self, solver: Solver, budget: u64, work: &mut WorkArea) -> Result<Solved, Refusal> {
+        let (mut even, mut odd, mut strategy) = (self.set(), self.set(), self.strategy());
+        let answer = solver(self.tables(), budget, &mut even, &mut odd, &mut strategy, self.words_of(work));
         let count = answer.result()?;
         Ok(Solved { even: self.members(&even), odd: self.members(&odd), strategy: choices(&strategy), count })
     }
@@ -445,8 +459,13 @@ impl Game {
     ///
     /// Refuses by [`Refusal::OwnersDiffer`].
     pub fn solve_solitaire_game(&self) -> Result<Vec<bool>, Refusal> {
+        self.solve_solitaire_game_in(&mut WorkArea::new())
+    }
+
+    /// [`solve_solitaire_game`](Game::solve_solitaire_game) in a work area that can be used again.
+    pub fn solve_solitaire_game_in(&self, work: &mut WorkArea) -> Result<Vec<bool>, Refusal> {
         let mut set = self.set();
-        doors::solitaire(self.tables(), &mut set, &mut self.work()).result()?;
+        doors::solitaire(self.tables(), &mut set, self.words_of(work)).result()?;
         Ok(self.members(&set))
     }
 
@@ -464,8 +483,14 @@ impl Game {
     /// # Ok::<(), reckonbough::Refusal>(())
     /// ```
     pub fn show_loop(&self, vertex: usize) -> Result<Run, Refusal> {
+        self.show_loop_in(vertex, &mut WorkArea::new())
+    }
+
+    /// [`show_loop`](Game::show_loop) in a work area that can be used again.
+    pub fn show_loop_in(&self, vertex: usize, work: &mut WorkArea) -> Result<Run, Refusal> {
         let (mut path, mut cycle) = (vec![0; 2 * self.vertices()], vec![0; 2 * self.vertices()]);
-        let (answer, length) = doors::show_loop(self.tables(), vertex as u64, &mut path, &mut cycle, &mut self.work());
+        let work = self.words_of(work);
+        let (answer, length) = doors::show_loop(self.tables(), vertex as u64, &mut path, &mut cycle, work);
         let both = answer.result()? as usize;
         let listed = |list: &[u16]| list.iter().map(|v| usize::from(*v)).collect();
         Ok(Run { path: listed(&path[..length]), cycle: listed(&cycle[..both - length]) })
@@ -476,11 +501,21 @@ impl Game {
     /// Refuses by [`Refusal::BadSize`] where `within` or `target` has not one entry a vertex, and by [`Refusal::StrayBit`] at the
     /// lowest vertex of `target` that is not in `within`.
     pub fn attractor(&self, player: Player, within: &[bool], target: &[bool]) -> Result<Attracted, Refusal> {
+        self.attractor_in(player, within, target, &mut WorkArea::new())
+    }
+
+    /// [`attractor`](Game::attractor) in a work area that can be used again.
+    pub fn attractor_in(
+        &self,
+        player: Player,
+        within: &[bool],
+        target: &[bool],
+        work: &mut WorkArea,
+    ) -> Result<Attracted, Refusal> {
         let (mut set, mut strategy, mut distances) = (self.set(), self.strategy(), self.strategy());
-        let (within, target) = (self.words(within)?, self.words(target)?);
-        let (player, mut work) = (player as u8, self.work());
-        let answer =
-            doors::attractor(self.tables(), player, &within, &target, &mut set, &mut strategy, &mut distances, &mut work);
+        let (within, target, work) = (self.words(within)?, self.words(target)?, self.words_of(work));
+        let (tables, player) = (self.tables(), player as u8);
+        let answer = doors::attractor(tables, player, &within, &target, &mut set, &mut strategy, &mut distances, work);
         let looks = answer.result()?;
         let (strategy, distances) = (choices(&strategy), choices(&distances));
         Ok(Attracted { set: self.members(&set), strategy, distances, looks })
@@ -493,9 +528,20 @@ impl Game {
     /// [`LosingCycle`](Refusal::LosingCycle). A result that was kept without its strategy leaves nothing to check by: where no
     /// vertex has a choice, [`NoStrategy`](Refusal::NoStrategy) stands in the place of `BadEntry`.
     pub fn check(&self, even: &[bool], odd: &[bool], strategy: &[Option<usize>]) -> Result<(), Refusal> {
+        self.check_in(even, odd, strategy, &mut WorkArea::new())
+    }
+
+    /// [`check`](Game::check) in a work area that can be used again.
+    pub fn check_in(
+        &self,
+        even: &[bool],
+        odd: &[bool],
+        strategy: &[Option<usize>],
+        work: &mut WorkArea,
+    ) -> Result<(), Refusal> {
         let entries: Vec<u16> = strategy.iter().map(|choice| entry(*choice)).collect();
         let (even, odd) = (self.words(even)?, self.words(odd)?);
-        doors::check(self.tables(), &even, &odd, &entries, &mut self.work()).result()?;
+        doors::check(self.tables(), &even, &odd, &entries, self.words_of(work)).result()?;
         Ok(())
     }
 
@@ -540,8 +586,8 @@ impl Game {
         vec![NONE; self.vertices()]
     }
 
-    fn work(&self) -> Vec<u64> {
-        vec![0; work_words(self.vertices(), self.edges())]
+    fn words_of<'a>(&self, work: &'a mut WorkArea) -> &'a mut [u64] {
+        work.words(self.vertices(), self.edges())
     }
 
     /// Vertex v stands at bit v % 64 of word v / 64. Members that are not n are no set of this game.

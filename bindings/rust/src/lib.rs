@@ -1,6 +1,6 @@
 //! Reckonbough: parity games, solved by code that is proved correct.
 //!
-//! [`Game`] holds checked tables and sizes every buffer itself. [`doors`] has the library's functions as they are, on slices
+//! [`Game`] holds checked tables and sizes every buffer itself; a [`WorkArea`] is for many calls. [`doors`] has the library's functions as they are, on slices
 //! that the caller lends; each gives an [`Answer`]: a number, a place and a count. The proofs end at the library: this crate
 //! is plain Rust that passes slices on and turns words into sets.
 //!
@@ -21,9 +21,11 @@ mod answer;
 #[allow(unsafe_code)]
 pub mod doors;
 mod game;
+mod work;
 
 pub use answer::{Answer, Refusal};
 pub use game::{Attracted, Edit, Export, Game, Mended, Opinion, Player, Reader, Run, Solved, Tables};
+pub use work::WorkArea;
 
 /// A strategy entry that chooses nothing.
 pub const NONE: u16 = 65_535;

@@ -3,17 +3,15 @@
 use crate::made::{game, Numbers};
 use crate::{Bench, Ended};
 use reckonbough::{Game, MAX_EDGES, MAX_VERTICES};
+use std::fs;
 use std::path::Path;
-use std::process::Command;
-use std::time::{Duration, Instant};
+use std::process::{Command, Stdio};
+use std::time::Duration;
 
 const BUDGET: u64 = 65_536;
-
-fn timed<T>(work: impl FnOnce() -> T) -> (Duration, T) {
-    let begun = Instant::now();
-    let done = work();
-    (begun.elapsed(), done)
-}
+/// How often each program's time is taken, in turns, and over how many runs each time.
+const ROUNDS: usize = 5;
+const RUNS: u32 = 30;
 
 fn full_size(bench: &Bench) -> Game {
     let text = game(&mut Numbers::from(7), MAX_VERTICES, MAX_EDGES, 256);
@@ -45,26 +43,54 @@ fn a_file_of_full_size() {
     assert!(status == 1 && out.starts_with("full.pg no 2") && err.contains(" at vertex "), "{out}{err}");
 }
 
+/// What the four programs took, in the order of [`programs`].
+type Spent = [Duration; 4];
+
 #[test]
 fn the_command_costs_little_more_than_the_library() {
     let bench = Bench::new("cost");
     full_size(&bench);
-    let (mut reading, mut solving, mut command) = (Duration::MAX, Duration::MAX, Duration::MAX);
-    for _ in 0..40 {
-        let (read, solved) = library(&bench);
-        reading = reading.min(read);
-        solving = solving.min(solved);
-        command = command.min(timed(|| assert_eq!(bench.run(&["solve", "full.pg"]).0, 0)).0);
-    }
-    println!("reading {reading:?}, solving {solving:?}, the command {command:?}");
-    assert!(command <= reading + solving.mul_f64(1.3), "reading {reading:?}, solving {solving:?}, command {command:?}");
+    let mut rounds: Vec<Spent> = (0..ROUNDS).map(|_| a_round(&bench)).collect();
+    let mut middle = |program: usize| {
+        rounds.sort_by_key(|spent| spent[program]);
+        rounds[ROUNDS / 2][program]
+    };
+    let [start, read, solve, command] = [middle(0), middle(1), middle(2), middle(3)];
+    let (reading, solving) = (read.saturating_sub(start), solve.saturating_sub(read));
+    let [a, b, c] = [reading, solving, command].map(|spent| spent / RUNS);
+    let said = format!("cost of a file of full size: reading {a:?}, solving {b:?}, the command {c:?}");
+    println!("{said}");
+    assert!(command <= reading + solving.mul_f64(1.3), "{said}");
 }
 
-/// What the library takes to read and to solve the file, in a process of its own.
-fn library(bench: &Bench) -> (Duration, Duration) {
-    let program = Path::new(env!("CARGO_BIN_EXE_reckonbough")).with_file_name("examples").join("library");
-    let output = Command::new(program).arg("full.pg").current_dir(&bench.0).output().unwrap();
-    let text = String::from_utf8(output.stdout).unwrap();
-    let numbers: Vec<u64> = text.split_whitespace().map(|word| word.parse().unwrap()).collect();
-    (Duration::from_nanos(numbers[0]), Duration::from_nanos(numbers[1]))
+/// The library's three steps, each in a process of its own, and the command.
+fn programs(bench: &Bench) -> [Command; 4] {
+    let library = |step: &str| {
+        let program = Path::new(env!("CARGO_BIN_EXE_reckonbough")).with_file_name("examples").join("library");
+        let mut command = Command::new(program);
+        command.args([step, "full.pg"]).current_dir(&bench.0).stdin(Stdio::null());
+        command
+    };
+    [library("start"), library("read"), library("solve"), bench.command(&["solve", "full.pg"])]
+}
+
+/// Each program in turn, some runs of each.
+fn a_round(bench: &Bench) -> Spent {
+    programs(bench).map(|mut program| {
+        let before = spent();
+        for _ in 0..RUNS {
+            assert!(program.output().unwrap().status.success());
+        }
+        spent() - before
+    })
+}
+
+/// The processor time of all processes that were started here and have ended, in the system's ticks of a hundredth of a second.
+/// Other work on the machine makes a process wait, which takes no processor time.
+fn spent() -> Duration {
+    let stat = fs::read_to_string("/proc/self/stat").unwrap();
+    // behind the name, which is in brackets, the state is the first word
+    let words: Vec<&str> = stat.rsplit_once(')').unwrap().1.split_whitespace().collect();
+    let ticks: u64 = words[13..15].iter().map(|word| word.parse::<u64>().unwrap()).sum();
+    Duration::from_millis(10 * ticks)
 }

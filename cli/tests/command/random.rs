@@ -1,5 +1,6 @@
 //! 10,000 random files: the command's lines are those of the proved program wherever both read the file. RECKONBOUGH_A1 has the
-//! words of the program's command, one a line.
+//! words of the program's command, one a line. Where RECKONBOUGH_A1_NATIVE names the program as compiled for this machine, it is run
+//! on every file, and the other on one in fifty.
 
 use crate::made::{text, Numbers};
 use crate::{Bench, Ended};
@@ -9,6 +10,21 @@ use std::thread;
 
 const FILES: usize = 10_000;
 
+/// The proved program: the words that run it, and on which files.
+struct Program {
+    words: Vec<String>,
+    every: usize,
+}
+
+fn programs() -> Vec<Program> {
+    let words = std::env::var("RECKONBOUGH_A1").expect("RECKONBOUGH_A1 has the proved program's words, one a line");
+    let words = words.lines().map(String::from).collect();
+    match std::env::var("RECKONBOUGH_A1_NATIVE") {
+        Ok(native) => vec![Program { words: vec![native], every: 1 }, Program { words, every: 50 }],
+        Err(_) => vec![Program { words, every: 1 }],
+    }
+}
+
 fn proved(bench: &Bench, words: &[String], name: &str) -> String {
     let input = File::open(bench.0.join(name)).unwrap();
     let output = Command::new(&words[0]).args(&words[1..]).stdin(input).stderr(Stdio::inherit()).output().unwrap();
@@ -17,9 +33,7 @@ fn proved(bench: &Bench, words: &[String], name: &str) -> String {
 
 #[test]
 fn lines_equal_the_proved_programs() {
-    let words = std::env::var("RECKONBOUGH_A1").expect("RECKONBOUGH_A1 has the proved program's words, one a line");
-    let words: Vec<String> = words.lines().map(String::from).collect();
-    let bench = Bench::new("random");
+    let (bench, programs) = (Bench::new("random"), programs());
     let mut numbers = Numbers::from(1);
     let names: Vec<String> = (0..FILES).map(|index| format!("{index}.pg")).collect();
     names.iter().for_each(|name| bench.file(name, text(&mut numbers)));
@@ -27,19 +41,19 @@ fn lines_equal_the_proved_programs() {
     let Ended(status, out, err) = bench.run(&given);
     assert_eq!((status, err.as_str(), out.lines().count()), (1, "", FILES));
     let lines: Vec<&str> = out.lines().collect();
-    let parts: Vec<_> = names.iter().zip(&lines).collect();
-    let refused: usize = thread::scope(|scope| {
-        let work =
-            |part: &[(&String, &&str)]| part.iter().filter(|(name, line)| same(&bench, &words, name, line)).count();
-        let halves: Vec<_> = parts.chunks(FILES / 2).map(|part| scope.spawn(move || work(part))).collect();
-        halves.into_iter().map(|half| half.join().unwrap()).sum()
-    });
+    let refused = lines.iter().filter(|line| line.contains(" refused ")).count();
     assert!(refused > FILES / 10 && refused < FILES / 2, "{refused} refused");
+    let work = |half: usize| {
+        for index in (half..FILES).step_by(2) {
+            let asked = programs.iter().filter(|program| index / 2 % program.every == 0);
+            asked.for_each(|program| same(&bench, &program.words, &names[index], lines[index]));
+        }
+    };
+    thread::scope(|scope| [0, 1].map(|half| scope.spawn(move || work(half))).map(|half| half.join().unwrap()));
 }
 
-/// Compares the two lines; gives back whether the file was refused. These texts keep the program's limits.
-fn same(bench: &Bench, words: &[String], name: &str, line: &str) -> bool {
+/// Compares the two lines. These texts keep the program's limits.
+fn same(bench: &Bench, words: &[String], name: &str, line: &str) {
     let expected = proved(bench, words, name).replacen("file", name, 1);
     assert_eq!(format!("{line}\n"), expected);
-    line.contains(" refused ")
 }

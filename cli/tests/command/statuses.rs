@@ -1,7 +1,12 @@
 //! Exit statuses and sentences.
 
+use crate::made::{self, Numbers};
 use crate::{ended, Bench, Ended, C7};
+use reckonbough::{MAX_EDGES, MAX_VERTICES};
+use std::fs::File;
+use std::os::unix::process::ExitStatusExt;
 use std::process::{Command, Stdio};
+use std::thread;
 use std::time::{Duration, Instant};
 
 #[test]
@@ -34,17 +39,17 @@ fn a_wrong_command_line_is_2() {
 fn refused_and_unreadable_files_are_said_and_the_others_go_on() {
     let bench = Bench::new("go_on");
     bench.file("c7.pg", C7);
-    bench.file("game.pg", "parity 2;\n0 2 0 1;\n1 0 1 0,1, ;\n2 0 0 1;\n");
+    bench.file("game.pg", "parity 2;\n0 2 0 1 \"the meter of the house\";\n1 0 1 0,1,2, ;\n2 0 0 1;\n");
     let Ended(status, out, err) = bench.run(&["solve", "game.pg", "nowhere.pg", ".", "c7.pg"]);
     assert_eq!(
         (status, out.as_str()),
-        (1, "game.pg refused 30 30\nnowhere.pg unreadable\n. unreadable\nc7.pg 00 3 3\n")
+        (1, "game.pg refused 30 57\nnowhere.pg unreadable\n. unreadable\nc7.pg 00 3 3\n")
     );
     let lines: Vec<&str> = err.lines().collect();
-    assert_eq!(lines[0], "game.pg:3:12: a target is missing after the comma (30 at byte 30)");
+    assert_eq!(lines[0], "game.pg:3:14: a target is missing after the comma (30 at byte 57)");
     assert!(lines[1].starts_with("nowhere.pg: the file cannot be read"));
     assert!(lines[2].starts_with(".: the file cannot be read"));
-    assert_eq!(bench.run(&["--quiet", "solve", "game.pg"]), ended(1, "game.pg refused 30 30\n", ""));
+    assert_eq!(bench.run(&["--quiet", "solve", "game.pg"]), ended(1, "game.pg refused 30 57\n", ""));
 }
 
 #[test]
@@ -104,18 +109,46 @@ fn limits_of_a_text() {
         bench.run_on(&["solve"], edges.as_bytes()).2,
         "-:1:32775: there are more than 16384 edges (32 at byte 32774)\n"
     );
+    let most = crate::C7.to_string() + &" ".repeat((1 << 24) - crate::C7.len());
+    assert_eq!(bench.run_on(&["solve"], most.as_bytes()), ended(0, "- 00 3 3\n", ""));
     let long = " ".repeat((1 << 24) + 5);
     let sentence = "-:1:16777217: the text is longer than 16777216 bytes (32 at byte 16777216)\n";
     assert_eq!(bench.run_on(&["solve"], long.as_bytes()).2, sentence);
 }
 
 #[test]
-fn an_interrupt_stops_at_once() {
-    let bench = Bench::new("interrupt");
-    let mut child = bench.command(&["solve"]).stdin(Stdio::piped()).spawn().unwrap();
-    std::thread::sleep(Duration::from_millis(200));
+fn what_cannot_be_written_is_said() {
+    let bench = Bench::new("unwritable");
+    bench.file("c7.pg", C7);
+    let Ended(status, out, err) = bench.run(&["solve", "c7.pg", "--solution", "no/such/folder"]);
+    assert_eq!((status, out.as_str()), (1, "c7.pg 00 3 3\n"));
+    assert!(err.starts_with("no/such/folder: the file cannot be written"), "{err}");
+    let full = File::options().write(true).open("/dev/full").unwrap();
+    let output = bench.command(&["compact", "c7.pg"]).stdout(full).stderr(Stdio::piped()).output().unwrap();
+    assert_eq!(output.status.code(), Some(1));
+    assert!(String::from_utf8_lossy(&output.stderr).starts_with("standard output cannot be written"));
+}
+
+/// An interrupt as Ctrl-C sends it: the command has ended within two seconds, by the signal.
+fn interrupted(mut command: Command) {
+    let mut child = command.stdout(Stdio::null()).stderr(Stdio::null()).spawn().unwrap();
+    thread::sleep(Duration::from_millis(300));
+    assert!(child.try_wait().unwrap().is_none(), "it has ended by itself");
     let begun = Instant::now();
     assert!(Command::new("kill").args(["-INT", &child.id().to_string()]).status().unwrap().success());
-    assert_eq!(child.wait().unwrap().code(), None);
+    assert_eq!(child.wait().unwrap().signal(), Some(2));
     assert!(begun.elapsed() < Duration::from_secs(2));
+}
+
+#[test]
+fn an_interrupt_stops_at_once() {
+    let bench = Bench::new("interrupt");
+    // while it waits for standard input
+    let mut waiting = bench.command(&["solve"]);
+    waiting.stdin(Stdio::piped());
+    interrupted(waiting);
+    // while all threads solve
+    bench.file("full.pg", made::game(&mut Numbers::from(7), MAX_VERTICES, MAX_EDGES, 256));
+    let words: Vec<&str> = ["solve", "--engine", "all"].into_iter().chain(["full.pg"; 2000]).collect();
+    interrupted(bench.command(&words));
 }

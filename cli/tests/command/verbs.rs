@@ -139,6 +139,10 @@ fn loops_and_pictures() {
     bench.file("c8.pg", C8);
     bench.file("c7.sol", "paritysol 1; 0 0 1; 1 0;");
     assert_eq!(bench.run(&["loop", "c8.pg", "0"]), ended(0, "0 → (1 → 2 → 1)\n", ""));
+    // every other vertex has a self loop that Odd wins
+    let way = |v| [(17, 4), (4, 9), (9, 2), (2, 9)].iter().find(|(from, _)| *from == v).map_or(v, |(_, to)| *to);
+    let long: String = (0..18).map(|v| format!("{v} {} 0 {};", if v == 9 { 2 } else { 1 }, way(v))).collect();
+    assert_eq!(bench.run_on(&["loop", "-", "17"], long.as_bytes()), ended(0, "17 → 4 → (9 → 2 → 9)\n", ""));
     let none = "c8.pg: no cycle that Even wins can be reached from vertex 3 (46 at vertex 3)\n";
     assert_eq!(bench.run(&["loop", "c8.pg", "3"]), ended(1, "", none));
     assert_eq!(
