@@ -10,8 +10,9 @@ use std::sync::atomic::{AtomicUsize, Ordering};
 use std::sync::mpsc;
 use std::thread;
 
-/// Zielonka's recursion needs 2 MiB at most; the rest is for what is around it.
-const STACK: usize = 8 << 20;
+/// Zielonka's recursion needs 2 MiB at most; the rest is for what is around it. A multiple of 2 MiB would be given as large pages
+/// where the system has them for everything, and cleared whole.
+const STACK: usize = 3 << 20;
 
 /// Does the work on each file and takes the results in order. Gives back whether that could be done.
 pub fn in_order<T: Send>(
@@ -24,7 +25,7 @@ pub fn in_order<T: Send>(
     let (sender, receiver) = mpsc::channel();
     thread::scope(|scope| {
         let mut started = 0;
-        for _ in 0..threads().min(files.len()) {
+        for _ in 0..threads(files.len()) {
             let (sender, next, work) = (sender.clone(), &next, &work);
             let worker = move || {
                 let mut area = WorkArea::new();
@@ -59,8 +60,12 @@ fn following<'a>(files: &'a [PathBuf], next: &AtomicUsize) -> Option<(usize, &'a
     files.get(index).map(|file| (index, file))
 }
 
-fn threads() -> usize {
-    thread::available_parallelism().map_or(1, |cores| cores.get())
+/// One a core, and no more than there are files; for one file nobody has to ask how many cores there are.
+fn threads(files: usize) -> usize {
+    match files {
+        0 | 1 => files,
+        _ => thread::available_parallelism().map_or(1, |cores| cores.get()).min(files),
+    }
 }
 
 /// A bar on standard error where that is a terminal and there is more than one file.

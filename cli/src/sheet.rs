@@ -52,13 +52,13 @@ pub fn file(path: &Path, budget: u64, work: &mut WorkArea) -> Part {
 
 /// As much of the text as the library reads, and the SHA-256 of the whole.
 fn read(path: &Path) -> io::Result<(Vec<u8>, String)> {
-    let mut reader = input::open(path)?;
-    let text = input::front(&mut *reader)?;
+    let mut source = input::open(path)?;
+    let text = input::front(&mut source)?;
     let mut hash = Sha256::new();
     hash.update(&text);
     let mut rest = vec![0; 1 << 16];
     loop {
-        match reader.read(&mut rest) {
+        match source.reader.read(&mut rest) {
             Ok(0) => break,
             Ok(length) => hash.update(&rest[..length]),
             Err(error) if error.kind() == io::ErrorKind::Interrupted => {}

@@ -40,8 +40,8 @@ fn answer(name: &str, ran: &Ran, options: &Options) -> Said {
         Some(odd) => odd,
         None => return Said::bad(line, format!("{name}: the budget of {budget} is too small (13)")),
     };
-    let claim = ran.solved().map_or_else(|| Claim::without_choices(odd), Claim::of);
-    match options.solution.as_deref().map(|out| write(out, &claim)) {
+    let claim = || ran.solved().map_or_else(|| Claim::without_choices(odd), Claim::of);
+    match options.solution.as_deref().map(|out| write(out, &claim())) {
         Some(Err(why)) => Said::bad(line, why),
         _ => Said::good(line),
     }

@@ -60,6 +60,7 @@ fn the_command_costs_little_more_than_the_library() {
     let [a, b, c] = [reading, solving, command].map(|spent| spent / RUNS);
     let said = format!("cost of a file of full size: reading {a:?}, solving {b:?}, the command {c:?}");
     println!("{said}");
+    assert!(solving > Duration::ZERO, "the system counts no processor time: {said}");
     assert!(command <= reading + solving.mul_f64(1.3), "{said}");
 }
 

@@ -149,6 +149,6 @@ fn an_interrupt_stops_at_once() {
     interrupted(waiting);
     // while all threads solve
     bench.file("full.pg", made::game(&mut Numbers::from(7), MAX_VERTICES, MAX_EDGES, 256));
-    let words: Vec<&str> = ["solve", "--engine", "all"].into_iter().chain(["full.pg"; 2000]).collect();
+    let words: Vec<&str> = ["solve", "--engine", "all"].into_iter().chain(["full.pg"; 20_000]).collect();
     interrupted(bench.command(&words));
 }
