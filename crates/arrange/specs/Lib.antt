@@ -1,9 +1,4 @@
--- What the steps at the end of reading promise, and why.
-pub mod Once
-pub mod Said
-pub mod Cleared
-pub mod Promises
-pub mod Steps
+-- Why the tables are in order afterwards, and what callers go by.
 pub mod Placing
 pub mod Ordering
 pub mod Laws

@@ -9,7 +9,7 @@ use Rattle.rules.specs.Reading as Rules
 use Rattle.rules.specs.Reading.{Rooms, Written, roomChecks, ReadsBy, ReadsText}
 use Rattle.arrange.specs.Laws.{roomsOf, Alike}
 use Rattle.parity_game.specs.Said.{refusal}
-use Rattle.pgsolver_moves.specs.declared.state.State.{State}
+use Rattle.pgsolver_acts.specs.declared.state.State.{State}
 use Rattle.pgsolver_portion.specs.declared.take.Taken.{Taken}
 use Rattle.pgsolver_portion.specs.declared.take.Taken.the-variants.{On, Refused}
 use Rattle.pgsolver_portion.specs.Reached.{Reached, Stopped, Begins, begins-reached, TakenAs, Takes}

@@ -1,6 +1,4 @@
 // The public functions: a text read into lent tables, for every input.
-use arrange::Fits;
-use arrange::check_rooms;
 use parity_game::Answer;
 use parity_game::BAD_SIZE;
 use parity_game::SHORT_WORK;
@@ -10,6 +8,8 @@ use pgsolver_finish::finish::refuse;
 use pgsolver_portion::begin::begin;
 use pgsolver_portion::take::Taken;
 use pgsolver_portion::take::take_portion;
+use reading_rooms::Fits;
+use reading_rooms::check_rooms;
 ghost use mathlib.Core.Path.{_≡_};
 ghost use lib.ListN.{length};
 ghost use Rattle.rules.specs.Reading as Reading;

@@ -16,7 +16,7 @@ use Rattle.rules.specs.Portions.{Emptied, Unless, Started, Further, Portioned, 
 use Rattle.rules.specs.Portions.{Session, Goes}
 use Rattle.grammar.specs.OneReading.{reads-one}
 use Rattle.grammar.specs.SoFar.{so-far-longer}
-use Rattle.arrange.specs.Cleared.{all-zero-holding}
+use Rattle.reading_rooms.specs.Cleared.{all-zero-holding}
 use Rattle.arrange.specs.Laws.{Alike}
 use Rattle.parity_game.specs.Said.{refusal}
 use Rattle.pgsolver_end.specs.Told.{told-alike}

@@ -1,7 +1,4 @@
 // The end is announced.
-use arrange::Fits;
-use arrange::check_rooms;
-use arrange::clear_work;
 use parity_game::Answer;
 use parity_game::BAD_SIZE;
 use parity_game::SHORT_WORK;
@@ -10,6 +7,9 @@ use pgsolver_finish::finish::Asks;
 use pgsolver_words::words::found;
 use pgsolver_words::words::give;
 use pgsolver_words::words::place_found;
+use reading_rooms::Fits;
+use reading_rooms::check_rooms;
+use reading_rooms::clear_work;
 ghost use mathlib.Core.Path.{_≡_};
 ghost use Prim.Native.Nat.{_+_, _≤_};
 ghost use lib.ListN.{length};

@@ -13,14 +13,14 @@ use Rattle.grammar.specs.Machine as Machine
 use Rattle.grammar.specs.Machine.{Machine, Run, endOf, readingOf, Read, nothingRead, mayEnd}
 use Rattle.grammar.specs.Waiting.{Waits}
 use Rattle.theory.specs.Basics.{clash}
-use Rattle.pgsolver_moves.specs.declared.state.Phase.{Phase}
-use Rattle.pgsolver_moves.specs.declared.state.Phase.the-variants.{AtStart, InWord, PastWord, InHighest, PastHighest}
-use Rattle.pgsolver_moves.specs.declared.state.Phase.the-variants.{BetweenRecords}
-use Rattle.pgsolver_moves.specs.declared.state.Phase.the-variants.{InIdentifier, PastIdentifier, InPriority, PastPriority}
-use Rattle.pgsolver_moves.specs.declared.state.Phase.the-variants.{InOwner, PastOwner, InTarget, PastTarget, PastComma, InName}
-use Rattle.pgsolver_moves.specs.declared.state.Phase.the-variants.{PastName}
-use Rattle.pgsolver_moves.specs.declared.state.State.{State}
-use Rattle.pgsolver_moves.specs.Shown.{phaseOf, isSaid, saidOf}
+use Rattle.pgsolver_acts.specs.declared.state.Phase.{Phase}
+use Rattle.pgsolver_acts.specs.declared.state.Phase.the-variants.{AtStart, InWord, PastWord, InHighest, PastHighest}
+use Rattle.pgsolver_acts.specs.declared.state.Phase.the-variants.{BetweenRecords}
+use Rattle.pgsolver_acts.specs.declared.state.Phase.the-variants.{InIdentifier, PastIdentifier, InPriority, PastPriority}
+use Rattle.pgsolver_acts.specs.declared.state.Phase.the-variants.{InOwner, PastOwner, InTarget, PastTarget, PastComma, InName}
+use Rattle.pgsolver_acts.specs.declared.state.Phase.the-variants.{PastName}
+use Rattle.pgsolver_acts.specs.declared.state.State.{State}
+use Rattle.pgsolver_acts.specs.Shown.{phaseOf, isSaid, saidOf}
 use Rattle.pgsolver_step.specs.Follows.{Standing}
 use Rattle.pgsolver_step.specs.Portions.{Remains, limitsIn}
 use Rattle.pgsolver_portion.specs.Reached.{runOver, Reached}

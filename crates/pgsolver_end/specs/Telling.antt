@@ -11,11 +11,11 @@ use Rattle.rules.specs.Pgsolver.{Entry, Header, unsaid, highest}
 use Rattle.rules.specs.Reading.{Limits, Rooms, check31, targetsIn, tablesRead, holding}
 use Rattle.grammar.specs.Machine.{Read, readingOf, nothingRead}
 use Rattle.arrange.specs.Laws.{roomsOf, seen-checks, check31-once, waits-ready, ordered-holding, sizes-read}
-use Rattle.arrange.specs.Once.{Once}
-use Rattle.arrange.specs.Promises.{Ready, Orders}
-use Rattle.arrange.specs.Said.{headerFrom, seenChecks}
-use Rattle.pgsolver_moves.specs.declared.state.State.{State}
-use Rattle.pgsolver_moves.specs.Shown.{isSaid, saidOf}
+use Rattle.arrange_steps.specs.Once.{Once}
+use Rattle.arrange_steps.specs.Promises.{Ready, Orders}
+use Rattle.reading_rooms.specs.Said.{headerFrom, seenChecks}
+use Rattle.pgsolver_acts.specs.declared.state.State.{State}
+use Rattle.pgsolver_acts.specs.Shown.{isSaid, saidOf}
 use Rattle.pgsolver_step.specs.Portions.{limitsIn}
 use Rattle.pgsolver_portion.specs.Reached.{Reached}
 use Rattle.pgsolver_end.specs.declared.tell.Told.{Told}

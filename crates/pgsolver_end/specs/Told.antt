@@ -21,7 +21,7 @@ use Rattle.grammar.specs.Correct.{machine-reads}
 use Rattle.grammar.specs.Machine.{Run, Read, readingOf, endOf, nothingRead}
 use Rattle.arrange.specs.Laws.{roomsOf, Alike, alike-holding}
 use Rattle.parity_game.specs.Said.{refusal}
-use Rattle.pgsolver_moves.specs.declared.state.State.{State}
+use Rattle.pgsolver_acts.specs.declared.state.State.{State}
 use Rattle.pgsolver_step.specs.Steps.{Fitting}
 use Rattle.pgsolver_portion.specs.Reached.{Reached, Stopped}
 use Rattle.pgsolver_finish.specs.Finishing.{Area, Finishable, fronts, left, Finishes, Wiped}

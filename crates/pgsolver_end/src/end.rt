@@ -2,10 +2,10 @@
 use crate::tell::Told;
 use crate::tell::tell;
 use parity_game::Answer;
+use pgsolver_acts::state::State;
 use pgsolver_finish::finish::Asks;
 use pgsolver_finish::finish::finish;
 use pgsolver_finish::finish::refuse;
-use pgsolver_moves::state::State;
 ghost use mathlib.Core.Path.{_≡_};
 ghost use Rattle.parity_game.specs.Said.{said};
 ghost use Rattle.arrange.specs.Laws.{roomsOf};

@@ -1,9 +1,9 @@
 // What the bytes so far say once they are all: their records in order in the tables, or 30 at their end, or 31.
-use arrange::Identifiers;
 use arrange::arrange;
-use arrange::check_identifiers;
-use pgsolver_moves::state::Phase;
-use pgsolver_moves::state::State;
+use pgsolver_acts::state::Phase;
+use pgsolver_acts::state::State;
+use reading_rooms::Identifiers;
+use reading_rooms::check_identifiers;
 ghost use mathlib.Core.Path.{_≡_};
 ghost use Prim.Native.Nat.{min};
 ghost use Rattle.pgsolver_end.specs.Ending.{mayEndOn};

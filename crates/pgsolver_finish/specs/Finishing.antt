@@ -9,7 +9,7 @@ use Rattle.rules.specs.Reading as Reading
 use Rattle.rules.specs.Reading.{Rooms, Written, readingWords, holding, noTables, listAsked}
 use Rattle.rules.specs.Tables.{Tables, tablesOf, tableChecks}
 use Rattle.parity_game.specs.Laws.{Numbered, numbered-tables, zero-none}
-use Rattle.arrange.specs.Cleared.{AllZero, all-zero-holding}
+use Rattle.reading_rooms.specs.Cleared.{AllZero, all-zero-holding}
 use Rattle.arrange.specs.Laws.{roomsOf}
 use Rattle.pgsolver_finish.specs.declared.finish.Asks.{Asks}
 use Rattle.pgsolver_finish.specs.declared.finish.Asks.the-variants.{Text, Game}

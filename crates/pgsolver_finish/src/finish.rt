@@ -1,6 +1,6 @@
 // Document 01's list where it is asked for, and what a refusal leaves.
-use arrange::clear_rooms;
 use parity_game::Answer;
+use reading_rooms::clear_rooms;
 ghost use mathlib.Core.Path.{_≡_};
 ghost use Prim.Native.Nat.{_+_};
 ghost use lib.ListN.{length, take};

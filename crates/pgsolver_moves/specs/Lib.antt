@@ -1,5 +1,2 @@
--- What the code's states mean in the words of the machine, and what a byte asks for and does to them.
-pub mod Shown
-pub mod Acts
+-- What a byte does to the states.
 pub mod Moves
-pub mod Classes

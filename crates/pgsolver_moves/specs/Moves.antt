@@ -5,21 +5,21 @@ use lib.Dec.{eqb, ltb, leb}
 use lib.ListN.{getD}
 use Rattle.rules.specs.Pgsolver.{parityWord}
 use Rattle.rules.specs.Reading.{highestNumber}
-use Rattle.pgsolver_moves.specs.declared.state.Phase.{Phase}
-use Rattle.pgsolver_moves.specs.declared.state.Phase.the-variants.{AtStart, InWord, PastWord, InHighest, PastHighest}
-use Rattle.pgsolver_moves.specs.declared.state.Phase.the-variants.{BetweenRecords}
-use Rattle.pgsolver_moves.specs.declared.state.Phase.the-variants.{InIdentifier, PastIdentifier, InPriority}
-use Rattle.pgsolver_moves.specs.declared.state.Phase.the-variants.{PastPriority, InOwner, PastOwner}
-use Rattle.pgsolver_moves.specs.declared.state.Phase.the-variants.{InTarget, PastTarget, PastComma, InName, PastName}
-use Rattle.pgsolver_moves.specs.declared.state.State.{State}
-use Rattle.pgsolver_moves.specs.declared.acts.Act.{Act}
-use Rattle.pgsolver_moves.specs.declared.acts.Act.the-variants.{Stay, Off, To, Spell, Begin, BeginIdentifier}
-use Rattle.pgsolver_moves.specs.declared.acts.Act.the-variants.{BeginTarget, More}
-use Rattle.pgsolver_moves.specs.declared.acts.Act.the-variants.{Head, Identify, Rank, Own, Aim, AimClose, Close}
+use Rattle.pgsolver_acts.specs.declared.state.Phase.{Phase}
+use Rattle.pgsolver_acts.specs.declared.state.Phase.the-variants.{AtStart, InWord, PastWord, InHighest, PastHighest}
+use Rattle.pgsolver_acts.specs.declared.state.Phase.the-variants.{BetweenRecords}
+use Rattle.pgsolver_acts.specs.declared.state.Phase.the-variants.{InIdentifier, PastIdentifier, InPriority}
+use Rattle.pgsolver_acts.specs.declared.state.Phase.the-variants.{PastPriority, InOwner, PastOwner}
+use Rattle.pgsolver_acts.specs.declared.state.Phase.the-variants.{InTarget, PastTarget, PastComma, InName, PastName}
+use Rattle.pgsolver_acts.specs.declared.state.State.{State}
+use Rattle.pgsolver_acts.specs.declared.acts.Act.{Act}
+use Rattle.pgsolver_acts.specs.declared.acts.Act.the-variants.{Stay, Off, To, Spell, Begin, BeginIdentifier}
+use Rattle.pgsolver_acts.specs.declared.acts.Act.the-variants.{BeginTarget, More}
+use Rattle.pgsolver_acts.specs.declared.acts.Act.the-variants.{Head, Identify, Rank, Own, Aim, AimClose, Close}
 use Rattle.pgsolver_moves.specs.declared.moves.Move as Move
 use Rattle.pgsolver_moves.specs.declared.moves.Move.{Move}
 use Rattle.pgsolver_moves.specs.declared.moves.Move.the-variants as Moves
-use Rattle.pgsolver_moves.specs.Shown.{toPhase, readingOn, headedOn, identifiedOn, rankedOn, ownedOn, aimedOn, closedOn}
+use Rattle.pgsolver_acts.specs.Shown.{toPhase, readingOn, headedOn, identifiedOn, rankedOn, ownedOn, aimedOn, closedOn}
 
 -- the value of a digit, and of a number with one digit more
 abbrev pub digitOf : ℕ → ℕ

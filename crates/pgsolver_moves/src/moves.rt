@@ -1,14 +1,14 @@
 // What a byte does to the state, over numbers alone: what its class asks for in the phase, done.
-use crate::acts::Act;
-use crate::acts::act_on;
-use crate::class::class_of;
-use crate::state::Phase;
-use crate::state::State;
+use pgsolver_acts::acts::Act;
+use pgsolver_acts::acts::act_on;
+use pgsolver_acts::class::class_of;
+use pgsolver_acts::state::Phase;
+use pgsolver_acts::state::State;
 ghost use mathlib.Core.Path.{_≡_};
 ghost use lib.ListN.{getD};
 ghost use Rattle.rules.specs.Pgsolver.{parityWord};
 ghost use Rattle.grammar.specs.Machine.{classOf};
-ghost use Rattle.pgsolver_moves.specs.Acts.{actOn};
+ghost use Rattle.pgsolver_acts.specs.Acts.{actOn};
 ghost use Rattle.pgsolver_moves.specs.Moves.{moreOn, beginsOn, spelledOn, moveOf};
 
 pub enum Move {

@@ -15,9 +15,9 @@ use Rattle.rules.specs.Reading.{Limits, targetsIn}
 use Rattle.grammar.specs.Machine.{Machine, atFirst, Run, live, ended, runFrom}
 use Rattle.grammar.specs.Runs.{run-append}
 use Rattle.grammar.specs.Waiting.{Waits, inText}
-use Rattle.arrange.specs.Cleared.{TablesZero, zeros}
-use Rattle.pgsolver_moves.specs.declared.state.State.{State}
-use Rattle.pgsolver_moves.specs.Shown.{stateOf}
+use Rattle.reading_rooms.specs.Cleared.{TablesZero, zeros}
+use Rattle.pgsolver_acts.specs.declared.state.State.{State}
+use Rattle.pgsolver_acts.specs.Shown.{stateOf}
 use Rattle.pgsolver_step.specs.declared.portion.Portion.{Portion}
 use Rattle.pgsolver_step.specs.declared.portion.Portion.the-variants.{Reading, Stuck, Beyond}
 use Rattle.pgsolver_step.specs.Steps.{Fitting, Holds, limits}

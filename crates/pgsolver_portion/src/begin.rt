@@ -1,10 +1,10 @@
 // Before the first byte.
-use arrange::clear_tables;
-use pgsolver_moves::state::Phase;
-use pgsolver_moves::state::State;
+use pgsolver_acts::state::Phase;
+use pgsolver_acts::state::State;
+use reading_rooms::clear_tables;
 ghost use mathlib.Core.Path.{_≡_};
 ghost use Rattle.grammar.specs.Machine.{atFirst};
-ghost use Rattle.pgsolver_moves.specs.Shown.{stateOf};
+ghost use Rattle.pgsolver_acts.specs.Shown.{stateOf};
 ghost use Rattle.pgsolver_step.specs.Steps.{Fitting};
 ghost use Rattle.pgsolver_portion.specs.Reached.{Begins};
 

@@ -1,8 +1,8 @@
 // One portion more. A refusal of one of its bytes leaves every entry of the tables zero.
-use arrange::clear_tables;
-use pgsolver_moves::state::State;
+use pgsolver_acts::state::State;
 use pgsolver_step::portion::Portion;
 use pgsolver_step::portion::read_portion;
+use reading_rooms::clear_tables;
 ghost use mathlib.Core.Path.{_≡_};
 ghost use Rattle.pgsolver_step.specs.Steps.{Fitting};
 ghost use Rattle.pgsolver_portion.specs.Reached.{Takes};

@@ -10,7 +10,7 @@ use Rattle.rules.specs.Outcome.{Outcome, Verdict, none, refused, given, _then_}
 use Rattle.rules.specs.Portions.{Lent, lentChecks, Unless}
 use Rattle.theory.specs.Basics.{bool-cases, or-false-both}
 use Rattle.theory.specs.Tables.{then-none, given-none}
-use Rattle.arrange.specs.Said.{sizeChecks}
+use Rattle.reading_rooms.specs.Said.{sizeChecks}
 use Rattle.parity_game.specs.Said.{refusal}
 use Rattle.pgsolver_serial.specs.Stands.{FitLent}
 use mathlib.Core.Logic.{⊎-elim}

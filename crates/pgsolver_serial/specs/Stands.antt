@@ -10,9 +10,9 @@ use Rattle.rules.specs.Reading.{Limits}
 use Rattle.rules.specs.Portions.{SoFar, reading, over, Lent, Meaning, limitsWith, Kept, Further, Portioned}
 use Rattle.grammar.specs.Machine.{live, ended}
 use Rattle.grammar.specs.SoFar.{run-so-far}
-use Rattle.arrange.specs.Cleared.{TablesZero}
+use Rattle.reading_rooms.specs.Cleared.{TablesZero}
 use Rattle.parity_game.specs.Said.{refusal}
-use Rattle.pgsolver_moves.specs.declared.state.State.{State}
+use Rattle.pgsolver_acts.specs.declared.state.State.{State}
 use Rattle.pgsolver_step.specs.Steps.{Fitting}
 use Rattle.pgsolver_portion.specs.declared.take.Taken.{Taken}
 use Rattle.pgsolver_portion.specs.declared.take.Taken.the-variants.{On, Refused}

@@ -1,6 +1,4 @@
 // One portion more.
-use arrange::Fits;
-use arrange::check_rooms;
 use parity_game::Answer;
 use parity_game::BAD_SIZE;
 use parity_game::SHORT_WORK;
@@ -10,6 +8,8 @@ use pgsolver_words::words::found;
 use pgsolver_words::words::give;
 use pgsolver_words::words::keep;
 use pgsolver_words::words::place_found;
+use reading_rooms::Fits;
+use reading_rooms::check_rooms;
 ghost use mathlib.Core.Path.{_≡_};
 ghost use Rattle.rules.specs.Portions.{ReadsPortion, Portioned};
 ghost use Rattle.parity_game.specs.Said.{said};

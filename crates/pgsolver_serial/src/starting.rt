@@ -1,11 +1,11 @@
 // A fresh start.
-use arrange::Fits;
-use arrange::check_rooms;
 use parity_game::Answer;
 use parity_game::BAD_SIZE;
 use parity_game::SHORT_WORK;
 use pgsolver_portion::begin::begin;
 use pgsolver_words::words::keep;
+use reading_rooms::Fits;
+use reading_rooms::check_rooms;
 ghost use mathlib.Core.Path.{_≡_};
 ghost use Rattle.rules.specs.Portions.{StartsText};
 ghost use Rattle.parity_game.specs.Said.{said};

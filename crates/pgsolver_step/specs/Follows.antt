@@ -15,16 +15,16 @@ use Rattle.grammar.specs.Machine as Machine
 use Rattle.grammar.specs.Machine.{Machine, Went, on, off, over, classOf, stepFrom, targetsRead, longer, isLetter}
 use Rattle.grammar.specs.Machine.{to, reading, headed, identified, ranked, owned, aimed, closed, more, begins}
 use Rattle.theory.specs.Basics.{clash, and-left, and-right}
-use Rattle.pgsolver_moves.specs.declared.state.State.{State}
-use Rattle.pgsolver_moves.specs.declared.state.Phase.the-variants.{InWord, PastWord, BetweenRecords}
-use Rattle.pgsolver_moves.specs.declared.acts.Act.the-variants as Acts
-use Rattle.pgsolver_moves.specs.declared.acts.Act.the-variants.{To}
+use Rattle.pgsolver_acts.specs.declared.state.State.{State}
+use Rattle.pgsolver_acts.specs.declared.state.Phase.the-variants.{InWord, PastWord, BetweenRecords}
+use Rattle.pgsolver_acts.specs.declared.acts.Act.the-variants as Acts
+use Rattle.pgsolver_acts.specs.declared.acts.Act.the-variants.{To}
 use Rattle.pgsolver_moves.specs.declared.moves.Move.{Move}
 use Rattle.pgsolver_moves.specs.declared.moves.Move.the-variants.{On, Off, Over, Aim, Close, AimClose}
-use Rattle.pgsolver_moves.specs.Shown.{phaseOf, stateOf, counted, toPhase, readingOn, headedOn, identifiedOn, rankedOn}
-use Rattle.pgsolver_moves.specs.Shown.{ownedOn}
-use Rattle.pgsolver_moves.specs.Shown.{aimedOn, closedOn, isSaid, saidOf}
-use Rattle.pgsolver_moves.specs.Acts.{onSeparator, onDigit, onComma, onSemicolon, onQuote, onLetter, onOther, actOn}
+use Rattle.pgsolver_acts.specs.Shown.{phaseOf, stateOf, counted, toPhase, readingOn, headedOn, identifiedOn, rankedOn}
+use Rattle.pgsolver_acts.specs.Shown.{ownedOn}
+use Rattle.pgsolver_acts.specs.Shown.{aimedOn, closedOn, isSaid, saidOf}
+use Rattle.pgsolver_acts.specs.Acts.{onSeparator, onDigit, onComma, onSemicolon, onQuote, onLetter, onOther, actOn}
 use Rattle.pgsolver_moves.specs.Moves.{digitOf, moreOn, moveOf}
 
 -- ---- what holds in each phase

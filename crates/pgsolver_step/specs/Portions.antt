@@ -13,7 +13,7 @@ use lib.Seq.{take-suc, take-length, split-at, length-take-le}
 use Rattle.rules.specs.Outcome.{Verdict, refused}
 use Rattle.rules.specs.Reading.{Limits}
 use Rattle.grammar.specs.Machine.{Machine, Went, on, off, over, Run, live, ended, classOf, stepFrom, stepAt, next, runFrom}
-use Rattle.pgsolver_moves.specs.declared.state.State.{State}
+use Rattle.pgsolver_acts.specs.declared.state.State.{State}
 use Rattle.pgsolver_step.specs.declared.step.Step.{Step}
 use Rattle.pgsolver_step.specs.declared.step.Step.the-variants.{On, Off, Over}
 use Rattle.pgsolver_step.specs.declared.portion.Portion.{Portion}

@@ -13,13 +13,13 @@ use Rattle.rules.specs.Reading.{Limits, targetsIn}
 use Rattle.grammar.specs.Machine.{Machine, Went, on, off, over, classOf, stepFrom}
 use Rattle.grammar.specs.Waiting.{Waits}
 use Rattle.theory.specs.Basics.{bool-cases}
-use Rattle.pgsolver_moves.specs.declared.state.State.{State}
+use Rattle.pgsolver_acts.specs.declared.state.State.{State}
 use Rattle.pgsolver_moves.specs.declared.moves.Move.{Move}
 use Rattle.pgsolver_moves.specs.declared.moves.Move.the-variants as Moves
 use Rattle.pgsolver_step.specs.declared.step.Step.{Step}
 use Rattle.pgsolver_step.specs.declared.step.Step.the-variants.{On, Off, Over}
-use Rattle.pgsolver_moves.specs.Shown.{stateOf}
-use Rattle.pgsolver_moves.specs.Acts.{actOn}
+use Rattle.pgsolver_acts.specs.Shown.{stateOf}
+use Rattle.pgsolver_acts.specs.Acts.{actOn}
 use Rattle.pgsolver_moves.specs.Moves.{moveOf}
 use Rattle.pgsolver_step.specs.Follows.{Standing, Reaches, Follows, follows}
 use Rattle.pgsolver_step.specs.Waited.{wordNext, waits-aimed, waits-passed, waits-kept}

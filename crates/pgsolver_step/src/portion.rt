@@ -1,7 +1,7 @@
 // A portion of a text, byte by byte.
 use crate::step::Step;
 use crate::step::read_byte;
-use pgsolver_moves::state::State;
+use pgsolver_acts::state::State;
 ghost use mathlib.Core.Path.{_≡_};
 ghost use Prim.Native.Nat.{min};
 ghost use lib.ListN.{length};

@@ -1,8 +1,8 @@
 // One byte, with what it makes whole written into the tables: a target at its place in the text, a record at its
 // identifier.
+use pgsolver_acts::state::State;
 use pgsolver_moves::moves::Move;
 use pgsolver_moves::moves::advance;
-use pgsolver_moves::state::State;
 ghost use mathlib.Core.Path.{_≡_};
 ghost use Prim.Native.Nat.{min};
 ghost use lib.ListN.{length, set, getD};

@@ -7,13 +7,13 @@ use native.Mathlib.Omega.{arith}
 use borrow.Author.Tests.{ne-eqb}
 use lib.Dec.{eqb}
 use lib.ListN.{length, getD, drop}
-use Rattle.pgsolver_moves.specs.declared.state.Phase.{Phase}
-use Rattle.pgsolver_moves.specs.declared.state.Phase.the-variants.{AtStart, InWord, PastWord, InHighest, PastHighest}
-use Rattle.pgsolver_moves.specs.declared.state.Phase.the-variants.{BetweenRecords}
-use Rattle.pgsolver_moves.specs.declared.state.Phase.the-variants.{InIdentifier, PastIdentifier, InPriority, PastPriority}
-use Rattle.pgsolver_moves.specs.declared.state.Phase.the-variants.{InOwner, PastOwner, InTarget, PastTarget, PastComma, InName}
-use Rattle.pgsolver_moves.specs.declared.state.Phase.the-variants.{PastName}
-use Rattle.pgsolver_moves.specs.declared.state.State.{State}
+use Rattle.pgsolver_acts.specs.declared.state.Phase.{Phase}
+use Rattle.pgsolver_acts.specs.declared.state.Phase.the-variants.{AtStart, InWord, PastWord, InHighest, PastHighest}
+use Rattle.pgsolver_acts.specs.declared.state.Phase.the-variants.{BetweenRecords}
+use Rattle.pgsolver_acts.specs.declared.state.Phase.the-variants.{InIdentifier, PastIdentifier, InPriority, PastPriority}
+use Rattle.pgsolver_acts.specs.declared.state.Phase.the-variants.{InOwner, PastOwner, InTarget, PastTarget, PastComma, InName}
+use Rattle.pgsolver_acts.specs.declared.state.Phase.the-variants.{PastName}
+use Rattle.pgsolver_acts.specs.declared.state.State.{State}
 
 -- ---- a phase
 

@@ -1,5 +1,5 @@
 // A phase as a word: its number, or 256 and so many letters of `parity`.
-use pgsolver_moves::state::Phase;
+use pgsolver_acts::state::Phase;
 ghost use mathlib.Core.Path.{_≡_};
 ghost use Rattle.pgsolver_words.specs.Words.{phaseIn};
 

@@ -1,7 +1,7 @@
 // A reading or an outcome written into the first 13 words, and a reading found there again.
 use crate::phases::phase_in;
 use crate::phases::phase_word;
-use pgsolver_moves::state::State;
+use pgsolver_acts::state::State;
 ghost use mathlib.Core.Path.{_≡_};
 ghost use Prim.Native.Nat.{_%_, _≤_};
 ghost use lib.ListN.{length};

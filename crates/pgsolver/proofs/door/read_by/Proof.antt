@@ -2,9 +2,9 @@
 use mathlib.Core.Path.{_≡_, sym, ap, _∙_}
 use Rattle.rules.specs.Reading.{Written, roomChecks}
 use Rattle.parity_game.specs.Said.{said}
-use Rattle.arrange.specs.declared.checks.Fits.{Fits}
-use Rattle.arrange.specs.declared.checks.Fits.the-variants.{Fit, Sizes, Work}
-use Rattle.arrange.specs.Said.{fitsSaid, size-checks}
+use Rattle.reading_rooms.specs.declared.checks.Fits.{Fits}
+use Rattle.reading_rooms.specs.declared.checks.Fits.the-variants.{Fit, Sizes, Work}
+use Rattle.reading_rooms.specs.Said.{fitsSaid, size-checks}
 use Rattle.pgsolver_finish.specs.Finishing.{asksIn, writtenOf}
 use Rattle.pgsolver_end.specs.Told.{fitted}
 use Rattle.pgsolver.specs.Reading.{reads-unfit, reads-fit}

@@ -5,7 +5,7 @@ use lib.ListN.{length}
 use Rattle.rules.specs.Reading as Rules
 use Rattle.arrange.specs.Laws.{roomsOf}
 use Rattle.parity_game.specs.Said.{said}
-use Rattle.pgsolver_moves.specs.declared.state.State.{State}
+use Rattle.pgsolver_acts.specs.declared.state.State.{State}
 use Rattle.pgsolver_finish.specs.Finishing.{writtenOf}
 use Rattle.pgsolver_end.specs.Told.{EndsText}
 use Rattle.pgsolver_words.specs.Words.{stateIn, placeIn, Gives}

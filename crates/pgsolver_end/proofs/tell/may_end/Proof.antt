@@ -5,13 +5,13 @@ use mathlib.Core.Path.{_≡_, refl}
 use Prim.Native.Nat.{ℕ}
 use denote.Enum.Declared.{tagOf}
 use types.Run.{OneOf, miss}
-use Rattle.pgsolver_moves.specs.declared.state.Phase.{Phase}
-use Rattle.pgsolver_moves.specs.declared.state.Phase.the-variants.{AtStart, InWord, PastWord, InHighest, PastHighest}
-use Rattle.pgsolver_moves.specs.declared.state.Phase.the-variants.{BetweenRecords}
-use Rattle.pgsolver_moves.specs.declared.state.Phase.the-variants.{InIdentifier, PastIdentifier, InPriority, PastPriority}
-use Rattle.pgsolver_moves.specs.declared.state.Phase.the-variants.{InOwner, PastOwner, InTarget, PastTarget, PastComma, InName}
-use Rattle.pgsolver_moves.specs.declared.state.Phase.the-variants.{PastName}
-use Rattle.pgsolver_moves.proofs.state.Phase.{the-type}
+use Rattle.pgsolver_acts.specs.declared.state.Phase.{Phase}
+use Rattle.pgsolver_acts.specs.declared.state.Phase.the-variants.{AtStart, InWord, PastWord, InHighest, PastHighest}
+use Rattle.pgsolver_acts.specs.declared.state.Phase.the-variants.{BetweenRecords}
+use Rattle.pgsolver_acts.specs.declared.state.Phase.the-variants.{InIdentifier, PastIdentifier, InPriority, PastPriority}
+use Rattle.pgsolver_acts.specs.declared.state.Phase.the-variants.{InOwner, PastOwner, InTarget, PastTarget, PastComma, InName}
+use Rattle.pgsolver_acts.specs.declared.state.Phase.the-variants.{PastName}
+use Rattle.pgsolver_acts.proofs.state.Phase.{the-type}
 use Rattle.pgsolver_end.specs.Ending.{mayEndOn}
 use borrow.Author.Needs.{needs}
 use Rattle.pgsolver_end.proofs.tell.may_end.Statement.{statement}

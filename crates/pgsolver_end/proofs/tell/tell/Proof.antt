@@ -1,7 +1,7 @@
 -- `tell` meets its contract: the end comes too soon, or the identifiers decide.
 use mathlib.Core.Path.{_≡_, sym, ap, _∙_}
 use borrow.Author.Tests.{not-true, not-false}
-use Rattle.arrange.specs.Said.{identifiersSaid}
+use Rattle.reading_rooms.specs.Said.{identifiersSaid}
 use Rattle.pgsolver_end.specs.Telling.{tells-early, tells-wrong, tells-whole}
 use borrow.Author.Needs.{needs}
 use Rattle.pgsolver_end.proofs.tell.tell.Statement.{statement}

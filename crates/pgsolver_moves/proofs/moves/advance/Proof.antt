@@ -2,8 +2,8 @@
 use mathlib.Core.Path.{ap, _∙_}
 use borrow.Author.Needs.{needs}
 use Rattle.grammar.specs.Machine.{Class}
-use Rattle.pgsolver_moves.specs.declared.acts.Act.{Act}
-use Rattle.pgsolver_moves.specs.Acts.{actOn}
+use Rattle.pgsolver_acts.specs.declared.acts.Act.{Act}
+use Rattle.pgsolver_acts.specs.Acts.{actOn}
 use Rattle.pgsolver_moves.specs.Moves.{moveOf}
 use Rattle.pgsolver_moves.proofs.moves.advance.Statement.{statement}
 use Rattle.pgsolver_moves.proofs.moves.advance.Tie as tie

@@ -2,7 +2,7 @@
 use mathlib.Core.Path.{ap, _∙_}
 use borrow.Author.Needs.{needs}
 use Rattle.pgsolver_moves.specs.declared.moves.Move.the-variants.{On, Aim, Close, AimClose}
-use Rattle.pgsolver_moves.specs.Shown.{closedOn}
+use Rattle.pgsolver_acts.specs.Shown.{closedOn}
 use Rattle.pgsolver_moves.proofs.moves.done.Statement.{statement}
 use Rattle.pgsolver_moves.proofs.moves.done.Tie as tie
 

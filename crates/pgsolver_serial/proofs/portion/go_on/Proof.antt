@@ -4,7 +4,7 @@ use mathlib.Core.Path.{_≡_, sym, subst}
 use Prim.Native.Nat.{ℕ, _+_, _≤_, _<_}
 use native.Mathlib.Omega.{arith}
 use lib.ListN.{length, getD}
-use Rattle.pgsolver_moves.specs.declared.state.State.{State}
+use Rattle.pgsolver_acts.specs.declared.state.State.{State}
 use Rattle.pgsolver_portion.specs.declared.take.Taken.{Taken}
 use Rattle.pgsolver_portion.specs.declared.take.Taken.the-variants.{On}
 use Rattle.pgsolver_portion.specs.Reached.{FitsAs, Takes}

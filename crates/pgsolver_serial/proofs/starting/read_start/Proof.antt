@@ -2,9 +2,9 @@
 use mathlib.Core.Path.{_≡_, refl, sym, ap, _∙_}
 use Rattle.rules.specs.Portions.{Lent, lentChecks, Started}
 use Rattle.rules.specs.Outcome.{answered}
-use Rattle.arrange.specs.declared.checks.Fits.{Fits}
-use Rattle.arrange.specs.declared.checks.Fits.the-variants.{Fit, Sizes, Work}
-use Rattle.arrange.specs.Said.{fitsSaid}
+use Rattle.reading_rooms.specs.declared.checks.Fits.{Fits}
+use Rattle.reading_rooms.specs.declared.checks.Fits.the-variants.{Fit, Sizes, Work}
+use Rattle.reading_rooms.specs.Said.{fitsSaid}
 use Rattle.pgsolver_serial.specs.Stands.{lentOf, Stands}
 use Rattle.pgsolver_serial.specs.Calls.{lent-checks, fit-lent, unless-unfit, unless-fit}
 use borrow.Author.Needs.{needs}

@@ -1,0 +1,3 @@
+-- What the checks at the two ends of reading say, and what cleared tables hold.
+pub mod Said
+pub mod Cleared
