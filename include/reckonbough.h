@@ -8,6 +8,13 @@
  *   targets     m numbers, each below n; parallel edges and self loops are allowed
  * A game with n = 0 has the one offset 0. Every vertex needs an edge.
  *
+ * A game record is n and m, the four tables, which may have room to spare, and the kept numbers: how many vertices have priority
+ * 0 to 255, how many different priorities there are, and the highest, 0 where there is no vertex; RECKONBOUGH_KEPT numbers in
+ * all. Only the first n, n, n + 1 and m entries of the tables count. Every function but reckonbough_check_tables and
+ * reckonbough_mend, which take plain tables, takes a record: it gives 2 where n is above the room of owners or priorities or n + 1
+ * above that of offsets, 3 where m is above 16384 or above the room of targets, and 47, right after 8, for kept numbers that a fresh
+ * count does not give. reckonbough_fresh_count makes them; the readers, compaction and the edits keep them.
+ *
  * A set is s words, vertex v at bit v % 64 of word v / 64; reckonbough_set_words gives s. A strategy is n entries, each a
  * vertex or RECKONBOUGH_NONE. The work area is W words or more; reckonbough_work_words gives W, and reckonbough_opinion_words
  * the larger W of reckonbough_quasi_polynomial. It may hold anything.
@@ -23,7 +30,7 @@
  * Each function returns a number, named below, and writes a place and a count. The count of an answer is what the function
  * says below. With 13 it is the budget, with every other number 0.
  *
- * Numbers 1 to 12 and 33 to 35 write nothing but place and count, where a function says nothing else. With 13 the sets and
+ * Numbers 1 to 12, 33 to 35 and 41 to 48 write nothing but place and count, where a function says nothing else. With 13 the sets and
  * the strategy stay as they were. With 0, 13 and 21 to 25 the first W words of the work area are zero afterwards; words beyond W never
  * change.
  *
@@ -33,7 +40,7 @@
  *
  * Stack: reckonbough_zielonka nests at most n + 1 calls of itself, 384 bytes each on x86-64 and 336 on Arm; a thread with 2 MiB
  * of stack is enough for every game. reckonbough_quasi_polynomial nests at most 258 calls, 304 bytes each on x86-64 (not measured
- * on Arm). reckonbough_fresh_count and the three edits need less than 3 KiB, every other function less than 2 KiB.
+ * on Arm). What looks at a record needs less than 3 KiB for it, every other function less than 2 KiB.
  */
 #ifndef RECKONBOUGH_H
 #define RECKONBOUGH_H
@@ -59,15 +66,16 @@
  */
 #define RECKONBOUGH_ANSWERED 0          /* an answer, the checker's yes included */
 #define RECKONBOUGH_TOO_MANY_VERTICES 1 /* n above 4096 */
-#define RECKONBOUGH_TABLE_LENGTHS 2     /* priorities not n or offsets not n + 1 long */
-#define RECKONBOUGH_TOO_MANY_EDGES 3    /* m above 16384 */
+#define RECKONBOUGH_TABLE_LENGTHS 2     /* priorities not n or offsets not n + 1 long; of a record, n above their room */
+#define RECKONBOUGH_TOO_MANY_EDGES 3    /* m above 16384; of a record, also above the room of targets */
 #define RECKONBOUGH_BAD_OWNER 4         /* an owner that is not 0 or 1; place: lowest vertex */
 #define RECKONBOUGH_BAD_PRIORITY 5      /* a priority above 255; place: lowest vertex */
 #define RECKONBOUGH_BAD_OFFSET 6        /* the first offset is not 0, or one is above the next, or the last is not m;
                                            place: 0, or lowest index, or n */
 #define RECKONBOUGH_BAD_TARGET 7        /* a target not below n; place: lowest edge */
 #define RECKONBOUGH_DEAD_END 8          /* a vertex without an edge; place: lowest vertex */
-#define RECKONBOUGH_BAD_SIZE 9          /* a set not s words, a strategy or a table of new priorities not n entries long */
+#define RECKONBOUGH_BAD_SIZE 9          /* a set not s words, a strategy or another table not n entries, a kept to be written
+                                           not RECKONBOUGH_KEPT numbers long */
 #define RECKONBOUGH_SHORT_WORK 10       /* a work area shorter than W */
 #define RECKONBOUGH_OWNERS_DIFFER 11    /* solitaire, show_loop: two owners differ */
 #define RECKONBOUGH_STRAY_BIT 12        /* attractor: a bit at n or above, or a bit of target that is not in within;
@@ -144,13 +152,15 @@ uint64_t reckonbough_check_tables(
  * in, in the result; for another vertex one more than the greatest of those in within; outside the result 65,535. The entry
  * of a vertex of the player that was drawn in is the lowest of the least distant that its edges end in; else none. Works in
  * work, W words or more.
- * Gives 0, 1 to 10 or 12. The count is the looks: how many edges end in the result.
+ * Gives 0, 1 to 8, 47, 9, 10 or 12. The count is the looks: how many edges end in the result.
  */
 uint64_t reckonbough_attractor(
-    const uint8_t *owners, size_t owners_length,
-    const uint16_t *priorities, size_t priorities_length,
-    const uint16_t *offsets, size_t offsets_length,
-    const uint16_t *targets, size_t targets_length,
+    uint64_t n, uint64_t m,
+    const uint8_t *owners, size_t owners_room,
+    const uint16_t *priorities, size_t priorities_room,
+    const uint16_t *offsets, size_t offsets_room,
+    const uint16_t *targets, size_t targets_room,
+    const uint64_t *kept, size_t kept_length,
     uint8_t player,
     const uint64_t *within, size_t within_length,
     const uint64_t *target, size_t target_length,
@@ -164,13 +174,15 @@ uint64_t reckonbough_attractor(
  * Solves the game by Zielonka's recursion, in at most budget calls.
  * Writes even and odd, s words each: who wins where; and strategy, n entries: the chosen target for each vertex whose owner
  * wins it and none elsewhere. Works in work, W words or more.
- * Gives 0, 1 to 10 or 13. The count is the calls, those on empty sets included.
+ * Gives 0, 1 to 8, 47, 9, 10 or 13. The count is the calls, those on empty sets included.
  */
 uint64_t reckonbough_zielonka(
-    const uint8_t *owners, size_t owners_length,
-    const uint16_t *priorities, size_t priorities_length,
-    const uint16_t *offsets, size_t offsets_length,
-    const uint16_t *targets, size_t targets_length,
+    uint64_t n, uint64_t m,
+    const uint8_t *owners, size_t owners_room,
+    const uint16_t *priorities, size_t priorities_room,
+    const uint16_t *offsets, size_t offsets_room,
+    const uint16_t *targets, size_t targets_room,
+    const uint64_t *kept, size_t kept_length,
     uint64_t budget,
     uint64_t *even, size_t even_length,
     uint64_t *odd, size_t odd_length,
@@ -183,10 +195,12 @@ uint64_t reckonbough_zielonka(
  * the count is the rounds. The sets are the same; the strategy may be another.
  */
 uint64_t reckonbough_priority_promotion(
-    const uint8_t *owners, size_t owners_length,
-    const uint16_t *priorities, size_t priorities_length,
-    const uint16_t *offsets, size_t offsets_length,
-    const uint16_t *targets, size_t targets_length,
+    uint64_t n, uint64_t m,
+    const uint8_t *owners, size_t owners_room,
+    const uint16_t *priorities, size_t priorities_room,
+    const uint16_t *offsets, size_t offsets_room,
+    const uint16_t *targets, size_t targets_room,
+    const uint64_t *kept, size_t kept_length,
     uint64_t budget,
     uint64_t *even, size_t even_length,
     uint64_t *odd, size_t odd_length,
@@ -199,13 +213,15 @@ uint64_t reckonbough_priority_promotion(
  * the tables, the sets, the predecessors and the attractor with the two solvers above, and nothing of how they go about it.
  * Writes even and odd, s words each: who wins where, the same sets as theirs. There is no strategy and no budget. Works in
  * work, reckonbough_opinion_words or more.
- * Gives 0 or 1 to 10. The count is 0.
+ * Gives 0, 1 to 8, 47, 9 or 10. The count is 0.
  */
 uint64_t reckonbough_quasi_polynomial(
-    const uint8_t *owners, size_t owners_length,
-    const uint16_t *priorities, size_t priorities_length,
-    const uint16_t *offsets, size_t offsets_length,
-    const uint16_t *targets, size_t targets_length,
+    uint64_t n, uint64_t m,
+    const uint8_t *owners, size_t owners_room,
+    const uint16_t *priorities, size_t priorities_room,
+    const uint16_t *offsets, size_t offsets_room,
+    const uint16_t *targets, size_t targets_room,
+    const uint64_t *kept, size_t kept_length,
     uint64_t *even, size_t even_length,
     uint64_t *odd, size_t odd_length,
     uint64_t *work, size_t work_length,
@@ -215,13 +231,15 @@ uint64_t reckonbough_quasi_polynomial(
  * Solves a game in which one player owns every vertex.
  * Writes set, s words: the vertices that the owner wins, those from which a cycle can be reached whose highest priority
  * has the owner's parity. The other player wins the rest. Works in work, W words or more.
- * Gives 0 or 1 to 11. The count is 0.
+ * Gives 0, 1 to 8, 47, 9, 10 or 11. The count is 0.
  */
 uint64_t reckonbough_solitaire(
-    const uint8_t *owners, size_t owners_length,
-    const uint16_t *priorities, size_t priorities_length,
-    const uint16_t *offsets, size_t offsets_length,
-    const uint16_t *targets, size_t targets_length,
+    uint64_t n, uint64_t m,
+    const uint8_t *owners, size_t owners_room,
+    const uint16_t *priorities, size_t priorities_room,
+    const uint16_t *offsets, size_t offsets_room,
+    const uint16_t *targets, size_t targets_room,
+    const uint64_t *kept, size_t kept_length,
     uint64_t *set, size_t set_length,
     uint64_t *work, size_t work_length,
     uint64_t *place, uint64_t *count);
@@ -235,14 +253,16 @@ uint64_t reckonbough_solitaire(
  * that. Path and cycle together have at most 2 * n vertices, the shared one counted in both. Any such run will do; this one
  * goes to the nearest vertex that can be the highest of a cycle of the lowest such priority, and round from there by the
  * fewest edges. Works in work, W words or more; the first W words are zero after 46 too.
- * Gives 0, 1 to 8, 10, 11, 44, 45 or 46, in this order. It gives 46 exactly where reckonbough_solitaire's set lacks the
+ * Gives 0, 1 to 8, 47, 10, 11, 44, 45 or 46, in this order. It gives 46 exactly where reckonbough_solitaire's set lacks the
  * vertex. The count is both lengths together.
  */
 uint64_t reckonbough_show_loop(
-    const uint8_t *owners, size_t owners_length,
-    const uint16_t *priorities, size_t priorities_length,
-    const uint16_t *offsets, size_t offsets_length,
-    const uint16_t *targets, size_t targets_length,
+    uint64_t n, uint64_t m,
+    const uint8_t *owners, size_t owners_room,
+    const uint16_t *priorities, size_t priorities_room,
+    const uint16_t *offsets, size_t offsets_room,
+    const uint16_t *targets, size_t targets_room,
+    const uint64_t *kept, size_t kept_length,
     uint64_t vertex,
     uint16_t *path, size_t path_room,
     uint16_t *cycle, size_t cycle_room,
@@ -254,14 +274,16 @@ uint64_t reckonbough_show_loop(
  * Checks a claim: that Even wins from even and Odd from odd, each by the entries of strategy.
  * Reads even and odd, s words each, and strategy, n entries: a target of the vertex's edges where the vertex's owner wins
  * it, none elsewhere. Works in work, W words or more.
- * Gives 0 for yes, 1 to 10, or 21 to 24 for the first thing that is wrong, with 25 in the place of 22 where every entry is
- * none: a result that was kept without its strategy. The count is 0.
+ * Gives 0 for yes, 1 to 8, 47, 9, 10, or 21 to 24 for the first thing that is wrong, with 25 in the place of 22 where every
+ * entry is none: a result that was kept without its strategy. The count is 0.
  */
 uint64_t reckonbough_check(
-    const uint8_t *owners, size_t owners_length,
-    const uint16_t *priorities, size_t priorities_length,
-    const uint16_t *offsets, size_t offsets_length,
-    const uint16_t *targets, size_t targets_length,
+    uint64_t n, uint64_t m,
+    const uint8_t *owners, size_t owners_room,
+    const uint16_t *priorities, size_t priorities_room,
+    const uint16_t *offsets, size_t offsets_room,
+    const uint16_t *targets, size_t targets_room,
+    const uint64_t *kept, size_t kept_length,
     const uint64_t *even, size_t even_length,
     const uint64_t *odd, size_t odd_length,
     const uint16_t *strategy, size_t strategy_length,
@@ -272,15 +294,19 @@ uint64_t reckonbough_check(
  * Makes the priorities small without changing who wins: the lowest used becomes 0 or 1 by its parity, each next different
  * one the last new number plus 1 where the parity differs and the same number where it does not. 3, 7, 4 becomes 1, 3, 2;
  * 2, 6 becomes 0, 0; 3, 7, 8 becomes 1, 1, 2. No relabelling that keeps order and parity uses lower or fewer numbers, and
- * compacting what was compacted changes nothing. Writes new_priorities, n numbers.
- * Gives 0 or 1 to 9. The count is 0.
+ * compacting what was compacted changes nothing. Writes new_priorities, n numbers, and new_kept, RECKONBOUGH_KEPT numbers, a
+ * fresh count of them: with the other tables a record.
+ * Gives 0, 1 to 8, 47, or 9 for an output of another length. The count is 0.
  */
 uint64_t reckonbough_compact(
-    const uint8_t *owners, size_t owners_length,
-    const uint16_t *priorities, size_t priorities_length,
-    const uint16_t *offsets, size_t offsets_length,
-    const uint16_t *targets, size_t targets_length,
+    uint64_t n, uint64_t m,
+    const uint8_t *owners, size_t owners_room,
+    const uint16_t *priorities, size_t priorities_room,
+    const uint16_t *offsets, size_t offsets_room,
+    const uint16_t *targets, size_t targets_room,
+    const uint64_t *kept, size_t kept_length,
     uint16_t *new_priorities, size_t new_priorities_length,
+    uint64_t *new_kept, size_t new_kept_length,
     uint64_t *place, uint64_t *count);
 
 /*
@@ -290,11 +316,12 @@ uint64_t reckonbough_compact(
  * The rooms of the tables are the limits: at most as many vertices as owners has room for, at most as many edges as targets
  * has, never more than 4096 and 16384; at most most_bytes bytes; no number above 65535. priorities is as long as owners, offsets
  * one longer. An owner above 255 is kept as 255. Works in work, owners' room + targets' room words or more.
- * With 0 the tables stand at the front of their rooms, every entry behind them is zero, and *n and *m are their sizes. With 9 and
- * 10 nothing is written but place and count. With every other number all four tables are zero, and *n and *m are 0. With every
- * number but 9 and 10 the first owners' room + targets' room words of work are zero afterwards.
- * Gives, in this order: 9 (rooms that do not fit each other), 10, 30 or 32 (the earlier byte, and 32 at the same byte), 31, then
- * of 1 to 8 what can occur: 4, 5 or 7; else 0. The count is 0.
+ * With 0 the tables stand at the front of their rooms, every entry behind them is zero, *n and *m are their sizes, and kept,
+ * RECKONBOUGH_KEPT numbers, is a fresh count of the priorities: together a record that every function which takes one accepts.
+ * With 9 and 10 nothing is written but place and count. With every other number all four tables and kept are zero, and *n and
+ * *m are 0. With every number but 9 and 10 the first owners' room + targets' room words of work are zero afterwards.
+ * Gives, in this order: 9 (a kept of another length, or rooms that do not fit each other), 10, 30 or 32 (the earlier byte, and
+ * 32 at the same byte), 31, then of 1 to 8 what can occur: 4, 5 or 7; else 0. The count is 0.
  */
 uint64_t reckonbough_read(
     const uint8_t *text, size_t text_length,
@@ -303,12 +330,14 @@ uint64_t reckonbough_read(
     uint16_t *priorities, size_t priorities_length,
     uint16_t *offsets, size_t offsets_length,
     uint16_t *targets, size_t targets_length,
+    uint64_t *kept, size_t kept_length,
     uint64_t *work, size_t work_length,
     uint64_t *n, uint64_t *m,
     uint64_t *place, uint64_t *count);
 
 /*
- * Reads what the text says, also where it is no game: takes, writes and gives what reckonbough_read does, but none of 1 to 8.
+ * Reads what the text says, also where it is no game: takes, writes and gives what reckonbough_read does, but no kept and none of
+ * 1 to 8.
  */
 uint64_t reckonbough_read_tables(
     const uint8_t *text, size_t text_length,
@@ -322,11 +351,11 @@ uint64_t reckonbough_read_tables(
     uint64_t *place, uint64_t *count);
 
 /*
- * A text that comes in portions, as over a serial line: one start, any number of portions, empty ones among them, and the end give
- * the same number, place, tables and sizes as reckonbough_read of the whole text. The place is counted from the start of the text.
- * state is 32 words or more, for the caller to keep between the calls with the four tables; what they hold until the end is free.
- * Handed others than the last call left, a call still ends and stays inside them, and what it gives is free. Words of state beyond
- * 32 stay.
+ * A text that comes in portions, as over a serial line: one start, any number of portions, empty ones among them, and the end
+ * give the same number, place, tables, kept numbers and sizes as reckonbough_read of the whole text. The place is counted from
+ * the start of the text. state is 32 words or more, for the caller to keep between the calls with the four tables; what they
+ * hold until the end is free. Handed others than the last call left, a call still ends and stays inside them, and what it gives
+ * is free. Words of state beyond 32 stay.
  *
  * The start forgets whatever came before. Gives 9 (rooms that do not fit each other), 10 (a state shorter than 32 words); else 0.
  * With 9 and 10 no function for portions writes anything but place and count, and the text can go on as if the call had not been.
@@ -354,8 +383,8 @@ uint64_t reckonbough_read_portion(
     uint64_t *place, uint64_t *count);
 
 /*
- * The end of the text: gives and leaves what reckonbough_read does. Called again, or after a refusal, it gives the same and writes n
- * and m again; state and tables stay. 10 is here a state or a work area that is too short.
+ * The end of the text: gives and leaves what reckonbough_read does. Called again, or after a refusal, it gives the same and
+ * writes kept, n and m again; state and tables stay. 10 is here a state or a work area that is too short.
  */
 uint64_t reckonbough_read_end(
     uint64_t *state, size_t state_length,
@@ -363,6 +392,7 @@ uint64_t reckonbough_read_end(
     uint16_t *priorities, size_t priorities_length,
     uint16_t *offsets, size_t offsets_length,
     uint16_t *targets, size_t targets_length,
+    uint64_t *kept, size_t kept_length,
     uint64_t *work, size_t work_length,
     uint64_t *n, uint64_t *m,
     uint64_t *place, uint64_t *count);
@@ -394,21 +424,19 @@ uint64_t reckonbough_mend(
  * priority, owner and targets, one space between fields, commas without spaces between targets, no leading zeros and no
  * name; a semicolon and a line feed behind each. Writes the front of text; what is behind stays. RECKONBOUGH_MAX_TEXT bytes
  * are enough for every game.
- * Gives 0, 1 to 8, 33 or 34. The count is the text's length.
+ * Gives 0, 1 to 8, 47, 33 or 34. The count is the text's length.
  */
 uint64_t reckonbough_write(
-    const uint8_t *owners, size_t owners_length,
-    const uint16_t *priorities, size_t priorities_length,
-    const uint16_t *offsets, size_t offsets_length,
-    const uint16_t *targets, size_t targets_length,
+    uint64_t n, uint64_t m,
+    const uint8_t *owners, size_t owners_room,
+    const uint16_t *priorities, size_t priorities_room,
+    const uint16_t *offsets, size_t offsets_room,
+    const uint16_t *targets, size_t targets_room,
+    const uint64_t *kept, size_t kept_length,
     uint8_t *text, size_t text_length,
     uint64_t *place, uint64_t *count);
 
 /*
- * A record: the sizes n and m, the four tables with room to spare, of which only the first n, n, n + 1 and m entries count, and
- * the kept numbers, RECKONBOUGH_KEPT of them. 2 is given where n is above the room of owners or priorities or n + 1 above that
- * of offsets, 3 where m is above 16384 or above the room of targets; 47, after 8, for kept numbers that a fresh count does not give.
- *
  * Counts the priorities of a record afresh.
  * Writes kept, RECKONBOUGH_KEPT numbers.
  * Gives 0, 1 to 8, or 9 for a kept of another length. The count is 0.

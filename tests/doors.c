@@ -12,6 +12,11 @@
 static uint64_t place, count;
 static uint64_t work[1024];
 
+/* The kept numbers of the record at hand: GAME(n, m, TABLES) lends the tables as one. */
+static uint64_t numbers_kept[RECKONBOUGH_KEPT];
+#define GAME(n, m, ...) n, m, __VA_ARGS__, numbers_kept, RECKONBOUGH_KEPT
+#define COUNT_AFRESH(n, m, ...) reckonbough_fresh_count(GAME(n, m, __VA_ARGS__), &place, &count)
+
 static void print(const char *asked, uint64_t number)
 {
     printf("%s: %" PRIu64 " %" PRIu64 " %" PRIu64 "\n", asked, number, place, count);
@@ -70,24 +75,26 @@ static void no_vertices(void)
 #define C1 NULL, 0, NULL, 0, &offset, 1, NULL, 0
     print("check_tables of nothing", reckonbough_check_tables(NULL, 0, NULL, 0, NULL, 0, NULL, 0, &place, &count));
     print("check_tables of C1", reckonbough_check_tables(C1, &place, &count));
+    uint64_t new_kept[RECKONBOUGH_KEPT];
+    COUNT_AFRESH(0, 0, C1);
     print("attractor in C1",
-          reckonbough_attractor(C1, 0, NULL, 0, NULL, 0, NULL, 0, NULL, 0, NULL, 0, work, w, &place, &count));
-    print("zielonka of C1", reckonbough_zielonka(C1, 1, NULL, 0, NULL, 0, NULL, 0, work, w, &place, &count));
+          reckonbough_attractor(GAME(0, 0, C1), 0, NULL, 0, NULL, 0, NULL, 0, NULL, 0, NULL, 0, work, w, &place, &count));
+    print("zielonka of C1", reckonbough_zielonka(GAME(0, 0, C1), 1, NULL, 0, NULL, 0, NULL, 0, work, w, &place, &count));
     print("zielonka of C1, budget 0",
-          reckonbough_zielonka(C1, 0, NULL, 0, NULL, 0, NULL, 0, work, w, &place, &count));
+          reckonbough_zielonka(GAME(0, 0, C1), 0, NULL, 0, NULL, 0, NULL, 0, work, w, &place, &count));
     print("zielonka of C1, no work area",
-          reckonbough_zielonka(C1, 1, NULL, 0, NULL, 0, NULL, 0, NULL, 0, &place, &count));
+          reckonbough_zielonka(GAME(0, 0, C1), 1, NULL, 0, NULL, 0, NULL, 0, NULL, 0, &place, &count));
     print("priority_promotion of C1, budget 0",
-          reckonbough_priority_promotion(C1, 0, NULL, 0, NULL, 0, NULL, 0, work, w, &place, &count));
+          reckonbough_priority_promotion(GAME(0, 0, C1), 0, NULL, 0, NULL, 0, NULL, 0, work, w, &place, &count));
     print("quasi_polynomial of C1",
-          reckonbough_quasi_polynomial(C1, NULL, 0, NULL, 0, work, reckonbough_opinion_words(0, 0), &place, &count));
-    print("solitaire of C1", reckonbough_solitaire(C1, NULL, 0, work, w, &place, &count));
+          reckonbough_quasi_polynomial(GAME(0, 0, C1), NULL, 0, NULL, 0, work, reckonbough_opinion_words(0, 0), &place, &count));
+    print("solitaire of C1", reckonbough_solitaire(GAME(0, 0, C1), NULL, 0, work, w, &place, &count));
     uint64_t length = 7;
-    print("show_loop of C1", reckonbough_show_loop(C1, 0, NULL, 0, NULL, 0, work, w, &length, &place, &count));
+    print("show_loop of C1", reckonbough_show_loop(GAME(0, 0, C1), 0, NULL, 0, NULL, 0, work, w, &length, &place, &count));
     printf("  path %" PRIu64 "\n", length);
-    print("check of C1", reckonbough_check(C1, NULL, 0, NULL, 0, NULL, 0, work, w, &place, &count));
-    print("compact of C1", reckonbough_compact(C1, NULL, 0, &place, &count));
-    print("write of C1", reckonbough_write(C1, NULL, 0, &place, &count));
+    print("check of C1", reckonbough_check(GAME(0, 0, C1), NULL, 0, NULL, 0, NULL, 0, work, w, &place, &count));
+    print("compact of C1", reckonbough_compact(GAME(0, 0, C1), NULL, 0, new_kept, RECKONBOUGH_KEPT, &place, &count));
+    print("write of C1", reckonbough_write(GAME(0, 0, C1), NULL, 0, &place, &count));
     uint16_t new_offset = 7;
     print("mend of C1", reckonbough_mend(C1, NULL, 0, &new_offset, 1, NULL, 0, NULL, 0, &place, &count));
     print("mend of C1, no offsets", reckonbough_mend(C1, NULL, 0, NULL, 0, NULL, 0, NULL, 0, &place, &count));
@@ -103,10 +110,11 @@ static void loops(void)
     uint16_t path[9], cycle[9];
     uint64_t length;
     const size_t w = reckonbough_work_words(4, 4);
+    COUNT_AFRESH(4, 4, C8);
     for (uint64_t v = 0; v < 5; v++) {
         for (size_t i = 0; i < 9; i++)
             path[i] = cycle[i] = 77;
-        print("show_loop of C8", reckonbough_show_loop(C8, v, path, 9, cycle, 9, work, w, &length, &place, &count));
+        print("show_loop of C8", reckonbough_show_loop(GAME(4, 4, C8), v, path, 9, cycle, 9, work, w, &length, &place, &count));
         printf("  path %" PRIu64 ":", length);
         for (size_t i = 0; i < 9; i++)
             printf(" %u", (unsigned)path[i]);
@@ -115,9 +123,9 @@ static void loops(void)
             printf(" %u", (unsigned)cycle[i]);
         printf("\n");
     }
-    print("show_loop, short path", reckonbough_show_loop(C8, 0, path, 7, cycle, 9, work, w, &length, &place, &count));
-    print("show_loop, short cycle", reckonbough_show_loop(C8, 0, path, 8, cycle, 7, work, w, &length, &place, &count));
-    print("show_loop, short work", reckonbough_show_loop(C8, 9, path, 8, cycle, 8, work, w - 1, &length, &place, &count));
+    print("show_loop, short path", reckonbough_show_loop(GAME(4, 4, C8), 0, path, 7, cycle, 9, work, w, &length, &place, &count));
+    print("show_loop, short cycle", reckonbough_show_loop(GAME(4, 4, C8), 0, path, 8, cycle, 7, work, w, &length, &place, &count));
+    print("show_loop, short work", reckonbough_show_loop(GAME(4, 4, C8), 9, path, 8, cycle, 8, work, w - 1, &length, &place, &count));
 }
 
 static const uint8_t c7_owners[] = {0, 1};
@@ -132,10 +140,11 @@ static void players(void)
     uint64_t set;
     uint16_t strategy[2], distances[2];
     const size_t w = reckonbough_work_words(2, 3);
+    COUNT_AFRESH(2, 3, C7);
     for (size_t i = 0; i < sizeof numbers; i++) {
         printf("with %u\n", (unsigned)numbers[i]);
         print("attractor of 0 in C7",
-              reckonbough_attractor(C7, numbers[i], &all, 1, &first, 1, &set, 1, strategy, 2, distances, 2, work, w, &place,
+              reckonbough_attractor(GAME(2, 3, C7), numbers[i], &all, 1, &first, 1, &set, 1, strategy, 2, distances, 2, work, w, &place,
                                     &count));
         printf("  set %" PRIu64 ", entries %u %u\n", set, (unsigned)strategy[0], (unsigned)strategy[1]);
     }
@@ -148,8 +157,10 @@ static void attract(const char *asked, const uint8_t *owners, size_t n, const ui
     static const uint16_t priorities[5] = {0};
     uint64_t set;
     uint16_t strategy[5], distances[5];
-    print(asked, reckonbough_attractor(owners, n, priorities, n, offsets, n + 1, targets, m, 0, &within, 1, &target, 1, &set, 1,
-                                       strategy, n, distances, n, work, reckonbough_work_words(n, m), &place, &count));
+#define ASKED owners, n, priorities, n, offsets, n + 1, targets, m
+    COUNT_AFRESH(n, m, ASKED);
+    print(asked, reckonbough_attractor(GAME(n, m, ASKED), 0, &within, 1, &target, 1, &set, 1, strategy, n, distances, n, work,
+                                       reckonbough_work_words(n, m), &place, &count));
     printf("  distances");
     for (size_t v = 0; v < n; v++)
         printf(" %u", (unsigned)distances[v]);
@@ -182,13 +193,14 @@ static void without_strategy(void)
     uint64_t even, odd;
     uint16_t strategy[2];
     const size_t w = reckonbough_work_words(2, 3);
-    print("zielonka of C7", reckonbough_zielonka(C7, 3, &even, 1, &odd, 1, strategy, 2, work, w, &place, &count));
+    COUNT_AFRESH(2, 3, C7);
+    print("zielonka of C7", reckonbough_zielonka(GAME(2, 3, C7), 3, &even, 1, &odd, 1, strategy, 2, work, w, &place, &count));
     printf("  sets %" PRIu64 " %" PRIu64 ", entries %u %u\n", even, odd, (unsigned)strategy[0], (unsigned)strategy[1]);
-    print("check of it", reckonbough_check(C7, &even, 1, &odd, 1, strategy, 2, work, w, &place, &count));
-    print("without entries", reckonbough_check(C7, &even, 1, &odd, 1, nothing, 2, work, w, &place, &count));
-    print("with Odd's entry alone", reckonbough_check(C7, &even, 1, &odd, 1, other, 2, work, w, &place, &count));
+    print("check of it", reckonbough_check(GAME(2, 3, C7), &even, 1, &odd, 1, strategy, 2, work, w, &place, &count));
+    print("without entries", reckonbough_check(GAME(2, 3, C7), &even, 1, &odd, 1, nothing, 2, work, w, &place, &count));
+    print("with Odd's entry alone", reckonbough_check(GAME(2, 3, C7), &even, 1, &odd, 1, other, 2, work, w, &place, &count));
     print("without entries, vertex 1 in no set",
-          reckonbough_check(C7, &first, 1, &none, 1, nothing, 2, work, w, &place, &count));
+          reckonbough_check(GAME(2, 3, C7), &first, 1, &none, 1, nothing, 2, work, w, &place, &count));
 }
 
 /*
@@ -202,16 +214,20 @@ static void second_opinion(void)
     static uint64_t area[4096];
     const size_t w = reckonbough_opinion_words(2, 3);
     uint64_t even = 5, odd = 7;
-    print("quasi_polynomial of C2",
-          reckonbough_quasi_polynomial(c2_owners, 1, c2_priorities, 1, c2_offsets, 2, c2_targets, 1, &even, 1, &odd, 1, area,
-                                       reckonbough_opinion_words(1, 1), &place, &count));
+#define C2 c2_owners, 1, c2_priorities, 1, c2_offsets, 2, c2_targets, 1
+    COUNT_AFRESH(1, 1, C2);
+    print("quasi_polynomial of C2", reckonbough_quasi_polynomial(GAME(1, 1, C2), &even, 1, &odd, 1, area,
+                                                                 reckonbough_opinion_words(1, 1), &place, &count));
     printf("  sets %" PRIu64 " %" PRIu64 "\n", even, odd);
-    print("quasi_polynomial of C7", reckonbough_quasi_polynomial(C7, &even, 1, &odd, 1, area, w, &place, &count));
+    print("quasi_polynomial of C7 with C2's kept numbers",
+          reckonbough_quasi_polynomial(GAME(2, 3, C7), &even, 1, &odd, 1, area, w, &place, &count));
+    COUNT_AFRESH(2, 3, C7);
+    print("quasi_polynomial of C7", reckonbough_quasi_polynomial(GAME(2, 3, C7), &even, 1, &odd, 1, area, w, &place, &count));
     printf("  sets %" PRIu64 " %" PRIu64 "\n", even, odd);
     even = 5;
-    print("in a word too few", reckonbough_quasi_polynomial(C7, &even, 1, &odd, 1, area, w - 1, &place, &count));
+    print("in a word too few", reckonbough_quasi_polynomial(GAME(2, 3, C7), &even, 1, &odd, 1, area, w - 1, &place, &count));
     printf("  sets %" PRIu64 " %" PRIu64 "\n", even, odd);
-    print("with two words for a set", reckonbough_quasi_polynomial(C7, area, 2, &odd, 1, area + 2, w, &place, &count));
+    print("with two words for a set", reckonbough_quasi_polynomial(GAME(2, 3, C7), area, 2, &odd, 1, area + 2, w, &place, &count));
 }
 
 /* An export with a dead end and two missing targets, its list read as the header says. */
@@ -242,21 +258,26 @@ static void as_text(void)
 {
     uint8_t text[40], owners[3];
     uint16_t priorities[3], offsets[4], targets[4];
-    uint64_t n = 0, m = 0;
-#define ROOMS owners, 3, priorities, 3, offsets, 4, targets, 4, work, 7
+    uint64_t n = 0, m = 0, kept[RECKONBOUGH_KEPT];
+#define ROOMS owners, 3, priorities, 3, offsets, 4, targets, 4
+#define KEPT kept, RECKONBOUGH_KEPT
     for (size_t i = 0; i < sizeof text; i++)
         text[i] = '.';
-    print("write of C7, no room", reckonbough_write(C7, NULL, 0, &place, &count));
-    print("write of C7, 29 bytes", reckonbough_write(C7, text, 29, &place, &count));
+    COUNT_AFRESH(2, 3, C7);
+    print("write of C7, no room", reckonbough_write(GAME(2, 3, C7), NULL, 0, &place, &count));
+    print("write of C7, 29 bytes", reckonbough_write(GAME(2, 3, C7), text, 29, &place, &count));
     printf("%.*s\n", (int)sizeof text, (const char *)text);
-    print("write of C7, 40 bytes", reckonbough_write(C7, text, sizeof text, &place, &count));
+    print("write of C7, 40 bytes", reckonbough_write(GAME(2, 3, C7), text, sizeof text, &place, &count));
     printf("%.*s\n", (int)sizeof text, (const char *)text);
-    print("read of it", reckonbough_read(text, 30, 16384, ROOMS, &n, &m, &place, &count));
+    print("read of it, 257 kept", reckonbough_read(text, 30, 16384, ROOMS, kept, 257, work, 7, &n, &m, &place, &count));
+    print("read of it", reckonbough_read(text, 30, 16384, ROOMS, KEPT, work, 7, &n, &m, &place, &count));
     printf("  %u vertices, %u edges, targets %u %u %u %u\n", (unsigned)n, (unsigned)m, (unsigned)targets[0], (unsigned)targets[1],
            (unsigned)targets[2], (unsigned)targets[3]);
-    print("read of 27 bytes", reckonbough_read(text, 27, 16384, ROOMS, &n, &m, &place, &count));
-    print("read of 30 bytes, 20 allowed", reckonbough_read_tables(text, 30, 20, ROOMS, &n, &m, &place, &count));
-    print("read of no text", reckonbough_read_tables(NULL, 0, 0, ROOMS, &n, &m, &place, &count));
+    print("set_owner in it", reckonbough_set_owner(n, m, ROOMS, KEPT, 0, 1, &place, &count));
+    print("read of 27 bytes", reckonbough_read(text, 27, 16384, ROOMS, KEPT, work, 7, &n, &m, &place, &count));
+    printf("  of priority 2: %u\n", (unsigned)kept[2]);
+    print("read of 30 bytes, 20 allowed", reckonbough_read_tables(text, 30, 20, ROOMS, work, 7, &n, &m, &place, &count));
+    print("read of no text", reckonbough_read_tables(NULL, 0, 0, ROOMS, work, 7, &n, &m, &place, &count));
 }
 
 /* C7 over a serial line: cut in a number and with an empty portion; refused, and again; then a fresh start. */
@@ -265,7 +286,7 @@ static void in_portions(void)
     static const uint8_t text[] = "parity 1; 0 22 0 1; 1 0 1 0,1;";
     uint8_t owners[3];
     uint16_t priorities[3], offsets[4], targets[4];
-    uint64_t n = 7, m = 7, state[33] = {0};
+    uint64_t n = 7, m = 7, state[33] = {0}, kept[RECKONBOUGH_KEPT];
 #define LENT(words) state, words, owners, 3, priorities, 3, offsets, 4, targets, 4
     state[32] = 99;
     print("start, 31 words of state", reckonbough_read_start(16384, LENT(31), &place, &count));
@@ -273,17 +294,17 @@ static void in_portions(void)
     print("13 bytes", reckonbough_read_portion(text, 13, LENT(33), &place, &count));
     print("none", reckonbough_read_portion(NULL, 0, LENT(33), &place, &count));
     print("17 bytes", reckonbough_read_portion(text + 13, 17, LENT(33), &place, &count));
-    print("end, 6 words of work", reckonbough_read_end(LENT(33), work, 6, &n, &m, &place, &count));
-    print("end", reckonbough_read_end(LENT(33), work, 7, &n, &m, &place, &count));
-    printf("  %u vertices, %u edges, priority %u, beyond the state %u\n", (unsigned)n, (unsigned)m, (unsigned)priorities[0],
-           (unsigned)state[32]);
+    print("end, 6 words of work", reckonbough_read_end(LENT(33), KEPT, work, 6, &n, &m, &place, &count));
+    print("end", reckonbough_read_end(LENT(33), KEPT, work, 7, &n, &m, &place, &count));
+    printf("  %u vertices, %u edges, priority %u, the highest %u, beyond the state %u\n", (unsigned)n, (unsigned)m,
+           (unsigned)priorities[0], (unsigned)kept[257], (unsigned)state[32]);
     print("5 bytes more", reckonbough_read_portion(text, 5, LENT(33), &place, &count));
-    print("end again", reckonbough_read_end(LENT(33), work, 7, &n, &m, &place, &count));
+    print("end again", reckonbough_read_end(LENT(33), KEPT, work, 7, &n, &m, &place, &count));
     print("start again", reckonbough_read_start(16384, LENT(33), &place, &count));
     print("20 bytes", reckonbough_read_portion(text, 20, LENT(33), &place, &count));
     print("a letter", reckonbough_read_portion((const uint8_t *)"x", 1, LENT(33), &place, &count));
     print("5 bytes more", reckonbough_read_portion(text, 5, LENT(33), &place, &count));
-    print("end", reckonbough_read_end(LENT(33), work, 7, &n, &m, &place, &count));
+    print("end", reckonbough_read_end(LENT(33), KEPT, work, 7, &n, &m, &place, &count));
     printf("  %u vertices, %u edges, priority %u\n", (unsigned)n, (unsigned)m, (unsigned)priorities[0]);
 }
 
@@ -338,21 +359,22 @@ static void most_vertices(void)
         offsets[v + 1] = (uint16_t)m;
     }
 #define CHAIN owners, N, priorities, N, offsets, N + 1, targets, M
+    COUNT_AFRESH(N, M, CHAIN);
     print("zielonka of 4,096 vertices",
-          reckonbough_zielonka(CHAIN, UINT64_MAX, even, S, odd, S, strategy, N, area, w, &place, &count));
-    print("check of it", reckonbough_check(CHAIN, even, S, odd, S, strategy, N, area, w, &place, &count));
+          reckonbough_zielonka(GAME(N, M, CHAIN), UINT64_MAX, even, S, odd, S, strategy, N, area, w, &place, &count));
+    print("check of it", reckonbough_check(GAME(N, M, CHAIN), even, S, odd, S, strategy, N, area, w, &place, &count));
     print("priority_promotion of 4,096 vertices",
-          reckonbough_priority_promotion(CHAIN, UINT64_MAX, even, S, odd, S, strategy, N, area, w, &place, &count));
-    print("check of it", reckonbough_check(CHAIN, even, S, odd, S, strategy, N, area, w, &place, &count));
+          reckonbough_priority_promotion(GAME(N, M, CHAIN), UINT64_MAX, even, S, odd, S, strategy, N, area, w, &place, &count));
+    print("check of it", reckonbough_check(GAME(N, M, CHAIN), even, S, odd, S, strategy, N, area, w, &place, &count));
     print("quasi_polynomial of 4,096 vertices",
-          reckonbough_quasi_polynomial(CHAIN, even, S, odd, S, area, reckonbough_opinion_words(N, M), &place, &count));
-    print("check of its sets", reckonbough_check(CHAIN, even, S, odd, S, strategy, N, area, w, &place, &count));
-    print("solitaire of 4,096 vertices", reckonbough_solitaire(CHAIN, even, S, area, w, &place, &count));
+          reckonbough_quasi_polynomial(GAME(N, M, CHAIN), even, S, odd, S, area, reckonbough_opinion_words(N, M), &place, &count));
+    print("check of its sets", reckonbough_check(GAME(N, M, CHAIN), even, S, odd, S, strategy, N, area, w, &place, &count));
+    print("solitaire of 4,096 vertices", reckonbough_solitaire(GAME(N, M, CHAIN), even, S, area, w, &place, &count));
     static uint8_t text[RECKONBOUGH_MAX_TEXT];
-    print("write of 4,096 vertices", reckonbough_write(CHAIN, text, sizeof text, &place, &count));
+    print("write of 4,096 vertices", reckonbough_write(GAME(N, M, CHAIN), text, sizeof text, &place, &count));
     print("zielonka of 4,097 vertices",
-          reckonbough_zielonka(owners, N + 1, priorities, N + 1, offsets, N + 2, targets, M, UINT64_MAX, even, S, odd, S,
-                               strategy, N, area, w, &place, &count));
+          reckonbough_zielonka(N + 1, M, owners, N + 1, priorities, N + 1, offsets, N + 2, targets, M, numbers_kept,
+                               RECKONBOUGH_KEPT, UINT64_MAX, even, S, odd, S, strategy, N, area, w, &place, &count));
 }
 
 int main(void)

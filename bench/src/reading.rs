@@ -9,9 +9,9 @@ pub fn print() {
     let game = (crate::families::FAMILIES[0].game)(4_096);
     let text = text_of(&game);
     let mut rooms = Rooms::filled(game.n(), game.m(), 0);
-    let mut out = vec![0; text.len()];
+    let (kept, mut out) = (port::fresh(&game.priorities), vec![0; text.len()]);
     let read = best(|| assert_eq!(port::read(&text, 1 << 24, &mut rooms).number, 0, "the text is refused"));
-    let written = best(|| assert_eq!(port::write(&game, &mut out).number, 0, "the game is refused"));
+    let written = best(|| assert_eq!(port::write(&game, &kept, &mut out).number, 0, "the game is refused"));
     let looped = best(|| {
         black_box(black_box(&text).iter().fold(0u64, |sum, byte| black_box(sum + u64::from(*byte))));
     });

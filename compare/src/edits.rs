@@ -2,19 +2,10 @@
 
 use crate::game::Game;
 use crate::generate::{self, Numbers};
-use crate::port::{self, Record};
+use crate::port::{self, fresh, Record};
 
 /// Edits of one sequence.
 const EDITS: usize = 12;
-
-/// What a fresh count of the first n priorities gives, by plain code.
-fn fresh(priorities: &[u16]) -> Vec<u64> {
-    let mut kept = vec![0; 258];
-    priorities.iter().for_each(|p| kept[usize::from(*p)] += 1);
-    kept[256] = kept[..256].iter().filter(|count| **count != 0).count() as u64;
-    kept[257] = priorities.iter().max().map_or(0, |p| u64::from(*p));
-    kept
-}
 
 /// A record of the game with junk in the room behind it.
 fn record_of(game: &Game, numbers: &mut Numbers) -> Record {

@@ -145,7 +145,8 @@ fn solitaire(game: &Game, want: &Want) -> Result<(), String> {
 fn compact(game: &Game) -> Result<(), String> {
     let mut lent = Lent::junk(game);
     same("port: compact", &Answer::yes(0), &port::compact(game, &mut lent))?;
-    same("port: new priorities", &compaction::compact(game), &lent.strategy)
+    same("port: new priorities", &compaction::compact(game), &lent.strategy)?;
+    same("port: kept numbers of the new priorities", &port::fresh(&lent.strategy), &lent.new_kept)
 }
 
 /// A random target in a random V, then the same with a bit where none may be.

@@ -2,9 +2,12 @@
 
 use crate::game::Game;
 use crate::generate::Numbers;
-use crate::port::{self, Rooms};
+use crate::port::{self, fresh, Rooms};
 use crate::reader::{self, Limits};
 use crate::reference::Answer;
+
+/// The door that writes kept numbers too.
+const READ: &str = "read";
 
 /// What stands in the rooms before a door is called.
 const JUNK: u8 = 0xa5;
@@ -21,7 +24,7 @@ pub fn compare(seed: u64, tally: &mut Tally) -> Result<(), String> {
     let bytes = if numbers.one_in(4) { numbers.below(text.len() + 2) } else { 16_384 };
     let limits = Limits { bytes, vertices, edges };
     for (name, want, door) in [
-        ("read", reader::read(&text, limits), port::read as fn(&[u8], u64, &mut Rooms) -> Answer),
+        (READ, reader::read(&text, limits), port::read as fn(&[u8], u64, &mut Rooms) -> Answer),
         ("read_tables", reader::read_tables(&text, limits), port::read_tables),
     ] {
         let mut rooms = Rooms::filled(vertices, edges, JUNK);
@@ -31,7 +34,13 @@ pub fn compare(seed: u64, tally: &mut Tally) -> Result<(), String> {
             Err(answer) => (answer, None),
         };
         *tally.entry(answer.number).or_default() += 1;
-        if got != answer || rooms != left(game.as_ref(), vertices, edges) {
+        let kept = match &game {
+            _ if name != READ => vec![u64::from_ne_bytes([JUNK; 8]); 258],
+            Some(game) => fresh(&game.priorities),
+            None => vec![0; 258],
+        };
+        let expected = Rooms { kept, ..left(game.as_ref(), vertices, edges) };
+        if got != answer || rooms != expected {
             let shown = String::from_utf8_lossy(&text);
             let wanted = format!("wanted {answer:?} and {game:?}, got {got:?} and {rooms:?}");
             return Err(format!("{name} of {shown:?} within {limits:?}: {wanted}"));
@@ -57,7 +66,9 @@ fn left(game: Option<&Game>, vertices: usize, edges: usize) -> Rooms {
 
 /// 9 and 10 come before the text and write nothing.
 fn refused_rooms(text: &[u8], vertices: usize, edges: usize) -> Result<(), String> {
-    let spoil: [(u64, fn(&mut Rooms)); 4] = [
+    let spoil: [(u64, fn(&mut Rooms)); 6] = [
+        (9, |rooms| rooms.kept.truncate(257)),
+        (9, |rooms| rooms.kept.push(7)),
         (9, |rooms| rooms.priorities.push(7)),
         (9, |rooms| rooms.offsets.truncate(rooms.owners.len())),
         (9, |rooms| rooms.owners.push(7)),

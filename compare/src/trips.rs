@@ -15,14 +15,15 @@ pub fn compare(seed: u64) -> Result<(), String> {
     }
     let plain = text_of(&game);
     let mut text = vec![BEHIND; plain.len() + 3];
-    let answer = port::write(&game, &mut text);
+    let kept = port::fresh(&game.priorities);
+    let answer = port::write(&game, &kept, &mut text);
     if answer.number != 0 || answer.count != plain.len() as u64 || text[..plain.len()] != plain[..] {
         return Err(format!("written otherwise: {answer:?}, {game:?}"));
     }
     if text[plain.len()..] != [BEHIND; 3] {
         return Err(format!("written behind the text: {game:?}"));
     }
-    let short = port::write(&game, &mut text[..plain.len() - 1]);
+    let short = port::write(&game, &kept, &mut text[..plain.len() - 1]);
     if (short.number, short.place, short.count) != (34, plain.len() as u64, 0) {
         return Err(format!("one byte too few gets {short:?}: {game:?}"));
     }

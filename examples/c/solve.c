@@ -14,7 +14,8 @@ static const uint8_t owners[N] = {0, 1};
 static const uint16_t priorities[N] = {2, 0};
 static const uint16_t offsets[N + 1] = {0, 1, 3};
 static const uint16_t targets[M] = {1, 0, 1};
-#define TABLES owners, N, priorities, N, offsets, N + 1, targets, M
+static uint64_t kept[RECKONBOUGH_KEPT];
+#define GAME N, M, owners, N, priorities, N, offsets, N + 1, targets, M, kept, RECKONBOUGH_KEPT
 
 static uint64_t even[S], odd[S], place, count;
 static uint16_t strategy[N];
@@ -35,7 +36,7 @@ static void print_checked(void)
             printf(" and goes to %u", (unsigned)strategy[v]);
         printf("\n");
     }
-    uint64_t number = reckonbough_check(TABLES, even, S, odd, S, strategy, N, work, work_length, &place, &count);
+    uint64_t number = reckonbough_check(GAME, even, S, odd, S, strategy, N, work, work_length, &place, &count);
     if (number == RECKONBOUGH_ANSWERED)
         printf("checked: yes\n");
     else
@@ -58,12 +59,13 @@ int main(void)
     if (work == NULL)
         return 1;
 
-    answered(reckonbough_zielonka(TABLES, UINT64_MAX, even, S, odd, S, strategy, N, work, work_length, &place, &count));
+    answered(reckonbough_fresh_count(GAME, &place, &count));
+    answered(reckonbough_zielonka(GAME, UINT64_MAX, even, S, odd, S, strategy, N, work, work_length, &place, &count));
     printf("zielonka: %" PRIu64 " calls\n", count);
     print_checked();
 
     answered(reckonbough_priority_promotion(
-        TABLES, UINT64_MAX, even, S, odd, S, strategy, N, work, work_length, &place, &count));
+        GAME, UINT64_MAX, even, S, odd, S, strategy, N, work, work_length, &place, &count));
     printf("priority promotion: %" PRIu64 " rounds\n", count);
     print_checked();
 

@@ -1,7 +1,7 @@
 /*
  * Reads the cases of tests/files on standard input and reads each text once whole and then in portions, through the C
  * functions: cut after each byte, byte by byte, and in three random ways with empty portions among them. Number, place,
- * sizes, tables and work area must be the same each time, and a portion after the outcome must change nothing.
+ * sizes, tables, kept numbers and work area must be the same each time, and a portion after the outcome must change nothing.
  */
 #include <stdio.h>
 #include <stdlib.h>
@@ -15,7 +15,7 @@ struct result {
     uint64_t number, place, count, n, m;
     uint8_t owners[VERTICES];
     uint16_t priorities[VERTICES], offsets[VERTICES + 1], targets[EDGES];
-    uint64_t work[WORK];
+    uint64_t kept[RECKONBOUGH_KEPT], work[WORK];
 };
 
 #define OUT(r) (r)->owners, VERTICES, (r)->priorities, VERTICES, (r)->offsets, VERTICES + 1, (r)->targets, EDGES
@@ -53,7 +53,8 @@ static int portion(struct result *r, const uint8_t *text, size_t length)
 static void end(struct result *r)
 {
     memset(r->work, 0x5a, sizeof r->work);
-    r->number = reckonbough_read_end(state, STATE, OUT(r), r->work, WORK, &r->n, &r->m, &r->place, &r->count);
+    r->number = reckonbough_read_end(state, STATE, OUT(r), r->kept, RECKONBOUGH_KEPT, r->work, WORK, &r->n, &r->m,
+                                     &r->place, &r->count);
 }
 
 /* The text in two portions, the first so long. */
@@ -90,7 +91,8 @@ static unsigned differing(const uint8_t *text, size_t length)
 {
     static struct result whole;
     memset(&whole, 0xa5, sizeof whole);
-    whole.number = reckonbough_read(text, length, MOST, OUT(&whole), whole.work, WORK, &whole.n, &whole.m, &whole.place, &whole.count);
+    whole.number = reckonbough_read(text, length, MOST, OUT(&whole), whole.kept, RECKONBOUGH_KEPT, whole.work, WORK,
+                                    &whole.n, &whole.m, &whole.place, &whole.count);
     unsigned wrong = 0;
     for (size_t first = 0; first <= length; first++)
         wrong += !cut_at(&whole, text, length, first);

@@ -6,7 +6,7 @@
 //! A work area is [`work_words`] words or more. For [`zielonka`] 2 MiB of stack are enough on x86-64, the size that
 //! `std::thread` gives.
 
-use crate::{Answer, Tables};
+use crate::{Answer, Record, Tables};
 
 /// s: the words of a set of n vertices.
 pub fn set_words(n: usize) -> usize {
@@ -42,10 +42,12 @@ extern "C" {
         place: *mut u64, count: *mut u64,
     ) -> u64;
     fn reckonbough_attractor(
-        owners: *const u8, owners_length: usize,
-        priorities: *const u16, priorities_length: usize,
-        offsets: *const u16, offsets_length: usize,
-        targets: *const u16, targets_length: usize,
+        n: u64, m: u64,
+        owners: *const u8, owners_room: usize,
+        priorities: *const u16, priorities_room: usize,
+        offsets: *const u16, offsets_room: usize,
+        targets: *const u16, targets_room: usize,
+        kept: *const u64, kept_length: usize,
         player: u8,
         within: *const u64, within_length: usize,
         target: *const u64, target_length: usize,
@@ -56,10 +58,12 @@ extern "C" {
         place: *mut u64, count: *mut u64,
     ) -> u64;
     fn reckonbough_zielonka(
-        owners: *const u8, owners_length: usize,
-        priorities: *const u16, priorities_length: usize,
-        offsets: *const u16, offsets_length: usize,
-        targets: *const u16, targets_length: usize,
+        n: u64, m: u64,
+        owners: *const u8, owners_room: usize,
+        priorities: *const u16, priorities_room: usize,
+        offsets: *const u16, offsets_room: usize,
+        targets: *const u16, targets_room: usize,
+        kept: *const u64, kept_length: usize,
         budget: u64,
         even: *mut u64, even_length: usize,
         odd: *mut u64, odd_length: usize,
@@ -68,10 +72,12 @@ extern "C" {
         place: *mut u64, count: *mut u64,
     ) -> u64;
     fn reckonbough_priority_promotion(
-        owners: *const u8, owners_length: usize,
-        priorities: *const u16, priorities_length: usize,
-        offsets: *const u16, offsets_length: usize,
-        targets: *const u16, targets_length: usize,
+        n: u64, m: u64,
+        owners: *const u8, owners_room: usize,
+        priorities: *const u16, priorities_room: usize,
+        offsets: *const u16, offsets_room: usize,
+        targets: *const u16, targets_room: usize,
+        kept: *const u64, kept_length: usize,
         budget: u64,
         even: *mut u64, even_length: usize,
         odd: *mut u64, odd_length: usize,
@@ -80,29 +86,35 @@ extern "C" {
         place: *mut u64, count: *mut u64,
     ) -> u64;
     fn reckonbough_quasi_polynomial(
-        owners: *const u8, owners_length: usize,
-        priorities: *const u16, priorities_length: usize,
-        offsets: *const u16, offsets_length: usize,
-        targets: *const u16, targets_length: usize,
+        n: u64, m: u64,
+        owners: *const u8, owners_room: usize,
+        priorities: *const u16, priorities_room: usize,
+        offsets: *const u16, offsets_room: usize,
+        targets: *const u16, targets_room: usize,
+        kept: *const u64, kept_length: usize,
         even: *mut u64, even_length: usize,
         odd: *mut u64, odd_length: usize,
         work: *mut u64, work_length: usize,
         place: *mut u64, count: *mut u64,
     ) -> u64;
     fn reckonbough_solitaire(
-        owners: *const u8, owners_length: usize,
-        priorities: *const u16, priorities_length: usize,
-        offsets: *const u16, offsets_length: usize,
-        targets: *const u16, targets_length: usize,
+        n: u64, m: u64,
+        owners: *const u8, owners_room: usize,
+        priorities: *const u16, priorities_room: usize,
+        offsets: *const u16, offsets_room: usize,
+        targets: *const u16, targets_room: usize,
+        kept: *const u64, kept_length: usize,
         set: *mut u64, set_length: usize,
         work: *mut u64, work_length: usize,
         place: *mut u64, count: *mut u64,
     ) -> u64;
     fn reckonbough_show_loop(
-        owners: *const u8, owners_length: usize,
-        priorities: *const u16, priorities_length: usize,
-        offsets: *const u16, offsets_length: usize,
-        targets: *const u16, targets_length: usize,
+        n: u64, m: u64,
+        owners: *const u8, owners_room: usize,
+        priorities: *const u16, priorities_room: usize,
+        offsets: *const u16, offsets_room: usize,
+        targets: *const u16, targets_room: usize,
+        kept: *const u64, kept_length: usize,
         vertex: u64,
         path: *mut u16, path_room: usize,
         cycle: *mut u16, cycle_room: usize,
@@ -111,10 +123,12 @@ extern "C" {
         place: *mut u64, count: *mut u64,
     ) -> u64;
     fn reckonbough_check(
-        owners: *const u8, owners_length: usize,
-        priorities: *const u16, priorities_length: usize,
-        offsets: *const u16, offsets_length: usize,
-        targets: *const u16, targets_length: usize,
+        n: u64, m: u64,
+        owners: *const u8, owners_room: usize,
+        priorities: *const u16, priorities_room: usize,
+        offsets: *const u16, offsets_room: usize,
+        targets: *const u16, targets_room: usize,
+        kept: *const u64, kept_length: usize,
         even: *const u64, even_length: usize,
         odd: *const u64, odd_length: usize,
         strategy: *const u16, strategy_length: usize,
@@ -122,11 +136,14 @@ extern "C" {
         place: *mut u64, count: *mut u64,
     ) -> u64;
     fn reckonbough_compact(
-        owners: *const u8, owners_length: usize,
-        priorities: *const u16, priorities_length: usize,
-        offsets: *const u16, offsets_length: usize,
-        targets: *const u16, targets_length: usize,
+        n: u64, m: u64,
+        owners: *const u8, owners_room: usize,
+        priorities: *const u16, priorities_room: usize,
+        offsets: *const u16, offsets_room: usize,
+        targets: *const u16, targets_room: usize,
+        kept: *const u64, kept_length: usize,
         new_priorities: *mut u16, new_priorities_length: usize,
+        new_kept: *mut u64, new_kept_length: usize,
         place: *mut u64, count: *mut u64,
     ) -> u64;
     fn reckonbough_read(
@@ -136,6 +153,7 @@ extern "C" {
         priorities: *mut u16, priorities_length: usize,
         offsets: *mut u16, offsets_length: usize,
         targets: *mut u16, targets_length: usize,
+        kept: *mut u64, kept_length: usize,
         work: *mut u64, work_length: usize,
         n: *mut u64, m: *mut u64,
         place: *mut u64, count: *mut u64,
@@ -175,6 +193,7 @@ extern "C" {
         priorities: *mut u16, priorities_length: usize,
         offsets: *mut u16, offsets_length: usize,
         targets: *mut u16, targets_length: usize,
+        kept: *mut u64, kept_length: usize,
         work: *mut u64, work_length: usize,
         n: *mut u64, m: *mut u64,
         place: *mut u64, count: *mut u64,
@@ -191,10 +210,12 @@ extern "C" {
         place: *mut u64, count: *mut u64,
     ) -> u64;
     fn reckonbough_write(
-        owners: *const u8, owners_length: usize,
-        priorities: *const u16, priorities_length: usize,
-        offsets: *const u16, offsets_length: usize,
-        targets: *const u16, targets_length: usize,
+        n: u64, m: u64,
+        owners: *const u8, owners_room: usize,
+        priorities: *const u16, priorities_room: usize,
+        offsets: *const u16, offsets_room: usize,
+        targets: *const u16, targets_room: usize,
+        kept: *const u64, kept_length: usize,
         text: *mut u8, text_length: usize,
         place: *mut u64, count: *mut u64,
     ) -> u64;
@@ -257,14 +278,34 @@ macro_rules! call {
     }};
 }
 
+/// Calls a C function with the record, its own arguments, place and count.
+macro_rules! call_on {
+    ($function:ident, $record:expr $(, $argument:expr)*) => {{
+        let Record { n, m, tables, kept } = $record;
+        let Tables { owners, priorities, offsets, targets } = tables;
+        let (mut place, mut count) = (0, 0);
+        // SAFETY: every pointer comes with the length of the slice it was taken from. What is written to was lent by &mut,
+        // so it overlaps nothing else. The function keeps no pointer and asks nothing of what the slices hold.
+        let number = unsafe {
+            $function(
+                n, m,
+                owners.as_ptr(), owners.len(), priorities.as_ptr(), priorities.len(),
+                offsets.as_ptr(), offsets.len(), targets.as_ptr(), targets.len(), kept.as_ptr(), kept.len(),
+                $($argument,)* &mut place, &mut count,
+            )
+        };
+        Answer { number, place, count }
+    }};
+}
+
 /// Checks the tables: 0, or 1 to 8.
 pub fn check_tables(tables: Tables<'_>) -> Answer {
     call!(reckonbough_check_tables, tables)
 }
 
-/// The attractor of `target` in `within` for a player (0 Even, anything else Odd): 0, 1 to 10 or 12; the count is looks.
+/// The attractor of `target` in `within` for a player (0 Even, anything else Odd): 0, 1 to 8, 47, 9, 10 or 12; the count is looks.
 pub fn attractor(
-    tables: Tables<'_>,
+    record: Record<'_>,
     player: u8,
     within: &[u64],
     target: &[u64],
@@ -273,82 +314,85 @@ pub fn attractor(
     distances: &mut [u16],
     work: &mut [u64],
 ) -> Answer {
-    call! {
-        reckonbough_attractor, tables, player,
+    call_on! {
+        reckonbough_attractor, record, player,
         within.as_ptr(), within.len(), target.as_ptr(), target.len(), result.as_mut_ptr(), result.len(),
         strategy.as_mut_ptr(), strategy.len(), distances.as_mut_ptr(), distances.len(), work.as_mut_ptr(), work.len()
     }
 }
 
-/// Solves by Zielonka's recursion: 0, 1 to 10 or 13; the count is calls.
+/// Solves by Zielonka's recursion: 0, 1 to 8, 47, 9, 10 or 13; the count is calls.
 pub fn zielonka(
-    tables: Tables<'_>,
+    record: Record<'_>,
     budget: u64,
     even: &mut [u64],
     odd: &mut [u64],
     strategy: &mut [u16],
     work: &mut [u64],
 ) -> Answer {
-    call! {
-        reckonbough_zielonka, tables, budget,
+    call_on! {
+        reckonbough_zielonka, record, budget,
         even.as_mut_ptr(), even.len(), odd.as_mut_ptr(), odd.len(),
         strategy.as_mut_ptr(), strategy.len(), work.as_mut_ptr(), work.len()
     }
 }
 
-/// Solves by priority promotion: 0, 1 to 10 or 13; the count is rounds.
+/// Solves by priority promotion: 0, 1 to 8, 47, 9, 10 or 13; the count is rounds.
 pub fn priority_promotion(
-    tables: Tables<'_>,
+    record: Record<'_>,
     budget: u64,
     even: &mut [u64],
     odd: &mut [u64],
     strategy: &mut [u16],
     work: &mut [u64],
 ) -> Answer {
-    call! {
-        reckonbough_priority_promotion, tables, budget,
+    call_on! {
+        reckonbough_priority_promotion, record, budget,
         even.as_mut_ptr(), even.len(), odd.as_mut_ptr(), odd.len(),
         strategy.as_mut_ptr(), strategy.len(), work.as_mut_ptr(), work.len()
     }
 }
 
-/// A second opinion by the quasi-polynomial recursion, the sets alone, in [`opinion_words`] words or more: 0 or 1 to 10.
-pub fn quasi_polynomial(tables: Tables<'_>, even: &mut [u64], odd: &mut [u64], work: &mut [u64]) -> Answer {
-    call! {
-        reckonbough_quasi_polynomial, tables,
+/// A second opinion by the quasi-polynomial recursion, the sets alone, in [`opinion_words`] words or more: 0, 1 to 8, 47, 9 or 10.
+pub fn quasi_polynomial(record: Record<'_>, even: &mut [u64], odd: &mut [u64], work: &mut [u64]) -> Answer {
+    call_on! {
+        reckonbough_quasi_polynomial, record,
         even.as_mut_ptr(), even.len(), odd.as_mut_ptr(), odd.len(), work.as_mut_ptr(), work.len()
     }
 }
 
-/// Solves a game with one owner, whose winning set is written: 0 or 1 to 11; the count is 0.
-pub fn solitaire(tables: Tables<'_>, set: &mut [u64], work: &mut [u64]) -> Answer {
-    call!(reckonbough_solitaire, tables, set.as_mut_ptr(), set.len(), work.as_mut_ptr(), work.len())
+/// Solves a game with one owner, whose winning set is written: 0, 1 to 8, 47 or 9 to 11; the count is 0.
+pub fn solitaire(record: Record<'_>, set: &mut [u64], work: &mut [u64]) -> Answer {
+    call_on!(reckonbough_solitaire, record, set.as_mut_ptr(), set.len(), work.as_mut_ptr(), work.len())
 }
 
 /// Writes a run from a vertex of a game with one owner, a path to a cycle and the cycle, at the front of two lists of 2·n entries
-/// or more; what is behind stays: 0, 1 to 8, 10, 11, 44, 45 or 46; the count is both lengths together, and the path's comes with
+/// or more; what is behind stays: 0, 1 to 8, 47, 10, 11, 44, 45 or 46; the count is both lengths together, and the path's comes with
 /// the answer.
-pub fn show_loop(tables: Tables<'_>, vertex: u64, path: &mut [u16], cycle: &mut [u16], work: &mut [u64]) -> (Answer, usize) {
+pub fn show_loop(record: Record<'_>, vertex: u64, path: &mut [u16], cycle: &mut [u16], work: &mut [u64]) -> (Answer, usize) {
     let mut path_length = 0;
-    let answer = call! {
-        reckonbough_show_loop, tables, vertex,
+    let answer = call_on! {
+        reckonbough_show_loop, record, vertex,
         path.as_mut_ptr(), path.len(), cycle.as_mut_ptr(), cycle.len(), work.as_mut_ptr(), work.len(), &mut path_length
     };
     (answer, path_length as usize)
 }
 
-/// Checks a claim of winning sets and strategy: 0 for yes, 1 to 10 or 21 to 25; the count is 0.
-pub fn check(tables: Tables<'_>, even: &[u64], odd: &[u64], strategy: &[u16], work: &mut [u64]) -> Answer {
-    call! {
-        reckonbough_check, tables,
+/// Checks a claim of winning sets and strategy: 0 for yes, 1 to 8, 47, 9, 10 or 21 to 25; the count is 0.
+pub fn check(record: Record<'_>, even: &[u64], odd: &[u64], strategy: &[u16], work: &mut [u64]) -> Answer {
+    call_on! {
+        reckonbough_check, record,
         even.as_ptr(), even.len(), odd.as_ptr(), odd.len(),
         strategy.as_ptr(), strategy.len(), work.as_mut_ptr(), work.len()
     }
 }
 
-/// Writes the compacted priorities: 0 or 1 to 9; the count is 0.
-pub fn compact(tables: Tables<'_>, new_priorities: &mut [u16]) -> Answer {
-    call!(reckonbough_compact, tables, new_priorities.as_mut_ptr(), new_priorities.len())
+/// Writes the compacted priorities, and a fresh count of them: 0, 1 to 8, 47 or 9; the count is 0.
+pub fn compact(record: Record<'_>, new_priorities: &mut [u16], new_kept: &mut [u64]) -> Answer {
+    call_on! {
+        reckonbough_compact, record,
+        new_priorities.as_mut_ptr(), new_priorities.len(), new_kept.as_mut_ptr(), new_kept.len()
+    }
 }
 
 /// The tables that a text is read into: their lengths are the limits on vertices and edges. `priorities` is as long as `owners`,
@@ -364,10 +408,10 @@ pub struct Rooms<'a> {
     pub targets: &'a mut [u16],
 }
 
-/// Calls one of the two readers; n and m come with the answer.
+/// Calls one of the two readers, with the kept numbers where it writes them; n and m come with the answer.
 macro_rules! read {
-    ($function:ident, $text:expr, $most_bytes:expr, $rooms:expr, $work:expr) => {{
-        let (text, Rooms { owners, priorities, offsets, targets }, work) = ($text, $rooms, $work);
+    ($function:ident, $text:expr, $most_bytes:expr, $rooms:expr, $work:ident $(, $kept:ident)?) => {{
+        let (text, Rooms { owners, priorities, offsets, targets }) = ($text, $rooms);
         let (mut n, mut m, mut place, mut count) = (0, 0, 0, 0);
         // SAFETY: every pointer comes with the length of the slice it was taken from. What is written to was lent by &mut,
         // so it overlaps nothing else. The function keeps no pointer and asks nothing of what the slices hold.
@@ -376,20 +420,27 @@ macro_rules! read {
                 text.as_ptr(), text.len(), $most_bytes,
                 owners.as_mut_ptr(), owners.len(), priorities.as_mut_ptr(), priorities.len(),
                 offsets.as_mut_ptr(), offsets.len(), targets.as_mut_ptr(), targets.len(),
-                work.as_mut_ptr(), work.len(), &mut n, &mut m, &mut place, &mut count,
+                $($kept.as_mut_ptr(), $kept.len(),)?
+                $work.as_mut_ptr(), $work.len(), &mut n, &mut m, &mut place, &mut count,
             )
         };
         (Answer { number, place, count }, n as usize, m as usize)
     }};
 }
 
-/// Reads a game from PGSolver text: 0, 9, 10, 30 or 32, 31, then 4, 5 or 7; with n and m. The work area is at least the room of
-/// owners and that of targets together.
-pub fn read(text: &[u8], most_bytes: u64, rooms: Rooms<'_>, work: &mut [u64]) -> (Answer, usize, usize) {
-    read!(reckonbough_read, text, most_bytes, rooms, work)
+/// Reads a game from PGSolver text: 0, 9, 10, 30 or 32, 31, then 4, 5 or 7; with n and m. `kept`, [`KEPT`](crate::KEPT) numbers,
+/// is a fresh count of the priorities afterwards. The work area is at least the room of owners and that of targets together.
+pub fn read(
+    text: &[u8],
+    most_bytes: u64,
+    rooms: Rooms<'_>,
+    kept: &mut [u64],
+    work: &mut [u64],
+) -> (Answer, usize, usize) {
+    read!(reckonbough_read, text, most_bytes, rooms, work, kept)
 }
 
-/// Reads what a PGSolver text says, also where it is no game: as [`read`], but none of 1 to 8.
+/// Reads what a PGSolver text says, also where it is no game: as [`read`], but no kept numbers and none of 1 to 8.
 pub fn read_tables(text: &[u8], most_bytes: u64, rooms: Rooms<'_>, work: &mut [u64]) -> (Answer, usize, usize) {
     read!(reckonbough_read_tables, text, most_bytes, rooms, work)
 }
@@ -430,7 +481,12 @@ pub fn read_portion(portion: &[u8], state: &mut [u64], rooms: Rooms<'_>) -> Answ
 }
 
 /// The end of the text: what [`read`] of the whole text gives and leaves; with n and m.
-pub fn read_end(state: &mut [u64], rooms: Rooms<'_>, work: &mut [u64]) -> (Answer, usize, usize) {
+pub fn read_end(
+    state: &mut [u64],
+    rooms: Rooms<'_>,
+    kept: &mut [u64],
+    work: &mut [u64],
+) -> (Answer, usize, usize) {
     let Rooms { owners, priorities, offsets, targets } = rooms;
     let (mut n, mut m, mut place, mut count) = (0, 0, 0, 0);
     // SAFETY: every pointer comes with the length of the slice it was taken from. What is written to was lent by &mut, so it
@@ -440,6 +496,7 @@ pub fn read_end(state: &mut [u64], rooms: Rooms<'_>, work: &mut [u64]) -> (Answe
             state.as_mut_ptr(), state.len(),
             owners.as_mut_ptr(), owners.len(), priorities.as_mut_ptr(), priorities.len(),
             offsets.as_mut_ptr(), offsets.len(), targets.as_mut_ptr(), targets.len(),
+            kept.as_mut_ptr(), kept.len(),
             work.as_mut_ptr(), work.len(), &mut n, &mut m, &mut place, &mut count,
         )
     };
@@ -462,10 +519,10 @@ pub fn mend(
     }
 }
 
-/// Writes the game as PGSolver text at the front of `text`; what is behind stays: 0, 1 to 8, 33 or 34; the count is the text's
+/// Writes the game as PGSolver text at the front of `text`; what is behind stays: 0, 1 to 8, 47, 33 or 34; the count is the text's
 /// length. [`MAX_TEXT`](crate::MAX_TEXT) bytes are enough for every game.
-pub fn write(tables: Tables<'_>, text: &mut [u8]) -> Answer {
-    call!(reckonbough_write, tables, text.as_mut_ptr(), text.len())
+pub fn write(record: Record<'_>, text: &mut [u8]) -> Answer {
+    call_on!(reckonbough_write, record, text.as_mut_ptr(), text.len())
 }
 
 /// Counts the priorities of a record afresh: 0, 1 to 8, or 9 for a kept that is not [`KEPT`](crate::KEPT) numbers.

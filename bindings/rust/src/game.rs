@@ -36,6 +36,20 @@ pub struct Tables<'a> {
     pub targets: &'a [u16],
 }
 
+/// A game record as it is lent to [`doors`]: sizes, tables that may have room to spare, and the kept numbers. Only the first n, n,
+/// n + 1 and m entries of the tables count.
+#[derive(Clone, Copy, Debug, PartialEq, Eq)]
+pub struct Record<'a> {
+    /// How many vertices there are.
+    pub n: u64,
+    /// How many edges there are.
+    pub m: u64,
+    /// The tables.
+    pub tables: Tables<'a>,
+    /// How many vertices have priority 0 to 255, how many different ones there are, the highest: [`KEPT`] numbers.
+    pub kept: &'a [u64],
+}
+
 /// The tables of a game. They were checked when it was made, so no method refuses them; each says what else it refuses.
 ///
 /// Each call of a solver, of [`attractor`](Game::attractor) and of [`check`](Game::check) allocates a work area of its own,
@@ -283,9 +297,11 @@ impl Game {
     pub fn read(text: &[u8]) -> Result<Game, Refusal> {
         let mut game = Game::with_room();
         let mut work = vec![0; game.owners.len() + game.targets.len()];
-        let (answer, n, m) = doors::read(text, crate::MAX_READ, game.rooms(), &mut work);
+        let (rooms, kept) = game.written();
+        let (answer, n, m) = doors::read(text, crate::MAX_READ, rooms, kept, &mut work);
         answer.result()?;
-        game.cut_to(n, m)
+        game.truncate(n, m);
+        Ok(game)
     }
 
     /// Tables with room for the largest game.
@@ -301,20 +317,16 @@ impl Game {
     }
 
     fn rooms(&mut self) -> doors::Rooms<'_> {
-        doors::Rooms {
-            owners: &mut self.owners,
-            priorities: &mut self.priorities,
-            offsets: &mut self.offsets,
-            targets: &mut self.targets,
-        }
+        self.written().0
     }
 
-    /// The tables of n vertices and m edges, without the room behind them, with their fresh count.
-    fn cut_to(mut self, n: usize, m: usize) -> Result<Game, Refusal> {
-        self.truncate(n, m);
-        Game::counted(self.owners, self.priorities, self.offsets, self.targets)
+    /// The tables and the kept numbers, for a reader to write.
+    fn written(&mut self) -> (doors::Rooms<'_>, &mut [u64]) {
+        let Game { owners, priorities, offsets, targets, kept } = self;
+        (doors::Rooms { owners, priorities, offsets, targets }, kept)
     }
 
+    /// Leaves the tables of n vertices and m edges, without the room behind them.
     fn truncate(&mut self, n: usize, m: usize) {
         self.owners.truncate(n);
         self.priorities.truncate(n);
@@ -356,6 +368,12 @@ impl Game {
     /// The four tables, to be lent to [`doors`].
     pub fn tables(&self) -> Tables<'_> {
         Tables { owners: &self.owners, priorities: &self.priorities, offsets: &self.offsets, targets: &self.targets }
+    }
+
+    /// The game record, to be lent to [`doors`].
+    pub fn record(&self) -> Record<'_> {
+        let (n, m) = self.sizes();
+        Record { n, m, tables: self.tables(), kept: &self.kept }
     }
 
     /// How many vertices there are.
@@ -443,14 +461,14 @@ impl Game {
     /// [`solve_quasi_polynomial`](Game::solve_quasi_polynomial) in a work area that can be used again.
     pub fn solve_quasi_polynomial_in(&self, work: &mut WorkArea) -> Opinion {
         let (mut even, mut odd) = (self.set(), self.set());
-        let answer = doors::quasi_polynomial(self.tables(), &mut even, &mut odd, self.words_of(work));
+        let answer = doors::quasi_polynomial(self.record(), &mut even, &mut odd, self.words_of(work));
         answer.result().expect("a checked game with buffers that fit is answered");
         Opinion { even: self.members(&even), odd: self.members(&odd) }
     }
 
     fn solve(&self, solver: Solver, budget: u64, work: &mut WorkArea) -> Result<Solved, Refusal> {
         let (mut even, mut odd, mut strategy) = (self.set(), self.set(), self.strategy());
-        let answer = solver(self.tables(), budget, &mut even, &mut odd, &mut strategy, self.words_of(work));
+        let answer = solver(self.record(), budget, &mut even, &mut odd, &mut strategy, self.words_of(work));
         let count = answer.result()?;
         Ok(Solved { even: self.members(&even), odd: self.members(&odd), strategy: choices(&strategy), count })
     }
@@ -465,7 +483,7 @@ impl Game {
     /// [`solve_solitaire_game`](Game::solve_solitaire_game) in a work area that can be used again.
     pub fn solve_solitaire_game_in(&self, work: &mut WorkArea) -> Result<Vec<bool>, Refusal> {
         let mut set = self.set();
-        doors::solitaire(self.tables(), &mut set, self.words_of(work)).result()?;
+        doors::solitaire(self.record(), &mut set, self.words_of(work)).result()?;
         Ok(self.members(&set))
     }
 
@@ -490,7 +508,7 @@ impl Game {
     pub fn show_loop_in(&self, vertex: usize, work: &mut WorkArea) -> Result<Run, Refusal> {
         let (mut path, mut cycle) = (vec![0; 2 * self.vertices()], vec![0; 2 * self.vertices()]);
         let work = self.words_of(work);
-        let (answer, length) = doors::show_loop(self.tables(), vertex as u64, &mut path, &mut cycle, work);
+        let (answer, length) = doors::show_loop(self.record(), vertex as u64, &mut path, &mut cycle, work);
         let both = answer.result()? as usize;
         let listed = |list: &[u16]| list.iter().map(|v| usize::from(*v)).collect();
         Ok(Run { path: listed(&path[..length]), cycle: listed(&cycle[..both - length]) })
@@ -514,8 +532,8 @@ impl Game {
     ) -> Result<Attracted, Refusal> {
         let (mut set, mut strategy, mut distances) = (self.set(), self.strategy(), self.strategy());
         let (within, target, work) = (self.words(within)?, self.words(target)?, self.words_of(work));
-        let (tables, player) = (self.tables(), player as u8);
-        let answer = doors::attractor(tables, player, &within, &target, &mut set, &mut strategy, &mut distances, work);
+        let (record, player) = (self.record(), player as u8);
+        let answer = doors::attractor(record, player, &within, &target, &mut set, &mut strategy, &mut distances, work);
         let looks = answer.result()?;
         let (strategy, distances) = (choices(&strategy), choices(&distances));
         Ok(Attracted { set: self.members(&set), strategy, distances, looks })
@@ -541,7 +559,7 @@ impl Game {
     ) -> Result<(), Refusal> {
         let entries: Vec<u16> = strategy.iter().map(|choice| entry(*choice)).collect();
         let (even, odd) = (self.words(even)?, self.words(odd)?);
-        doors::check(self.tables(), &even, &odd, &entries, self.words_of(work)).result()?;
+        doors::check(self.record(), &even, &odd, &entries, self.words_of(work)).result()?;
         Ok(())
     }
 
@@ -558,8 +576,8 @@ impl Game {
     /// # Ok::<(), reckonbough::Refusal>(())
     /// ```
     pub fn compact(&self) -> Result<Vec<u16>, Refusal> {
-        let mut new_priorities = vec![0; self.vertices()];
-        doors::compact(self.tables(), &mut new_priorities).result()?;
+        let (mut new_priorities, mut new_kept) = (vec![0; self.vertices()], vec![0; KEPT]);
+        doors::compact(self.record(), &mut new_priorities, &mut new_kept).result()?;
         Ok(new_priorities)
     }
 
@@ -573,7 +591,7 @@ impl Game {
     /// ```
     pub fn write(&self) -> Result<Vec<u8>, Refusal> {
         let mut text = vec![0; MAX_TEXT];
-        let length = doors::write(self.tables(), &mut text).result()?;
+        let length = doors::write(self.record(), &mut text).result()?;
         text.truncate(length as usize);
         Ok(text)
     }
@@ -607,7 +625,7 @@ impl Game {
     }
 }
 
-type Solver = fn(Tables<'_>, u64, &mut [u64], &mut [u64], &mut [u16], &mut [u64]) -> Answer;
+type Solver = fn(Record<'_>, u64, &mut [u64], &mut [u64], &mut [u16], &mut [u64]) -> Answer;
 
 fn choices(strategy: &[u16]) -> Vec<Option<usize>> {
     strategy.iter().map(|entry| if *entry == NONE { None } else { Some(usize::from(*entry)) }).collect()
@@ -662,9 +680,11 @@ impl Reader {
     /// The end of the text.
     pub fn end(mut self) -> Result<Game, Refusal> {
         let mut work = vec![0; self.game.owners.len() + self.game.targets.len()];
-        let (answer, n, m) = doors::read_end(&mut self.state, self.game.rooms(), &mut work);
+        let (rooms, kept) = self.game.written();
+        let (answer, n, m) = doors::read_end(&mut self.state, rooms, kept, &mut work);
         answer.result()?;
-        self.game.cut_to(n, m)
+        self.game.truncate(n, m);
+        Ok(self.game)
     }
 }
 

@@ -24,7 +24,7 @@ mod game;
 mod work;
 
 pub use answer::{Answer, Refusal};
-pub use game::{Attracted, Edit, Export, Game, Mended, Opinion, Player, Reader, Run, Solved, Tables};
+pub use game::{Attracted, Edit, Export, Game, Mended, Opinion, Player, Reader, Record, Run, Solved, Tables};
 pub use work::WorkArea;
 
 /// A strategy entry that chooses nothing.

@@ -42,7 +42,7 @@ fn a_refusal_leaves_the_lists() {
     let mut work = vec![7; work_words(4, 4) + 1];
     for (vertex, path_room, number) in [(0, 7, 45), (3, 8, 46), (u64::MAX, 8, 44)] {
         let (mut path, mut cycle) = (vec![9; path_room], vec![9; 8]);
-        let (answer, length) = doors::show_loop(game.tables(), vertex, &mut path, &mut cycle, &mut work);
+        let (answer, length) = doors::show_loop(game.record(), vertex, &mut path, &mut cycle, &mut work);
         assert_eq!((answer.number, answer.count, length), (number, 0, 0));
         assert!(path.iter().chain(&cycle).all(|entry| *entry == 9));
         assert_eq!(work.iter().all(|word| *word == 7), number == 45, "only 45 came before the work area was used");

@@ -3,7 +3,7 @@
 
 use reckonbough::doors::{self, set_words, work_words};
 use reckonbough::Player::{Even, Odd};
-use reckonbough::{Answer, Game, Refusal, Tables, MAX_EDGES, MAX_VERTICES, NONE};
+use reckonbough::{Answer, Game, Record, Refusal, Tables, KEPT, MAX_EDGES, MAX_VERTICES, NONE};
 
 fn refused(owners: &[u8], priorities: &[u16], offsets: &[u16], targets: &[u16]) -> Refusal {
     Game::from_tables(owners.to_vec(), priorities.to_vec(), offsets.to_vec(), targets.to_vec()).unwrap_err()
@@ -126,7 +126,17 @@ struct Lent {
     work: Vec<u64>,
 }
 
-const C6: Tables<'static> = Tables { owners: &[0, 1], priorities: &[2, 1], offsets: &[0, 1, 2], targets: &[1, 1] };
+const C6_TABLES: Tables<'static> = Tables { owners: &[0, 1], priorities: &[2, 1], offsets: &[0, 1, 2], targets: &[1, 1] };
+const C6: Record<'static> = Record { n: 2, m: 2, tables: C6_TABLES, kept: &C6_KEPT };
+/// Priorities 1 and 2 once each: two different ones, 2 the highest.
+const C6_KEPT: [u64; KEPT] = {
+    let mut kept = [0; KEPT];
+    kept[1] = 1;
+    kept[2] = 1;
+    kept[256] = 2;
+    kept[257] = 2;
+    kept
+};
 const JUNK: u64 = 0xfeed_feed_feed_feed;
 const W: usize = 8 * (2 + 2) + 4 * 2 + 2 * 2 + 272;
 
@@ -150,7 +160,7 @@ impl Lent {
     }
 }
 
-type Solver = fn(Tables<'_>, u64, &mut [u64], &mut [u64], &mut [u16], &mut [u64]) -> Answer;
+type Solver = fn(Record<'_>, u64, &mut [u64], &mut [u64], &mut [u16], &mut [u64]) -> Answer;
 
 #[test]
 fn sizes_are_those_of_document_01() {
@@ -169,7 +179,7 @@ fn a_word_too_few_gets_10_and_writes_nothing() {
         assert_eq!(lent.solve(solver, u64::MAX, W).number, 0);
     }
     let ten = Answer { number: 10, place: 0, count: 0 };
-    let solitaire = Tables { owners: &[0, 0], ..C6 };
+    let solitaire = Record { tables: Tables { owners: &[0, 0], ..C6_TABLES }, ..C6 };
     assert_eq!(doors::solitaire(solitaire, &mut [0], &mut [0; W - 1]), ten);
     assert_eq!(doors::check(C6, &[0], &[3], &[NONE, 1], &mut [0; W - 1]), ten);
     assert_eq!(doors::attractor(C6, 0, &[3], &[1], &mut [0], &mut [0; 2], &mut [0; 2], &mut [0; W - 1]), ten);
@@ -193,7 +203,8 @@ fn a_set_or_a_table_of_another_length_gets_9() {
         assert_eq!(solver(C6, 9, &mut [0], &mut [], &mut [0; 2], &mut [0; W]), nine);
         assert_eq!(solver(C6, 9, &mut [0], &mut [0], &mut [0; 3], &mut [0; W - 1]), nine);
     }
-    assert_eq!(doors::compact(C6, &mut [0; 3]), nine);
+    assert_eq!(doors::compact(C6, &mut [0; 3], &mut [0; KEPT]), nine);
+    assert_eq!(doors::compact(C6, &mut [0; 2], &mut [0; KEPT - 1]), nine);
     assert_eq!(doors::solitaire(C6, &mut [], &mut [0; W]), nine);
     assert_eq!(doors::check(C6, &[0], &[3; 2], &[NONE, 1], &mut [0; W]), nine);
     assert_eq!(doors::attractor(C6, 0, &[3], &[], &mut [0], &mut [0; 2], &mut [0; 2], &mut [0; W]), nine);
@@ -205,4 +216,52 @@ fn a_bit_at_n_or_above_gets_12_or_21() {
     let number = |number, place| Answer { number, place, count: 0 };
     assert_eq!(doors::attractor(C6, 0, &[0b111], &[0], &mut [0], &mut [0; 2], &mut [0; 2], &mut [0; W]), number(12, 2));
     assert_eq!(doors::check(C6, &[1 << 63], &[3], &[NONE, 1], &mut [0; W]), number(21, 63));
+}
+
+/// The number that each function on a record gives.
+fn numbers(record: Record<'_>) -> Vec<u64> {
+    let mut lent = Lent::junk();
+    let (even, odd, strategy, work) = (&mut lent.even, &mut lent.odd, &mut lent.strategy, &mut lent.work);
+    let (mut kept, mut distances, mut opinion) = ([0; KEPT], [0; 2], [JUNK; W + 2_064]);
+    vec![
+        doors::zielonka(record, 9, even, odd, strategy, work).number,
+        doors::priority_promotion(record, 9, even, odd, strategy, work).number,
+        doors::quasi_polynomial(record, even, odd, &mut opinion).number,
+        doors::attractor(record, 0, &[3], &[1], even, strategy, &mut distances, work).number,
+        doors::solitaire(record, even, work).number,
+        doors::show_loop(record, 0, &mut [0; 4], &mut [0; 4], work).0.number,
+        doors::check(record, &[0], &[3], &[NONE, 1], work).number,
+        doors::compact(record, strategy, &mut kept).number,
+        doors::write(record, &mut [0; 100]).number,
+    ]
+}
+
+#[test]
+fn kept_numbers_that_a_fresh_count_does_not_give_get_47_everywhere() {
+    assert_eq!(numbers(C6), [0, 0, 0, 0, 11, 11, 0, 0, 0]);
+    for wrong in [0, 1, 255, 256, 257] {
+        let mut kept = C6_KEPT;
+        kept[wrong] += 1;
+        assert_eq!(numbers(Record { kept: &kept, ..C6 }), [47; 9]);
+    }
+    assert_eq!(numbers(Record { kept: &C6_KEPT[1..], ..C6 }), [47; 9]);
+    // 1 to 8 come first
+    assert_eq!(numbers(Record { tables: Tables { targets: &[1, 2], ..C6_TABLES }, kept: &[], ..C6 }), [7; 9]);
+}
+
+#[test]
+fn only_the_first_entries_of_a_record_count() {
+    let roomy = Tables { owners: &[0, 1, 7], priorities: &[2, 1, 300], offsets: &[0, 1, 2, 9, 9], targets: &[1, 1, 5] };
+    assert_eq!(numbers(Record { tables: roomy, ..C6 }), numbers(C6));
+    // n above the room of owners, priorities or offsets, m above that of targets
+    for tables in [
+        Tables { owners: &[0], ..C6_TABLES },
+        Tables { priorities: &[2], ..C6_TABLES },
+        Tables { offsets: &[0, 1], ..C6_TABLES },
+    ] {
+        assert_eq!(numbers(Record { tables, ..C6 }), [2; 9]);
+    }
+    assert_eq!(numbers(Record { tables: Tables { targets: &[1], ..C6_TABLES }, ..C6 }), [3; 9]);
+    assert_eq!(numbers(Record { n: u64::MAX, ..C6 }), [1; 9]);
+    assert_eq!(numbers(Record { m: u64::MAX, ..C6 }), [3; 9]);
 }

@@ -3,7 +3,7 @@
 use crate::compare::{same, Want};
 use crate::game::{worked, Game};
 use crate::generate::Numbers;
-use crate::port::{self, Lent};
+use crate::port::{self, Lent, Lists};
 use crate::reference::tables::{first_refusal, set_words};
 use crate::reference::Answer;
 
@@ -11,12 +11,33 @@ use crate::reference::Answer;
 pub fn compare(game: &Game, numbers: &mut Numbers) -> Result<(), String> {
     for _ in 0..if game.n() > 0 { 4 } else { 0 } {
         let damaged = damage(game, numbers);
-        if let Some(want) = first_refusal(&damaged) {
+        if let Some(want) = first_refusal(&fronts(&damaged)) {
             every_door(&damaged, want, &Lent::junk(&damaged))?;
+        }
+        if let Some(want) = first_refusal(&damaged) {
             same("port: check_tables of damaged tables", &want, &port::check_tables(&damaged))?;
         }
     }
+    wrong_kept(game, numbers)?;
     wrong_sizes(game)
+}
+
+/// The entries that count in a record of so many owners and targets.
+fn fronts(game: &Game) -> Game {
+    let mut front = game.clone();
+    front.priorities.truncate(game.n());
+    front.offsets.truncate(game.n() + 1);
+    front
+}
+
+/// 47 for a kept number that is not the one of a fresh count, and for one too few.
+fn wrong_kept(game: &Game, numbers: &mut Numbers) -> Result<(), String> {
+    let mut lent = Lent::junk(game);
+    lent.kept[numbers.below(258)] ^= 1 << numbers.below(64);
+    every_door(game, Answer::no(47, 0), &lent)?;
+    lent.kept = port::fresh(&game.priorities);
+    lent.kept.pop();
+    every_door(game, Answer::no(47, 0), &lent)
 }
 
 pub(super) fn damage(game: &Game, numbers: &mut Numbers) -> Game {
@@ -56,6 +77,7 @@ fn wrong_sizes(game: &Game) -> Result<(), String> {
     refuse(second_set, game, Answer::no(9, 0), &with(|lent| lent.odd.push(0)))?;
     refuse(entries, game, Answer::no(9, 0), &with(|lent| lent.strategy.push(0)))?;
     refuse(&[attractor], game, Answer::no(9, 0), &with(|lent| lent.distances.push(0)))?;
+    refuse(&[compact], game, Answer::no(9, 0), &with(|lent| lent.new_kept.push(0)))?;
     let longer: &[Call] = &[|game, lent| attractor_of(game, [1, 0], lent), |game, lent| attractor_of(game, [0, 1], lent)];
     refuse(longer, game, Answer::no(9, 0), &Lent::junk(game))?;
     if game.n() > 0 {
@@ -103,8 +125,21 @@ fn compact(game: &Game, lent: &mut Lent) -> Answer {
     port::compact(game, lent)
 }
 
+fn write(game: &Game, lent: &mut Lent) -> Answer {
+    port::write(game, &lent.kept, &mut [0; 8])
+}
+
+fn opinion(game: &Game, lent: &mut Lent) -> Answer {
+    port::quasi_polynomial(game, lent, &mut [])
+}
+
+fn show_loop(game: &Game, lent: &mut Lent) -> Answer {
+    let mut lists = Lists { kept: lent.kept.clone(), ..Lists::junk_lists(game) };
+    port::show_loop(game, 0, &mut lists)
+}
+
 fn every_door(game: &Game, want: Answer, lent: &Lent) -> Result<(), String> {
-    refuse(&[zielonka, promotion, attractor, solitaire, check, compact], game, want, lent)
+    refuse(&[zielonka, promotion, opinion, attractor, solitaire, show_loop, check, compact, write], game, want, lent)
 }
 
 /// Each door gives the refusal and writes nothing.

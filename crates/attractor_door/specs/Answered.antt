@@ -16,7 +16,7 @@ use Rattle.area.specs.Area.{free}
 use Rattle.rules.specs.Solver.{cleared}
 use Rattle.rules.specs.Attracts.{Lent, attractorChecks, wanted, Leaves, Attracts}
 use Rattle.attractor_run.specs.Work.{Runnable, Ran}
-use Rattle.attractor_door.specs.Door.{sizeChecks, checksBy}
+use Rattle.attractor_door.specs.Door.{sizeChecks, lentChecks, checksBy}
 use Rattle.attractor_door.specs.DoorLaws.{within-below, target-part}
 
 pub numbered-checks : (t : Tables) (V' T : List ℕ) (l : Lent) → Numbered (attractorChecks t V' T l)
@@ -25,6 +25,14 @@ numbered-checks t V' T l =
     numbered-then (tableChecks t) _ (numbered-tables t)
     (numbered-then (check9 (vertices t) _ _) _ (numbered-check9 _ _ _)
     (numbered-then (check10 (vertices t) (edgesIn t) _) (check12 (vertices t) V' T) (numbered-check10 _ _ _) (numbered-givenAt 12 _ _ (omega arith))))
+
+-- of accepted tables they are 9, 10 and 12
+pub accepted-checks :
+    (t : Tables) (V' T : List ℕ) (result strategy distances work : ℕ) →
+    Accepted t →
+    lentChecks (vertices t) (edgesIn t) V' T result strategy distances work ≡ checksBy t V' T result strategy distances work
+unfolding Accepted
+accepted-checks t V' T result strategy distances work ok = rw ok
 
 -- a refusal is given as it is, and nothing is written
 leaves-refused : (v : Verdict) (t : Tables) (a : Player) (V' T : List ℕ) (l : Lent) → (v ≡ none → ⊥) → Leaves v t a V' T l l

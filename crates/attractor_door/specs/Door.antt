@@ -23,10 +23,12 @@ abbrev pub sizeChecks : ℕ → ℕ → ℕ → ℕ → ℕ → ℕ → ℕ → 
 sizeChecks n m within target result strategy distances work =
     check9 n (within ∷ target ∷ result ∷ []) (strategy ∷ distances ∷ []) then check10 n m work
 
+-- 9, 10 and 12
+abbrev pub lentChecks : ℕ → ℕ → List ℕ → List ℕ → ℕ → ℕ → ℕ → ℕ → Verdict
+lentChecks n m V' T result strategy distances work =
+    check9 n (length V' ∷ length T ∷ result ∷ []) (strategy ∷ distances ∷ []) then check10 n m work then check12 n V' T
+
 -- 1 to 10 and 12
 abbrev pub checksBy : Tables → List ℕ → List ℕ → ℕ → ℕ → ℕ → ℕ → Verdict
 checksBy t V' T result strategy distances work =
-    tableChecks t then
-    check9 (vertices t) (length V' ∷ length T ∷ result ∷ []) (strategy ∷ distances ∷ []) then
-    check10 (vertices t) (edgesIn t) work then
-    check12 (vertices t) V' T
+    tableChecks t then lentChecks (vertices t) (edgesIn t) V' T result strategy distances work

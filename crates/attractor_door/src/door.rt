@@ -1,4 +1,4 @@
-// The public attractor, for every input: it checks all that it takes, works in the work area, and writes only when it
+// The attractor, on accepted tables: it checks all that it is lent, works in the work area, and writes only when it
 // answers.
 use parity_game::Answer;
 use parity_game::BAD_SIZE;
@@ -11,10 +11,10 @@ ghost use lib.ListN.{length};
 ghost use Rattle.rules.specs.Game.{playerOf};
 ghost use Rattle.rules.specs.Outcome.{outcome, answered};
 ghost use Rattle.rules.specs.Attractor.{check12};
-ghost use Rattle.rules.specs.Tables.{words, tablesOf};
+ghost use Rattle.rules.specs.Tables.{words, tablesOf, Accepted};
 ghost use Rattle.parity_game.specs.Said.{said, is};
 ghost use Rattle.rules.specs.Attracts.{Attracts};
-ghost use Rattle.attractor_door.specs.Door.{stray, Bits, sizeChecks, checksBy};
+ghost use Rattle.attractor_door.specs.Door.{stray, Bits, sizeChecks, lentChecks};
 
 // alpha's number, 0 or 1.
 fn side(player: Player) -> u8
@@ -94,12 +94,10 @@ fn check_sizes(
     Answer::Answered(0)
 }
 
-// 1 to 10 and 12, by the lengths of what is lent.
-fn check_all(
-    owners: &[u8],
-    priorities: &[u16],
-    offsets: &[u16],
-    targets: &[u16],
+// 9, 10 and 12, by the lengths of what is lent.
+fn check_lent(
+    n: usize,
+    m: usize,
     within: &[u64],
     target: &[u64],
     result: usize,
@@ -107,22 +105,16 @@ fn check_all(
     distances: usize,
     work: usize,
 ) -> Answer
+    requires { ⌜ (n ≤ 4096) × (m ≤ 16384) ⌝ }
     ensures { λ r.
         ⌜ said r
         ≡ outcome
-        (checksBy
-        (tablesOf (now (owners .entry)) (now (priorities .entry)) (now (offsets .entry)) (now (targets .entry)))
-        (now (within .entry)) (now (target .entry)) result strategy distances work)
+        (lentChecks n m (now (within .entry)) (now (target .entry)) result strategy distances work)
         (answered 0) ⌝ }
 {
-    let n = owners.len();
-    let r = parity_game::check_tables(owners, priorities, offsets, targets);
-    if r.number() != 0 {
-        return r;
-    }
     let r = check_sizes(
         n,
-        targets.len(),
+        m,
         within.len(),
         target.len(),
         result,
@@ -149,6 +141,7 @@ pub fn attractor(
     distances: &mut [u16],
     work: &mut [u64],
 ) -> Answer
+    requires { ⌜ Accepted (tablesOf (now owners) (now priorities) (now offsets) (now targets)) ⌝ }
     ensures { λ r.
         ⌜ Attracts
         (tablesOf (now (owners .entry)) (now (priorities .entry)) (now (offsets .entry)) (now (targets .entry)))
@@ -167,11 +160,11 @@ pub fn attractor(
         })
         (said r) ⌝ }
 {
-    let verdict = check_all(
-        owners,
-        priorities,
-        offsets,
-        targets,
+    let n = owners.len();
+    let m = targets.len();
+    let verdict = check_lent(
+        n,
+        m,
         within,
         target,
         result.len(),
@@ -182,7 +175,7 @@ pub fn attractor(
     if verdict.number() != 0 {
         return verdict;
     }
-    let w = parity_game::work_words(owners.len(), targets.len());
+    let w = parity_game::work_words(n, m);
     let alpha = side(player);
     Answer::Answered(attractor_run::run(
         owners,

@@ -20,6 +20,7 @@ use Rattle.rules.specs.Tables.{Tables, vertices, edgesIn, words, workWords, gam
 use Rattle.rules.specs.Words.{setOf, Holds}
 use Rattle.rules.specs.Zielonka.{zielonka}
 use Rattle.theory.specs.Basics.{clash, length-listed, getD-listed}
+use Rattle.kept_numbers.specs.Reading as Reading
 use Rattle.printing.specs.declared.line.Counted.{Counted}
 use Rattle.printing.specs.declared.line.Counted.the-variants.{Needed, Over}
 use Rattle.printing.specs.Line.{lineBytes}
@@ -31,9 +32,9 @@ pub record Given (t : Tables) (out : List ℕ) : Type 0 where
   pub short : edgesIn t ≤ 512
   pub room : 256 ≤ length out
 
--- and rooms for the engines
-pub record Ready (t : Tables) (l : Lent) (out : List ℕ) : Type 0 where
-  pub accepted : Accepted t
+-- and its kept numbers and rooms for the engines
+pub record Ready (t : Tables) (kept : List ℕ) (l : Lent) (out : List ℕ) : Type 0 where
+  pub counted : Reading.Counted t kept
   pub few : vertices t ≤ 128
   pub room : 256 ≤ length out
   pub even-size : length (l .even) ≡ words (vertices t)
@@ -65,11 +66,11 @@ unfolding check10
 check10-passes n m w enough = rw (le-ltb w (workWords n m) enough)
 
 -- no engine refuses
-pub ready-passes : {t : Tables} {l : Lent} {out : List ℕ} → Ready t l out → solverChecks t l ≡ none
+pub ready-passes : {t : Tables} {kept : List ℕ} {l : Lent} {out : List ℕ} → Ready t kept l out → solverChecks t l ≡ none
 unfolding Accepted
-ready-passes {t} {l} {out} r =
+ready-passes {t} {kept} {l} {out} r =
     rw (
-      r .accepted,
+      r .counted .accepted,
       check9-passes (vertices t) (length (l .even)) (length (l .odd)) (length (l .strategy)) (r .even-size) (r .odd-size)
           (r .strategy-size),
     )

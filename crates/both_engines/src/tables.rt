@@ -24,6 +24,7 @@ fn solve_in(
     priorities: &[u16],
     offsets: &[u16],
     targets: &[u16],
+    kept: &[u64],
     budget: u64,
     even: &mut [u64],
     odd: &mut [u64],
@@ -31,7 +32,7 @@ fn solve_in(
     work: &mut [u64],
     out: &mut [u8],
 ) -> usize
-    requires { ⌜ Ready (tablesOf (now owners) (now priorities) (now offsets) (now targets))
+    requires { ⌜ Ready (tablesOf (now owners) (now priorities) (now offsets) (now targets)) (now kept)
         (record { even = now even; odd = now odd; strategy = now strategy; work = now work }) (now out) ⌝ }
     ensures { λ r.
         ⌜ Puts 0
@@ -50,6 +51,7 @@ fn solve_in(
         priorities,
         offsets,
         targets,
+        kept,
         rounds,
         even,
         odd,
@@ -61,6 +63,7 @@ fn solve_in(
         priorities,
         offsets,
         targets,
+        kept,
         calls,
         even,
         odd,
@@ -97,6 +100,8 @@ pub fn solve_tables(
 {
     let n = owners.len();
     let s = parity_game::set_words(n);
+    let mut kept = [0u64; 258];
+    kept_numbers::write_fresh(priorities, &mut kept);
     let mut even = [0u64; 2];
     let mut odd = [0u64; 2];
     let mut strategy = [0u16; 128];
@@ -106,6 +111,7 @@ pub fn solve_tables(
         priorities,
         offsets,
         targets,
+        &kept,
         budget,
         &mut even[0..s],
         &mut odd[0..s],

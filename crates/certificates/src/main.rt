@@ -2,10 +2,46 @@
 // is a name, then the number and place given back.
 use libc::STDOUT_FILENO;
 
+// Checks by the door a result for a game, whose kept numbers are counted first.
+fn check(
+    name: &[u8],
+    owners: &[u8],
+    priorities: &[u16],
+    offsets: &[u16],
+    targets: &[u16],
+    even: &[u64],
+    odd: &[u64],
+    strategy: &[u16],
+) {
+    let mut kept = [0u64; 258];
+    let mut work = [0u64; 318];
+    let mut place = 0;
+    let mut count = 0;
+    let n = owners.len();
+    let m = targets.len();
+    record::fresh_count(n, m, owners, priorities, offsets, targets, &mut kept);
+    let number = reckonbough_checker::certificate::reckonbough_check(
+        n as u64,
+        m as u64,
+        owners,
+        priorities,
+        offsets,
+        targets,
+        &kept,
+        even,
+        odd,
+        strategy,
+        &mut work,
+        &mut place,
+        &mut count,
+    );
+    report(name, number, place);
+}
+
 // C6: E2→1; O1→1.
 fn on_c6(name: &[u8], even: &[u64], odd: &[u64], strategy: &[u16]) {
-    let mut work = [0u64; 316];
-    let r = checker::check(
+    check(
+        name,
         &[0, 1],
         &[2, 1],
         &[0, 1, 2],
@@ -13,15 +49,13 @@ fn on_c6(name: &[u8], even: &[u64], odd: &[u64], strategy: &[u16]) {
         even,
         odd,
         strategy,
-        &mut work,
     );
-    report(name, r.number(), r.place());
 }
 
 // C7: E2→1; O0→0,1.
 fn on_c7(name: &[u8], even: &[u64], odd: &[u64], strategy: &[u16]) {
-    let mut work = [0u64; 318];
-    let r = checker::check(
+    check(
+        name,
         &[0, 1],
         &[2, 0],
         &[0, 1, 3],
@@ -29,15 +63,13 @@ fn on_c7(name: &[u8], even: &[u64], odd: &[u64], strategy: &[u16]) {
         even,
         odd,
         strategy,
-        &mut work,
     );
-    report(name, r.number(), r.place());
 }
 
 // C5: O1→1,1; E2→1.
 fn on_c5(name: &[u8], even: &[u64], odd: &[u64], strategy: &[u16]) {
-    let mut work = [0u64; 318];
-    let r = checker::check(
+    check(
+        name,
         &[1, 0],
         &[1, 2],
         &[0, 2, 3],
@@ -45,9 +77,7 @@ fn on_c5(name: &[u8], even: &[u64], odd: &[u64], strategy: &[u16]) {
         even,
         odd,
         strategy,
-        &mut work,
     );
-    report(name, r.number(), r.place());
 }
 
 fn report(name: &[u8], number: u64, place: u64) {

@@ -9,6 +9,7 @@ ghost use Rattle.rules.specs.Outcome.{outcome, answered, givenAt};
 ghost use Rattle.parity_game.specs.Said.{said};
 ghost use Rattle.checker.specs.Cycles.{losingAt, Scannable, MarksReady, CyclesMarked};
 ghost use Rattle.checker.specs.Checks.{CyclesReady, CyclesTold};
+ghost use Rattle.rules.specs.Record.{freshCount};
 ghost use Rattle.rules.specs.Tables.{tablesOf};
 
 // Whether v is marked in the row of the other parity: the even priorities from rows on, then the odd ones.
@@ -42,10 +43,12 @@ fn mark_cycles(
     priorities: &[u16],
     offsets: &[u16],
     targets: &[u16],
+    kept: &[u64],
     strategy: &[u16],
     work: &mut [u64],
 )
-    requires { ⌜ MarksReady (now owners) (now priorities) (now offsets) (now targets) (now strategy) (now work) ⌝ }
+    requires { ⌜ MarksReady (now owners) (now priorities) (now offsets) (now targets) (now strategy) (now work) ×
+        (now kept ≡ freshCount (now priorities)) ⌝ }
     ensures { λ _.
         ⌜ CyclesMarked (now (owners .entry)) (now (priorities .entry)) (now (offsets .entry)) (now (targets .entry))
         (now (strategy .entry))
@@ -55,8 +58,17 @@ fn mark_cycles(
     let rows = n + 1 + targets.len() + n + n + n + n + n + n;
     parts::clear(work, rows, rows + n + n);
     predecessors::build(offsets, targets, n, work);
-    parts::mark_parity(priorities, offsets, targets, strategy, 0, work, rows);
-    parts::mark_parity(priorities, offsets, targets, strategy, 1, work, rows + n);
+    parts::mark_parity(priorities, offsets, targets, kept, strategy, 0, work, rows);
+    parts::mark_parity(
+        priorities,
+        offsets,
+        targets,
+        kept,
+        strategy,
+        1,
+        work,
+        rows + n,
+    );
 }
 
 // 24.
@@ -65,18 +77,19 @@ pub fn check_cycles(
     priorities: &[u16],
     offsets: &[u16],
     targets: &[u16],
+    kept: &[u64],
     even: &[u64],
     strategy: &[u16],
     work: &mut [u64],
 ) -> Answer
     requires { ⌜ CyclesReady (tablesOf (now owners) (now priorities) (now offsets) (now targets)) (now even)
-        (now strategy) (now work) ⌝ }
+        (now strategy) (now work) × (now kept ≡ freshCount (now priorities)) ⌝ }
     ensures { λ r.
         ⌜ CyclesTold (tablesOf (now (owners .entry)) (now (priorities .entry)) (now (offsets .entry))
         (now (targets .entry))) (now (even .entry))
         (now (strategy .entry)) (now (work .entry)) (now (work .exit)) (said r) ⌝ }
 {
-    mark_cycles(owners, priorities, offsets, targets, strategy, work);
+    mark_cycles(owners, priorities, offsets, targets, kept, strategy, work);
     let n = priorities.len();
     find_losing(even, work, n + 1 + targets.len() + n + n + n + n + n + n, n)
 }

@@ -1,6 +1,7 @@
 // Priority compaction: the priorities that are used get the lowest and fewest numbers that keep order, not
 // strictly, and parity. The rule itself is in `next_number` alone.
 use parity_game::Answer;
+use parity_game::BAD_SIZE;
 ghost use mathlib.Core.List.{map};
 ghost use mathlib.Core.Path.{_≡_};
 ghost use Prim.Native.Nat.{_≤_};
@@ -8,7 +9,8 @@ ghost use lib.ListN.{length, getD};
 ghost use Rattle.rules.specs.Compaction.{nextNumber, Compacts};
 ghost use Rattle.parity_game.specs.Said.{said};
 ghost use Rattle.compaction.specs.Marks.{Small, Marks, Numbers, lastGiven};
-ghost use Rattle.rules.specs.Tables.{tablesOf};
+ghost use Rattle.compaction.specs.Laws.{lentOf};
+ghost use Rattle.rules.specs.Tables.{tablesOf, Accepted};
 
 // Which priorities are used: 1 at each.
 fn mark(priorities: &[u16]) -> [u8; 256]
@@ -63,30 +65,32 @@ fn write(priorities: &[u16], numbers: [u16; 256], new_priorities: &mut [u16])
     }
 }
 
-// Writes the new priority of each vertex, for every input.
+// Writes the new priority of each vertex, and the kept numbers of the new table, for all accepted tables.
 pub fn compact(
     owners: &[u8],
     priorities: &[u16],
     offsets: &[u16],
     targets: &[u16],
     new_priorities: &mut [u16],
+    new_kept: &mut [u64],
 ) -> Answer
+    requires { ⌜ Accepted (tablesOf (now owners) (now priorities) (now offsets) (now targets)) ⌝ }
     ensures { λ r.
         ⌜ Compacts
         (tablesOf (now (owners .entry)) (now (priorities .entry)) (now (offsets .entry)) (now (targets .entry)))
-        (now («new_priorities» .entry))
-        (now («new_priorities» .exit))
+        (lentOf (now («new_priorities» .entry)) (now («new_kept» .entry)))
+        (lentOf (now («new_priorities» .exit)) (now («new_kept» .exit)))
         (said r) ⌝ }
 {
-    let r = parity_game::check_tables(owners, priorities, offsets, targets);
-    if r.number() != 0 {
-        return r;
-    }
     let sized = parity_game::check_table(owners.len(), new_priorities.len());
     if sized.number() != 0 {
         return sized;
     }
+    if new_kept.len() != 258 {
+        return Answer::Refused(BAD_SIZE);
+    }
     let numbers = number(mark(priorities));
     write(priorities, numbers, new_priorities);
+    kept_numbers::write_fresh(new_priorities, new_kept);
     Answer::Answered(0)
 }

@@ -74,6 +74,26 @@ tallied-more v priorities counts h within small =
           let was = h .each p l in omega arith;
     }
 
+-- one that has no place among the counts is passed over
+pub tallied-other :
+    (v : ℕ) (priorities counts : List ℕ) →
+    Tallied v priorities counts →
+    v < length priorities →
+    256 ≤ getD priorities v 0 →
+    Tallied (v + 1) priorities counts
+unfolding times
+tallied-other v priorities counts h within large =
+    record {
+      long = h .long;
+      each =
+          λ p l.
+          let apart = ne-eqb p (getD priorities v 0) (λ e. absurd (omega arith)) in
+          let one : times p (take (v + 1) priorities) ≡ times p (take v priorities) + times p (getD priorities v 0 ∷ []) =
+          rw (add-one, take-suc priorities v 0 within) (times-append p (take v priorities) _) in
+          let zero : times p (getD priorities v 0 ∷ []) ≡ 0 = rw apart in
+          let was = h .each p l in omega arith;
+    }
+
 -- all are counted
 pub tallied-all : (priorities counts : List ℕ) → Tallied (length priorities) priorities counts → Counts priorities counts
 tallied-all priorities counts h =

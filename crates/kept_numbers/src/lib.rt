@@ -10,15 +10,16 @@ ghost use Rattle.theory.specs.Counts.{moved};
 ghost use lib.ListN.{length, take};
 ghost use Rattle.kept_numbers.specs.Steps.{Small, Counts, Movable};
 
-// How many vertices have each priority; the last two entries are 0.
+// How many vertices have each priority up to 255; the last two entries are 0.
 fn tally(priorities: &[u16]) -> [u64; 258]
-    requires { ⌜ Small (now priorities) ⌝ }
     ensures { λ r. ⌜ Counts (now (priorities .entry)) r ⌝ }
 {
     let mut counts = [0u64; 258];
     for v in 0..priorities.len() {
         let p = priorities[v] as usize;
-        counts[p] += 1;
+        if p < 256 {
+            counts[p] += 1;
+        }
     }
     counts
 }
@@ -40,9 +41,8 @@ fn sum_up(kept: &mut [u64])
     kept[257] = highest;
 }
 
-// The fresh count.
-fn fresh(priorities: &[u16]) -> [u64; 258]
-    requires { ⌜ Small (now priorities) ⌝ }
+// The fresh count, of any priorities.
+pub fn fresh(priorities: &[u16]) -> [u64; 258]
     ensures { λ r. ⌜ r ≡ freshCount (now (priorities .entry)) ⌝ }
 {
     let mut kept = tally(priorities);
@@ -67,15 +67,23 @@ pub fn check_kept(priorities: &[u16], kept: &[u64]) -> Answer
     Answer::Answered(0)
 }
 
+// Writes kept numbers.
+pub fn put(count: &[u64; 258], kept: &mut [u64])
+    requires { ⌜ (length (now count) ≡ 258) × (length (now kept) ≡ 258) ⌝ }
+    ensures { λ _. ⌜ now (kept .exit) ≡ now (count .entry) ⌝ }
+{
+    for i in 0..258 {
+        kept[i] = count[i];
+    }
+}
+
 // Writes a fresh count.
 pub fn write_fresh(priorities: &[u16], kept: &mut [u64])
     requires { ⌜ Small (now priorities) × (length (now kept) ≡ 258) ⌝ }
     ensures { λ _. ⌜ now (kept .exit) ≡ freshCount (now (priorities .entry)) ⌝ }
 {
     let count = fresh(priorities);
-    for i in 0..258 {
-        kept[i] = count[i];
-    }
+    put(&count, kept);
 }
 
 // One vertex goes from an old priority to a new one.

@@ -6,23 +6,32 @@ fn report(name: &[u8], budget: u64, work: &mut [u64]) {
     let mut even = [0u64; 1];
     let mut odd = [0u64; 1];
     let mut strategy = [0u16; 2];
-    let r = zielonka::solve_zielonka(
+    let mut kept = [0u64; 258];
+    let mut place = 0;
+    let mut count = 0;
+    record::fresh_count(2, 2, &[0, 1], &[2, 1], &[0, 1, 2], &[1, 1], &mut kept);
+    let number = reckonbough_solvers::recursion::reckonbough_zielonka(
+        2,
+        2,
         &[0, 1],
         &[2, 1],
         &[0, 1, 2],
         &[1, 1],
+        &kept,
         budget,
         &mut even,
         &mut odd,
         &mut strategy,
         work,
+        &mut place,
+        &mut count,
     );
     io::write_all(STDOUT_FILENO, name);
-    io::print_decimal(STDOUT_FILENO, r.number());
+    io::print_decimal(STDOUT_FILENO, number);
     io::write_all(STDOUT_FILENO, b" ");
-    io::print_decimal(STDOUT_FILENO, r.place());
+    io::print_decimal(STDOUT_FILENO, place);
     io::write_all(STDOUT_FILENO, b" ");
-    io::print_decimal(STDOUT_FILENO, r.count());
+    io::print_decimal(STDOUT_FILENO, count);
     io::write_all(STDOUT_FILENO, b"\n");
 }
 

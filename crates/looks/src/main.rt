@@ -1,7 +1,6 @@
 // C5's attractor run: the number, place and looks given back, then the set as a word, the two entries and the two
 // distances.
 use libc::STDOUT_FILENO;
-use parity_game::Player;
 
 fn put(n: u64) {
     io::print_decimal(STDOUT_FILENO, n);
@@ -17,23 +16,32 @@ fn main() {
     let mut strategy = [0u16; 2];
     let mut distances = [7u16; 2];
     let mut work = [7u64; 318];
-    let r = attractor_door::attractor(
+    let mut kept = [0u64; 258];
+    let mut place = 0;
+    let mut count = 0;
+    record::fresh_count(2, 3, &[1, 0], &[1, 2], &[0, 2, 3], &[1, 1, 1], &mut kept);
+    let number = reckonbough_attractor::attraction::reckonbough_attractor(
+        2,
+        3,
         &[1, 0],
         &[1, 2],
         &[0, 2, 3],
         &[1, 1, 1],
-        Player::Even,
+        &kept,
+        0,
         &[3],
         &[2],
         &mut result,
         &mut strategy,
         &mut distances,
         &mut work,
+        &mut place,
+        &mut count,
     );
     io::write_all(STDOUT_FILENO, b"C5 ");
-    put(r.number());
-    put(r.place());
-    put(r.count());
+    put(number);
+    put(place);
+    put(count);
     put(result[0]);
     put_entry(strategy[0]);
     put_entry(strategy[1]);

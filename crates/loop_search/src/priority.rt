@@ -1,7 +1,8 @@
 // One priority after another.
 use crate::heads::spread_heads;
+ghost use mathlib.Core.Path.{_≡_};
 ghost use Prim.Native.Nat.{_<_};
-ghost use lib.ListN.{length};
+ghost use Rattle.rules.specs.Record.{freshCount};
 ghost use Rattle.loop_search.specs.Finding.{Ready, Found, Seekable, Sought};
 
 // After this a vertex has a word exactly when it reaches a vertex of p in a good part for p, and its way leads to one.
@@ -9,11 +10,13 @@ fn find(
     priorities: &[u16],
     offsets: &[u16],
     targets: &[u16],
+    kept: &[u64],
     entries: &[u16],
     p: u16,
     work: &mut [u64],
 )
-    requires { ⌜ Ready (now priorities) (now offsets) (now targets) (now entries) (now work) ⌝ }
+    requires { ⌜ Ready (now priorities) (now offsets) (now targets) (now entries) (now work) ×
+        (now kept ≡ freshCount (now priorities)) × (p < 256) ⌝ }
     ensures { λ _.
         ⌜ Found (now (priorities .entry)) (now (offsets .entry)) (now (targets .entry)) (now (entries .entry)) p
         (now (work .entry)) (now (work .exit)) ⌝ }
@@ -22,7 +25,7 @@ fn find(
     let labels = n + 1 + targets.len() + n + n + n;
     let row = labels + n + n + n;
     parts::clear(work, row, row + n);
-    parts::mark_used(priorities, offsets, targets, entries, p, work, row);
+    parts::mark_used(priorities, offsets, targets, kept, entries, p, work, row);
     parts::clear(work, labels, labels + n);
     spread_heads(priorities, offsets, targets, entries, p, work, row);
 }
@@ -32,12 +35,14 @@ pub fn seek(
     priorities: &[u16],
     offsets: &[u16],
     targets: &[u16],
+    kept: &[u64],
     entries: &[u16],
     parity: u16,
     work: &mut [u64],
     v: usize,
 ) -> u16
-    requires { ⌜ Seekable (now priorities) (now offsets) (now targets) (now entries) parity (now work) v ⌝ }
+    requires { ⌜ Seekable (now priorities) (now offsets) (now targets) (now entries) parity (now work) v ×
+        (now kept ≡ freshCount (now priorities)) ⌝ }
     ensures { λ p.
         ⌜ Sought (now (priorities .entry)) (now (offsets .entry)) (now (targets .entry)) (now (entries .entry)) parity v
         (now (work .entry)) (now (work .exit)) p ⌝ }
@@ -45,7 +50,15 @@ pub fn seek(
     let n = priorities.len();
     let labels = n + 1 + targets.len() + n + n + n;
     for k in 0..128u16 {
-        find(priorities, offsets, targets, entries, 2 * k + parity, work);
+        find(
+            priorities,
+            offsets,
+            targets,
+            kept,
+            entries,
+            2 * k + parity,
+            work,
+        );
         if work[labels + v] != 0 {
             return 2 * k + parity;
         }

@@ -10,14 +10,17 @@ use native.Mathlib.Omega.{arith}
 use borrow.Author.Tests.{eqb-true, eq-eqb}
 use lib.Dec.{eqb}
 use lib.ListN.{length, getD}
+use lib.Seq.{getD-take}
 use Rattle.rules.specs.Counting.{Set, some, times}
 use Rattle.rules.specs.Game.{Edge, playerOf}
+use Rattle.rules.specs.Record.{countsOf, freshCount}
 use Rattle.rules.specs.Solitaire.{atMost, goodPart, samePart}
 use Rattle.rules.specs.Tables.{Tables, vertices, targetsOf, gameOf, Accepted}
 use Rattle.rules.specs.Words.{entry, noEntry}
 use Rattle.theory.specs.Basics.{member-place, place-member, times-pos, times-member}
 use Rattle.theory.specs.Basics.{bool-ext, and-intro, and-left, and-right, some-intro, some-elim, some-false, clash, not-true-is-false}
 use Rattle.theory.specs.Chosen.{chosenPart}
+use Rattle.theory.specs.Counts.{length-fresh, take-fresh, counted-used}
 use Rattle.parity_game.specs.Laws.{accepted-sound}
 use Rattle.predecessors.specs.Table.{start, row, Ready, Predecessors}
 use Rattle.predecessors.specs.Whole.{starts-grow, row-length, row-at, accepted-edges}
@@ -45,6 +48,22 @@ pub record Swept (priorities offsets targets entries : List ℕ) (parity base k 
 or-nothing : (b : Bool) → (b || false) ≡ b
 or-nothing true = refl
 or-nothing false = refl
+
+-- kept numbers have a place for each priority, and 0 there tells that no vertex has it
+pub kept-long : (ps kept : List ℕ) → kept ≡ freshCount ps → length kept ≡ 258
+kept-long ps kept fresh = ap (λ (ks : List ℕ). length ks) fresh ∙ length-fresh ps
+
+pub kept-unused :
+    (ps kept : List ℕ) (p : ℕ) →
+    kept ≡ freshCount ps →
+    p < 256 →
+    getD kept p 0 ≡ 0 →
+    some (length ps) (λ v. eqb (getD ps v 0) p) ≡ false
+kept-unused ps kept p fresh low zero =
+    let at : getD (countsOf ps) p 0 ≡ 0 =
+    ap (λ (ks : List ℕ). getD ks p 0) (sym (take-fresh ps)) ∙ getD-take 256 (freshCount ps) p 0 low ∙
+    ap (λ (ks : List ℕ). getD ks p 0) (sym fresh) ∙ zero in
+    sym (counted-used ps p low) ∙ rw at
 
 -- a priority that no vertex has has no part
 pub marked-unused :

@@ -1,41 +1,30 @@
 // All priorities of one parity, one after another.
 ghost use mathlib.Core.Path.{_≡_};
-ghost use lib.Dec.{eqb};
-ghost use lib.ListN.{length, getD};
-ghost use Rattle.rules.specs.Counting.{some};
+ghost use Prim.Native.Nat.{_<_};
+ghost use Rattle.rules.specs.Record.{freshCount};
 ghost use Rattle.depth_first.specs.Graph.{graph};
 ghost use Rattle.parts.specs.Whole.{Markable, Marked};
 ghost use Rattle.parts.specs.Parity.{Sweepable, Swept};
 
-// Whether some vertex has priority p.
-fn occurs(priorities: &[u16], p: u16) -> bool
-    ensures { λ r. ⌜ r ≡ some (length (now (priorities .entry))) (λ v. eqb (getD (now (priorities .entry)) v 0) p) ⌝ }
-{
-    for v in 0..priorities.len() {
-        if priorities[v] == p {
-            return true;
-        }
-    }
-    false
-}
-
-// A priority that no vertex has has no part, and no search.
+// A priority that no vertex has, by the kept numbers, has no part, and no search.
 pub fn mark_used(
     priorities: &[u16],
     offsets: &[u16],
     targets: &[u16],
+    kept: &[u64],
     entries: &[u16],
     p: u16,
     work: &mut [u64],
     base: usize,
 )
-    requires { ⌜ Markable (graph (now priorities) (now offsets) (now targets) (now entries) p) (now work) base ⌝ }
+    requires { ⌜ Markable (graph (now priorities) (now offsets) (now targets) (now entries) p) (now work) base ×
+        (now kept ≡ freshCount (now priorities)) × (p < 256) ⌝ }
     ensures { λ _.
         ⌜ Marked (graph (now (priorities .entry)) (now (offsets .entry)) (now (targets .entry))
         (now (entries .entry)) p)
         base (now (work .entry)) (now (work .exit)) ⌝ }
 {
-    if occurs(priorities, p) {
+    if kept[p as usize] != 0 {
         crate::mark_parts(priorities, offsets, targets, entries, p, work, base);
     }
 }
@@ -45,12 +34,14 @@ pub fn mark_parity(
     priorities: &[u16],
     offsets: &[u16],
     targets: &[u16],
+    kept: &[u64],
     entries: &[u16],
     parity: u16,
     work: &mut [u64],
     base: usize,
 )
-    requires { ⌜ Sweepable (now priorities) (now offsets) (now targets) (now entries) parity (now work) base ⌝ }
+    requires { ⌜ Sweepable (now priorities) (now offsets) (now targets) (now entries) parity (now work) base ×
+        (now kept ≡ freshCount (now priorities)) ⌝ }
     ensures { λ _.
         ⌜ Swept (now (priorities .entry)) (now (offsets .entry)) (now (targets .entry))
         (now (entries .entry)) parity base 128
@@ -61,6 +52,7 @@ pub fn mark_parity(
             priorities,
             offsets,
             targets,
+            kept,
             entries,
             2 * k + parity,
             work,

@@ -3,7 +3,8 @@ use crate::class::Class;
 use crate::state::Phase;
 ghost use mathlib.Core.Path.{_≡_};
 ghost use Rattle.pgsolver_acts.specs.Shown.{classIn};
-ghost use Rattle.pgsolver_acts.specs.Acts.{onSeparator, onDigit, onComma, onSemicolon, onQuote, onLetter, onOther, actOn};
+ghost use Rattle.pgsolver_acts.specs.Acts.{onSeparator, onDigit, onComma, onSemicolon, onQuote};
+ghost use Rattle.pgsolver_acts.specs.Acts.{onLetter, onOther, actOn};
 
 pub enum Act {
     Stay,

@@ -1,7 +1,7 @@
 // What is small in the state of a reading: numbers by value. All else waits in the tables.
 ghost use mathlib.Core.Path.{_≡_};
-ghost use Rattle.pgsolver_acts.specs.Shown.{toPhase, readingOn, headedOn, identifiedOn, rankedOn, ownedOn, aimedOn};
-ghost use Rattle.pgsolver_acts.specs.Shown.{closedOn};
+ghost use Rattle.pgsolver_acts.specs.Shown.{toPhase, readingOn, headedOn, identifiedOn, rankedOn};
+ghost use Rattle.pgsolver_acts.specs.Shown.{ownedOn, aimedOn, closedOn};
 
 // Where in a text: in a piece, or past it.
 pub enum Phase {

@@ -7,12 +7,12 @@ use mathlib.Core.Path.{_≡_, refl, sym, ap, subst, _∙_}
 use Prim.Native.Nat.{ℕ, _+_, min, _≤_}
 use lib.Dec.{eqb, ltb}
 use lib.ListN.{length, drop, replicate}
-use Rattle.rules.specs.Outcome.{Outcome, Verdict, none, refused, given, outcome, answered, _then_}
+use Rattle.rules.specs.Outcome.{Outcome, Verdict, none, refused, given, outcome, answered, _then_, Unless}
 use Rattle.rules.specs.Pgsolver.{unsaid, Header, Entry}
 use Rattle.rules.specs.Reading.{Limits, Reads, Told, roomChecks, ReadsBy, ReadsText, game, Written, Rooms, readChecks, written}
 use Rattle.rules.specs.Reading.{tablesRead, limitsOf}
 use Rattle.rules.specs.Portions.{SoFar, reading, over, Lent, Meaning, roomsWith, limitsWith, lentChecks, endChecks, Kept}
-use Rattle.rules.specs.Portions.{Emptied, Unless, Started, Further, Portioned, Closing, writtenIn, usedIn, Closed, EndsReading}
+use Rattle.rules.specs.Portions.{Emptied, Started, Further, Portioned, Closing, writtenIn, usedIn, Closed, EndsReading}
 use Rattle.rules.specs.Portions.{Session, Goes}
 use Rattle.grammar.specs.OneReading.{reads-one}
 use Rattle.grammar.specs.SoFar.{so-far-longer}
@@ -129,6 +129,14 @@ along {S} {mostBytes} {first} (Session.portion bytes p before after o session re
       standing = standing-on S mostBytes first before after bytes p o (so-far .kept) call (so-far .standing);
     }
 
+-- the state stays as long as the start asked
+pub session-long :
+    {S : Meaning} {mostBytes : ℕ} {first : Lent} {bytes : List ℕ} (lent : Lent) →
+    Session S mostBytes first bytes lent →
+    32 ≤ length (lent .state)
+session-long {first = first} lent session =
+    let a = along session in fit-lent lent (checks-kept first lent (a .kept) ∙ a .passes) .long
+
 -- ---- the end
 
 stopped-reads : {l : Limits} {bytes : List ℕ} {k p : ℕ} → SoFar l bytes (refused k p) → Reads l bytes (refused k p) unsaid []
@@ -184,9 +192,6 @@ cut-anyhow {S} {mostBytes} {first} {bytes} before after o session ends = go (roo
     a : Along S mostBytes first bytes (before .lent)
     a = along session
 
-    long : 32 ≤ length (before .lent .state)
-    long = fit-lent (before .lent) (checks-kept first (before .lent) (a .kept) ∙ a .passes) .long
-
     At : Verdict → Type 0
     At v = Unless v o before after (Closed S before after o)
 
@@ -195,7 +200,8 @@ cut-anyhow {S} {mostBytes} {first} {bytes} before after o session ends = go (roo
         roomChecks (writtenIn before .rooms) ≡ v →
         ReadsBy v game mostBytes bytes (writtenIn before) (writtenIn after) o
     go none e =
-        told-at-end S mostBytes first bytes before after o a (subst At (end-fit (before .lent) (before .work) e long) ends)
+        let fits = end-fit (before .lent) (before .work) e (session-long (before .lent) session) in
+        told-at-end S mostBytes first bytes before after o a (subst At fits ends)
         (a .standing)
     go (refused k p) e =
         let nothing = subst At (end-unfit (before .lent) (before .work) k p e) ends in

@@ -6,8 +6,8 @@ use native.Mathlib.Omega.{arith}
 use borrow.Author.Tests.{eqb-true, ltb-true, ltb-false, lt-ltb, le-ltb, not-false}
 use lib.Dec.{eqb, ltb}
 use lib.ListN.{length}
-use Rattle.rules.specs.Outcome.{Outcome, Verdict, none, refused, given, _then_}
-use Rattle.rules.specs.Portions.{Lent, lentChecks, Unless}
+use Rattle.rules.specs.Outcome.{Outcome, Verdict, none, refused, given, _then_, Unless}
+use Rattle.rules.specs.Portions.{Lent, lentChecks}
 use Rattle.theory.specs.Basics.{bool-cases, or-false-both}
 use Rattle.theory.specs.Tables.{then-none, given-none}
 use Rattle.reading_rooms.specs.Said.{sizeChecks}

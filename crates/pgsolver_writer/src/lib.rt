@@ -7,11 +7,11 @@ use parity_game::Answer;
 use parity_game::NO_VERTEX;
 use parity_game::SHORT_TEXT;
 use pgsolver_put::put::put_text;
-ghost use Rattle.rules.specs.Tables.{tablesOf};
+ghost use Rattle.rules.specs.Tables.{tablesOf, Accepted};
 ghost use Rattle.rules.specs.Writing.{Writes};
 ghost use Rattle.parity_game.specs.Said.{said};
 
-// Writes the text, for every input. The count is its length.
+// Writes the text of accepted tables. The count is its length.
 pub fn write(
     owners: &[u8],
     priorities: &[u16],
@@ -19,6 +19,7 @@ pub fn write(
     targets: &[u16],
     text: &mut [u8],
 ) -> Answer
+    requires { ⌜ Accepted (tablesOf (now owners) (now priorities) (now offsets) (now targets)) ⌝ }
     ensures { λ r.
         ⌜ Writes
         (tablesOf (now (owners .entry)) (now (priorities .entry)) (now (offsets .entry)) (now (targets .entry)))
@@ -26,10 +27,6 @@ pub fn write(
         (now (text .exit))
         (said r) ⌝ }
 {
-    let r = parity_game::check_tables(owners, priorities, offsets, targets);
-    if r.number() != 0 {
-        return r;
-    }
     if owners.len() == 0 {
         return Answer::Refused(NO_VERTEX);
     }

@@ -16,6 +16,7 @@ use Rattle.solver.specs.Preparing.{Preparable, Prepared}
 use Rattle.solver.specs.Outputs.{wonFrom, Found}
 use Rattle.promotion_tables.specs.Layout.{unsolvedAt, evenAt, regionsAt, accepted-edges}
 use Rattle.promotion_moves.specs.Dominion.{wonAt}
+use Rattle.kept_numbers.specs.Reading.{Counted}
 use Rattle.promotion_rounds.specs.Beginning.{Beginnable, Begun}
 use Rattle.priority_promotion.specs.Starting.{tables-room, begin-ready, begun-reached}
 use Rattle.promotion_rounds.specs.Solve.{Reached, Ended, none-left, ended-needed, ended-over}
@@ -48,8 +49,12 @@ module _ (owners priorities offsets targets : List ℕ) (ok : Accepted (tablesOf
         (prepared : Prepared (length owners) offsets targets (unsolvedAt (length owners) (length targets) s) w0 w1)
       where
         -- what `begin` asks for
-        pub run-beginnable : Beginnable priorities (length targets) s w1
-        run-beginnable = begin-ready owners priorities offsets targets ok s size w1 (rw (prepared .long) tables-fit)
+        pub run-beginnable :
+            {kept : List ℕ} →
+            Counted (tablesOf owners priorities offsets targets) kept →
+            Beginnable priorities kept (length targets) s w1
+        run-beginnable counted =
+            begin-ready owners priorities offsets targets ok s size w1 counted (rw (prepared .long) tables-fit)
 
         -- what `solve` asks for
         pub run-reached :

@@ -21,6 +21,7 @@ use Rattle.theory.specs.PromotionEntries.{starts}
 use Rattle.area.specs.Area.{entries, setAt}
 use Rattle.attractor.specs.Attracted.{Listed}
 use Rattle.attractor.specs.Attracted.{listed-kept}
+use Rattle.kept_numbers.specs.Reading.{Counted, kept-long, kept-count, kept-highest}
 use Rattle.promotion_tables.specs.Regions.{regionAt}
 use Rattle.area.specs.SetsAt.{set-kept, set-zeros}
 use Rattle.promotion_tables.specs.Layout.{unsolvedAt, evenAt, oddAt, regionsAt, tableAt, table-below, accepted-edges}
@@ -66,11 +67,17 @@ module _ (owners priorities offsets targets : List ℕ) (ok : Accepted (tablesOf
 
     -- what `begin` asks for
     pub begin-ready :
-        regionsAt (length owners) (length targets) s + length owners + 257 ≤ length w0 → Beginnable priorities (length targets) s w0
-    begin-ready room =
+        {kept : List ℕ} →
+        Counted (tablesOf owners priorities offsets targets) kept →
+        regionsAt (length owners) (length targets) s + length owners + 257 ≤ length w0 →
+        Beginnable priorities kept (length targets) s w0
+    begin-ready counted room =
         record {
           few = rw as-many (accepted-sound (tablesOf owners priorities offsets targets) ok .few-vertices);
           low = λ v l. low v (rw as-many at l);
+          kept-long = kept-long counted;
+          counts = λ q l. rw as-many (kept-count counted q l);
+          highest = rw as-many (kept-highest counted);
           room = rw as-many room;
         }
 

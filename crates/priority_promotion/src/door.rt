@@ -1,5 +1,5 @@
-// The public solver, for every input: it checks all that it takes, works in the first W words of the work area, writes
-// only when it answers, and leaves those words 0.
+// The solver, on accepted tables and their kept numbers: it checks all that it is lent, works in the first W words of
+// the work area, writes only when it answers, and leaves those words 0.
 use parity_game::Answer;
 use promotion_rounds::begin::begin;
 use promotion_rounds::solve::solve;
@@ -10,6 +10,7 @@ ghost use Rattle.rules.specs.Promotion.{afterRounds, roundsNeeded};
 ghost use Rattle.rules.specs.Solver.{Solves};
 ghost use Rattle.rules.specs.Tables.{gameOf, tablesOf};
 ghost use Rattle.parity_game.specs.Said.{said};
+ghost use Rattle.kept_numbers.specs.Reading.{Counted};
 ghost use Rattle.solver.specs.Running.{Runnable, Runs};
 
 // The work itself, in W words, which are left 0.
@@ -18,6 +19,7 @@ fn run(
     priorities: &[u16],
     offsets: &[u16],
     targets: &[u16],
+    kept: &[u64],
     budget: u64,
     even: &mut [u64],
     odd: &mut [u64],
@@ -25,7 +27,8 @@ fn run(
     work: &mut [u64],
 ) -> Ran
     requires { ⌜ Runnable (tablesOf (now owners) (now priorities) (now offsets) (now targets))
-        (now even) (now odd) (now strategy) (now work) ⌝ }
+        (now even) (now odd) (now strategy) (now work) ×
+        Counted (tablesOf (now owners) (now priorities) (now offsets) (now targets)) (now kept) ⌝ }
     ensures { λ r.
         ⌜ (let t =
         tablesOf (now (owners .entry)) (now (priorities .entry)) (now (offsets .entry)) (now (targets .entry)) in
@@ -43,7 +46,7 @@ fn run(
     let entries = n + 1 + m + n + n;
     let unsolved = entries + n + 2 * (s + 1);
     solver::prepare(offsets, targets, n, s, work, unsolved);
-    let start = begin(priorities, m, s, work);
+    let start = begin(priorities, kept, m, s, work);
     let end = solve(owners, priorities, offsets, targets, budget, s, work, start);
     if 0 < end.unsolved {
         sets::clear(work, 0, work.len());
@@ -60,12 +63,14 @@ pub fn solve_priority_promotion(
     priorities: &[u16],
     offsets: &[u16],
     targets: &[u16],
+    kept: &[u64],
     budget: u64,
     even: &mut [u64],
     odd: &mut [u64],
     strategy: &mut [u16],
     work: &mut [u64],
 ) -> Answer
+    requires { ⌜ Counted (tablesOf (now owners) (now priorities) (now offsets) (now targets)) (now kept) ⌝ }
     ensures { λ r.
         ⌜ (let t =
         tablesOf (now (owners .entry)) (now (priorities .entry)) (now (offsets .entry)) (now (targets .entry)) in
@@ -86,11 +91,11 @@ pub fn solve_priority_promotion(
         })
         (said r)) ⌝ }
 {
-    let r = lent_checks::checks::check_all(
-        owners,
-        priorities,
-        offsets,
-        targets,
+    let n = owners.len();
+    let m = targets.len();
+    let r = lent_checks::checks::check_lent(
+        n,
+        m,
         even.len(),
         odd.len(),
         strategy.len(),
@@ -99,12 +104,13 @@ pub fn solve_priority_promotion(
     if r.number() != 0 {
         return r;
     }
-    let w = parity_game::work_words(owners.len(), targets.len());
+    let w = parity_game::work_words(n, m);
     let ran = run(
         owners,
         priorities,
         offsets,
         targets,
+        kept,
         budget,
         even,
         odd,

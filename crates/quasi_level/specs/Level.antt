@@ -37,6 +37,11 @@ pub record Held (n s base : ℕ) (work : List ℕ) : Type 0 where
   pub high : base + s ≤ length work
   pub below : (v : ℕ) → setAt n base work v ≡ true → v < n
 
+-- and none of them has a priority at the height or above
+pub record HeldUnder (priorities : List ℕ) (s base height : ℕ) (work : List ℕ) : Type 0 where
+  pub held : Held (length priorities) s base work
+  pub under : (v : ℕ) → setAt (length priorities) base work v ≡ true → getD priorities v 0 < height
+
 -- accepted tables with their predecessor table, V below n, and room for the level and the next V
 pub record Ready (t : Tables) (s base : ℕ) (work : List ℕ) : Type 0 where
   pub accepted : Accepted t

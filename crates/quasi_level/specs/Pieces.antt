@@ -27,8 +27,8 @@ use Rattle.area.specs.Walking.{lent-part}
 use Rattle.attractor.specs.Attracted.{Attractable, Attracted}
 use Rattle.attractor.specs.Attracted.{listed-kept}
 use Rattle.predecessors.specs.Table.{SoundEdges}
-use Rattle.zielonka_level.specs.Parts.{Searchable, Collects, Collected}
-use Rattle.quasi_level.specs.Level.{nextLevel, onLevel, drawnAt, Held, Ready, Stays, TopCut, Droppable, Dropped}
+use Rattle.zielonka_level.specs.Parts.{Searchable, SearchableTo, Collects, Collected}
+use Rattle.quasi_level.specs.Level.{nextLevel, onLevel, drawnAt, Held, HeldUnder, Ready, Stays, TopCut, Droppable, Dropped}
 
 -- what stays over two steps
 pub stays-on : {t : Tables} {top : ℕ} {x y z : List ℕ} → Stays t top x y → Stays t top y z → Stays t top x z
@@ -363,7 +363,7 @@ module _ {n s at : ℕ} {w : List ℕ} (held : Held n s at w) where
       let few = words-few n (held .few) in
       rw lent-is (omega (arith, length-take (words n) (drop at w)))
 
-  pub held-searchable : Searchable n (take ((at + s) - at) (drop at w))
+  held-searchable : Searchable n (take ((at + s) - at) (drop at w))
   held-searchable = record { few = held-few; below = rw lent-is (held .below) }
 
   -- the vertices among the bits of its words are those below n
@@ -383,3 +383,15 @@ module _ {n s at : ℕ} {w : List ℕ} (held : Held n s at w) where
       (count-none (64 * words n - n) (λ k. setAt n at w (n + k))
       (λ v l. not-true-is-false (setAt n at w (n + v)) (λ p. let less = held .below (n + v) p in omega arith))) ∙
       add-zero (count n (setAt n at w)))
+
+-- a set below a height can be searched
+pub held-under :
+    {priorities : List ℕ} {s at height top : ℕ} {w : List ℕ} →
+    HeldUnder priorities s at height w →
+    top ≡ height - 1 →
+    SearchableTo priorities top (take ((at + s) - at) (drop at w))
+held-under {priorities} {s} {at} {w = w} h is =
+    record {
+      searchable = held-searchable (h .held);
+      under = rw (lent-part (length priorities) s at w (h .held .size)) (λ v m. omega (arith, h .under v m));
+    }

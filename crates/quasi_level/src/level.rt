@@ -11,7 +11,7 @@ ghost use Rattle.area.specs.Area.{setAt};
 ghost use Rattle.zielonka_level.specs.Parts.{highestOf};
 ghost use Rattle.rules.specs.Game.{playerOf};
 ghost use Rattle.rules.specs.Tables.{Accepted, tablesOf};
-ghost use Rattle.quasi_level.specs.Level.{Held, Ready, TopCut, Droppable, Dropped, Settled, GaveUp, TurnedOver};
+ghost use Rattle.quasi_level.specs.Level.{Held, HeldUnder, Ready, TopCut, Droppable, Dropped, Settled, GaveUp, TurnedOver};
 
 // The number of vertices of V.
 pub fn size_at(n: usize, s: usize, work: &[u64], base: usize) -> usize
@@ -21,14 +21,15 @@ pub fn size_at(n: usize, s: usize, work: &[u64], base: usize) -> usize
     sets::size(&work[base..base + s])
 }
 
-// The highest priority in V.
-pub fn highest_at(priorities: &[u16], s: usize, work: &[u64], base: usize) -> usize
-    requires { ⌜ Held (length (now priorities)) s base (now work) ⌝ }
+// The highest priority in V, all of whose priorities are below the height.
+pub fn highest_at(priorities: &[u16], s: usize, work: &[u64], base: usize, height: usize) -> usize
+    requires { ⌜ HeldUnder (now priorities) s base height (now work) ⌝ }
     ensures { λ r.
         ⌜ r ≡ highestOf (now (priorities .entry))
         (setAt (length (now (priorities .entry))) base (now (work .entry))) ⌝ }
 {
-    zielonka_level::get_highest_prio(priorities, &work[base..base + s]).0
+    let top = zielonka_level::one_less(height);
+    zielonka_level::get_highest_prio(priorities, &work[base..base + s], top).0
 }
 
 // U: the vertices of V with priority p; A: the attractor of U for p's player. V without A goes to the next level.

@@ -1,4 +1,4 @@
--- The checks 1 to 10 of the second opinion, one by one and by the lengths that they go by.
+-- The checks of the second opinion, one by one and by the lengths that they go by: 1 to 10, and 9 and 10 of accepted tables.
 use mathlib.Core.List.{[], _∷_}
 use mathlib.Core.Path.{_≡_, sym, ap, _∙_}
 use Prim.Native.Nat.{ℕ, _≤_}
@@ -13,32 +13,37 @@ use Rattle.theory.specs.Tables.{given-none}
 use Rattle.parity_game.specs.Laws.{check9-set, then-assoc, then-none, check9-set-none, numbered-then, numbered-tables}
 use Rattle.parity_game.specs.Laws.{numbered-check9, numbered-given, Numbered}
 
--- 1 to 10, by the lengths that they go by
+-- 9 and 10 for sizes n and m, by the lengths that they go by
+abbrev pub lentChecks : ℕ → ℕ → ℕ → ℕ → ℕ → Verdict
+lentChecks n m even odd work = check9 n (even ∷ odd ∷ []) [] then opinionCheck10 n m work
+
+-- 1 to 10
 abbrev pub checksBy : Tables → ℕ → ℕ → ℕ → Verdict
-checksBy t even odd work =
-    tableChecks t then
-    check9 (vertices t) (even ∷ odd ∷ []) [] then
-    opinionCheck10 (vertices t) (edgesIn t) work
+checksBy t even odd work = tableChecks t then lentChecks (vertices t) (edgesIn t) even odd work
+
+-- of accepted tables they are 9 and 10
+pub accepted-checks :
+    (t : Tables) (even odd work : ℕ) →
+    Accepted t →
+    lentChecks (vertices t) (edgesIn t) even odd work ≡ checksBy t even odd work
+unfolding Accepted
+accepted-checks t even odd work ok = rw ok
 
 -- one set
 abbrev pub oneSet : ℕ → ℕ → Verdict
 oneSet n k = check9 n (k ∷ []) []
 
 -- what is left after each check
-module _ (t : Tables) (even odd work : ℕ) where
+module _ (n m even odd work : ℕ) where
   abbrev pub afterEven : Verdict
-  afterEven = oneSet (vertices t) odd then opinionCheck10 (vertices t) (edgesIn t) work
-
-  abbrev pub afterTables : Verdict
-  afterTables = oneSet (vertices t) even then afterEven
+  afterEven = oneSet n odd then opinionCheck10 n m work
 
   -- the checks one by one are the checks
-  pub checks-in-order : tableChecks t then afterTables ≡ checksBy t even odd work
+  pub checks-in-order : oneSet n even then afterEven ≡ lentChecks n m even odd work
   checks-in-order =
-      ap (λ (v : Verdict). tableChecks t then v)
-      (sym
-      (ap (λ (v : Verdict). v then opinionCheck10 (vertices t) (edgesIn t) work) (check9-set (vertices t) even (odd ∷ []) []) ∙
-      then-assoc (oneSet (vertices t) even) (oneSet (vertices t) odd) (opinionCheck10 (vertices t) (edgesIn t) work)))
+      sym
+      (ap (λ (v : Verdict). v then opinionCheck10 n m work) (check9-set n even (odd ∷ []) []) ∙
+      then-assoc (oneSet n even) (oneSet n odd) (opinionCheck10 n m work))
 
 -- each refusal has a number
 numbered-check10 : (n m work : ℕ) → Numbered (opinionCheck10 n m work)
@@ -61,9 +66,11 @@ pub record Passed (t : Tables) (even odd work : ℕ) : Type 0 where
 pub checks-passed : (t : Tables) (even odd work : ℕ) → checksBy t even odd work ≡ none → Passed t even odd work
 unfolding Accepted opinionCheck10
 checks-passed t even odd work e =
-    let one = then-none (tableChecks t) (afterTables t even odd work) (checks-in-order t even odd work ∙ e) in
-    let two = then-none (oneSet (vertices t) even) (afterEven t even odd work) (one .1) in
-    let three = then-none (oneSet (vertices t) odd) (opinionCheck10 (vertices t) (edgesIn t) work) (two .1) in
+    let n = vertices t in
+    let m = edgesIn t in
+    let one = then-none (tableChecks t) (lentChecks n m even odd work) e in
+    let two = then-none (oneSet n even) (afterEven n m even odd work) (checks-in-order n m even odd work ∙ one .1) in
+    let three = then-none (oneSet n odd) (opinionCheck10 n m work) (two .1) in
     record {
       accepted = one .0;
       even-size = check9-set-none (vertices t) even (two .0);

@@ -3,13 +3,13 @@ use mathlib.Core.Bool.{Bool, true, false, _&&_, not}
 use mathlib.Core.List.{List, _++_}
 use mathlib.Core.Logic.{inl, inr}
 use mathlib.Core.Path.{_≡_, refl, sym, ap, ap₂, subst, fun-ext, _∙_}
-use Prim.Native.Nat.{ℕ, _+_, _-_, _*_, _≤_, _<_}
-use native.Mathlib.Nat.{mul-le-mul-right, one-mul}
+use Prim.Native.Nat.{ℕ, _+_, _-_, _*_, _%_, _≤_, _<_}
+use native.Mathlib.Nat.{mul-le-mul-left, mul-le-mul-right, one-mul}
 use native.Mathlib.Omega.{arith}
 use borrow.Author.Tests.{ltb-true}
-use lib.ListN.{length, take, drop, replicate, length-take}
+use lib.ListN.{length, getD, take, drop, replicate, length-take}
 use Rattle.rules.specs.Counting.{Set, without}
-use Rattle.rules.specs.Game.{Player, Even, Odd, everywhere}
+use Rattle.rules.specs.Game.{Player, Even, Odd, playerOf, everywhere}
 use Rattle.rules.specs.Outcome.{Outcome, Verdict, none, refused, outcome, answered}
 use Rattle.rules.specs.SecondOpinion.{LentSets, opinionWords, opinionChecks, OpinionAnswered, OpinionLeaves, GivesOpinion}
 use Rattle.rules.specs.Tables.{Tables, gameOf, vertices, edgesIn, words, workWords, Accepted}
@@ -18,8 +18,9 @@ use Rattle.rules.specs.Words.{Holds, setOf, bit}
 use Rattle.rules.specs.Zielonka.{wonBy}
 use Rattle.theory.specs.AttractorComplement.{TotalIn}
 use Rattle.theory.specs.Basics.{not-true-is-false, and-left}
-use Rattle.theory.specs.Tables.{accepted-total, accepted-priority}
+use Rattle.theory.specs.Tables.{accepted-total}
 use Rattle.theory.specs.Zielonka.{everywhere-below, everywhere-total}
+use Rattle.kept_numbers.specs.Reading.{Counted, kept-bounds, kept-small}
 use Rattle.sets.specs.After.{Combined, other}
 use Rattle.sets.specs.Laws.{other-bit}
 use Rattle.area.specs.Area.{layers, free, setAt, wordsAt}
@@ -36,9 +37,18 @@ use Rattle.quasi_level.specs.declared.passes.Sharp.{Sharp}
 use Rattle.quasi_solvers.specs.Calling.{Called, Solved}
 use Rattle.quasi_polynomial.specs.Checks.{Passed}
 
--- what `run` asks for: accepted tables, sets of the right sizes, and W words
-pub record Runnable (t : Tables) (even odd work : List ℕ) : Type 0 where
+-- a height for priorities up to `top`, for which W words have room
+pub record Height (top high : ℕ) : Type 0 where
+  pub above : top < high
+  pub least : high ≤ top + 2
+  pub odd : high % 2 ≡ 1
+
+-- what `run` asks for: accepted tables with every priority below the height, sets of the right sizes, and W words
+pub record Runnable (t : Tables) (high : ℕ) (even odd work : List ℕ) : Type 0 where
   pub accepted : Accepted t
+  pub under : (v : ℕ) → v < vertices t → getD (t .priorities) v 0 < high
+  pub most : high ≤ 257
+  pub turn : high % 2 ≡ 1
   pub even-size : length even ≡ words (vertices t)
   pub odd-size : length odd ≡ words (vertices t)
   pub room : length work ≡ opinionWords (vertices t) (edgesIn t)
@@ -60,7 +70,7 @@ unfolding opinionWords workWords
 levels-fit n m =
     let wide : 3 * words n ≤ 8 * (n + 2) * words n = mul-le-mul-right (words n) (omega arith) in omega arith
 
-module _ {t : Tables} {even odd w₀ : List ℕ} (given : Runnable t even odd w₀) where
+module _ {t : Tables} {high : ℕ} {even odd w₀ : List ℕ} (given : Runnable t high even odd w₀) where
   abbrev n : ℕ
   n = vertices t
 
@@ -105,7 +115,7 @@ module _ {t : Tables} {even odd w₀ : List ℕ} (given : Runnable t even odd w�
           prepared .full v
 
       -- what the solver for Even asks for
-      pub run-called : Called t Even (allAt t (length even) + length even) 257 w₂
+      pub run-called : Called t Even (allAt t (length even) + length even) high w₂
       unfolding gameOf
       run-called =
           record {
@@ -116,14 +126,15 @@ module _ {t : Tables} {even odd w₀ : List ℕ} (given : Runnable t even odd w�
                 (prepared .listed);
             low = omega (arith, size);
             room =
-                let levels : words (vertices t) * (257 + 1) ≡ 258 * words (vertices t) = omega arith in
+                let most = given .most in
+                let levels : words (vertices t) * (high + 1) ≤ words (vertices t) * 258 = mul-le-mul-left (words (vertices t)) (omega arith) in
                 omega (arith, fits, copied .long, prepared .long, size);
             below = λ v p. everywhere-below (gameOf t) v (sym (narrowed v) ∙ p);
             total =
                 subst (λ (S : Set). TotalIn (gameOf t) S) (sym (fun-ext narrowed))
                 (everywhere-total (gameOf t) (accepted-total t (given .accepted)));
-            under = λ v p. let small = accepted-priority t (given .accepted) v in omega arith;
-            turn = refl;
+            under = λ v p. given .under v (everywhere-below (gameOf t) v (sym (narrowed v) ∙ p));
+            turn = ap playerOf (given .turn);
           }
 
       module _ {w₃ w₄ : List ℕ} {r : Sharp}
@@ -236,10 +247,16 @@ pub run-ready :
     (t : Tables) (w : ℕ) (even odd work : List ℕ) →
     w ≡ opinionWords (vertices t) (edgesIn t) →
     Passed t (length even) (length odd) (length work) →
-    Runnable t even odd (take (w - 0) (drop 0 work))
-run-ready t w even odd work is p =
+    {kept : List ℕ} {high : ℕ} →
+    Counted t kept →
+    Height (getD kept 257 0) high →
+    Runnable t high even odd (take (w - 0) (drop 0 work))
+run-ready t w even odd work is p counted height =
     record {
       accepted = p .accepted;
+      under = λ v l. omega (arith, kept-bounds counted v l, height .above);
+      most = omega (arith, kept-small counted, height .least);
+      turn = height .odd;
       even-size = p .even-size;
       odd-size = p .odd-size;
       room = omega (arith, length-take (w - 0) work, p .work-size);

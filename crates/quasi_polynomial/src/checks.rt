@@ -1,13 +1,12 @@
-// The refusals 1 to 10, with the larger work area that this solver asks for. None writes anything.
+// The refusals 9 and 10, with the larger work area that this solver asks for. None writes anything.
 use parity_game::Answer;
 use parity_game::SHORT_WORK;
 ghost use mathlib.Core.Path.{_≡_};
 ghost use Prim.Native.Nat.{_≤_};
 ghost use Rattle.rules.specs.Outcome.{outcome, answered};
 ghost use Rattle.rules.specs.SecondOpinion.{opinionWords, opinionCheck10};
-ghost use Rattle.rules.specs.Tables.{tablesOf};
 ghost use Rattle.parity_game.specs.Said.{said};
-ghost use Rattle.quasi_polynomial.specs.Checks.{checksBy};
+ghost use Rattle.quasi_polynomial.specs.Checks.{lentChecks};
 
 // W: 2,064 s words more than the other solvers'.
 pub fn opinion_words(n: usize, m: usize) -> usize
@@ -28,28 +27,11 @@ fn check_room(n: usize, m: usize, work: usize) -> Answer
     Answer::Answered(0)
 }
 
-// 1 to 10, by the lengths of what is lent.
-pub fn check_all(
-    owners: &[u8],
-    priorities: &[u16],
-    offsets: &[u16],
-    targets: &[u16],
-    even: usize,
-    odd: usize,
-    work: usize,
-) -> Answer
-    ensures { λ r.
-        ⌜ said r
-        ≡ outcome
-        (checksBy (tablesOf (now (owners .entry)) (now (priorities .entry)) (now (offsets .entry))
-        (now (targets .entry))) even odd work)
-        (answered 0) ⌝ }
+// 9 and 10, by the lengths of what is lent.
+pub fn check_lent(n: usize, m: usize, even: usize, odd: usize, work: usize) -> Answer
+    requires { ⌜ (n ≤ 4096) × (m ≤ 16384) ⌝ }
+    ensures { λ r. ⌜ said r ≡ outcome (lentChecks n m even odd work) (answered 0) ⌝ }
 {
-    let n = owners.len();
-    let r = parity_game::check_tables(owners, priorities, offsets, targets);
-    if r.number() != 0 {
-        return r;
-    }
     let r = parity_game::check_set(n, even);
     if r.number() != 0 {
         return r;
@@ -58,5 +40,5 @@ pub fn check_all(
     if r.number() != 0 {
         return r;
     }
-    check_room(n, targets.len(), work)
+    check_room(n, m, work)
 }

@@ -31,7 +31,7 @@ use Rattle.separation.specs.Passing.{Pass, found-inside}
 use Rattle.separation.specs.Stages.{raised, precisionAt, nextStage, Standing, stage-begins, stage-found, stage-nothing}
 use Rattle.separation.specs.Stages.{stage-found-rises, stage-nothing-rises, cut-enough}
 use Rattle.zielonka_level.specs.Parts.{highestOf}
-use Rattle.quasi_level.specs.Level.{nextLevel, onLevel, Held, Ready, Stays, TopCut}
+use Rattle.quasi_level.specs.Level.{nextLevel, onLevel, Held, HeldUnder, Ready, Stays, TopCut}
 use Rattle.quasi_level.specs.Level.{Droppable, Dropped, FoundSome, FoundNothing, Settled, GaveUp, TurnedOver}
 use Rattle.quasi_level.specs.Pieces.{stays-on, stays-under, level-stays}
 use Rattle.quasi_level.specs.Standing.{Began, AfterFound, AfterNothing, Ended}
@@ -109,8 +109,11 @@ module _ {t : Tables} {a : Player} {base height : ℕ} {w₀ : List ℕ} (called
         }
 
     -- as many priorities as vertices
-    pub called-searched : Held (length (t .priorities)) s base w₀
-    called-searched = rw (accepted-sound t (called .accepted) .priority-each) called-held
+    pub called-searched : HeldUnder (t .priorities) s base height w₀
+    unfolding gameOf
+    called-searched =
+        let each = accepted-sound t (called .accepted) .priority-each in
+        record { held = rw each called-held; under = rw each (called .under) }
 
     -- V is empty, or the precision is 0
     pub called-gives-up :

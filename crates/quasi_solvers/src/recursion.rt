@@ -46,7 +46,7 @@ pub fn solve_even(
     if e == 0 {
         return give_up(size, s, work, base);
     }
-    let p = highest_at(priorities, s, work, base);
+    let p = highest_at(priorities, s, work, base, height);
     let up = base + 8 * s;
     if p % 2 == 1 {
         sets::copy_with(work, up, base, s);
@@ -99,7 +99,7 @@ pub fn solve_odd(
     if o == 0 {
         return give_up(size, s, work, base);
     }
-    let p = highest_at(priorities, s, work, base);
+    let p = highest_at(priorities, s, work, base, height);
     let up = base + 8 * s;
     if p % 2 == 0 {
         sets::copy_with(work, up, base, s);

@@ -1,4 +1,4 @@
 // The attractor's door.
-// Each returns the number of document 01's table, 0 for an answer, and writes place and count through the last two
-// references. None has a `requires`.
-mod attraction;
+// It takes a game record, returns the number of document 01's table, 0 for an answer, and writes place and count
+// through the last two references. It has no `requires`.
+pub mod attraction;

@@ -1,8 +1,8 @@
 // PGSolver texts that come in portions.
 use telling::tell;
-ghost use Rattle.rules.specs.Portions.{StartsText, ReadsPortion, EndsReading};
+ghost use Rattle.rules.specs.Portions.{StartsText, ReadsPortion, EndsRecord};
 ghost use Rattle.pgsolver_serial.specs.Stands.{lentOf, Stands};
-ghost use Rattle.pgsolver_close.specs.Ending.{closingOf};
+ghost use Rattle.pgsolver_record.specs.Records.{closingRecordOf};
 ghost use Rattle.telling.specs.Doors.{told};
 
 // A fresh start.
@@ -59,7 +59,7 @@ pub extern "C" fn reckonbough_read_portion(
     )
 }
 
-// The end of the text.
+// The end of the text: a game, with the kept numbers of its record.
 #[no_mangle]
 pub extern "C" fn reckonbough_read_end(
     state: &mut [u64],
@@ -67,6 +67,7 @@ pub extern "C" fn reckonbough_read_end(
     priorities: &mut [u16],
     offsets: &mut [u16],
     targets: &mut [u16],
+    kept: &mut [u64],
     work: &mut [u64],
     n: &mut u64,
     m: &mut u64,
@@ -74,15 +75,25 @@ pub extern "C" fn reckonbough_read_end(
     count: &mut u64,
 ) -> u64
     ensures { λ number.
-        ⌜ EndsReading Stands
-        (closingOf (now (state .entry)) (now (owners .entry)) (now (priorities .entry)) (now (offsets .entry))
-        (now (targets .entry)) (now (work .entry)) (now (n .entry)) (now (m .entry)))
-        (closingOf (now (state .exit)) (now (owners .exit)) (now (priorities .exit)) (now (offsets .exit))
-        (now (targets .exit)) (now (work .exit)) (now (n .exit)) (now (m .exit)))
+        ⌜ EndsRecord Stands
+        (closingRecordOf (now (state .entry)) (now (owners .entry)) (now (priorities .entry)) (now (offsets .entry))
+        (now (targets .entry)) (now (kept .entry)) (now (work .entry)) (now (n .entry)) (now (m .entry)))
+        (closingRecordOf (now (state .exit)) (now (owners .exit)) (now (priorities .exit)) (now (offsets .exit))
+        (now (targets .exit)) (now (kept .exit)) (now (work .exit)) (now (n .exit)) (now (m .exit)))
         (told number (now (place .exit)) (now (count .exit))) ⌝ }
 {
     tell(
-        pgsolver_close::read_end(state, owners, priorities, offsets, targets, work, n, m),
+        pgsolver_record::read_end(
+            state,
+            owners,
+            priorities,
+            offsets,
+            targets,
+            kept,
+            work,
+            n,
+            m,
+        ),
         place,
         count,
     )

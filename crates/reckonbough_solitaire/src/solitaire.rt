@@ -1,30 +1,51 @@
 // The solitaire solver.
 use telling::tell;
+ghost use Rattle.rules.specs.Record.{recordOf, ByRecord};
 ghost use Rattle.rules.specs.Solitaire.{SolvesSolitaire};
-ghost use Rattle.rules.specs.Tables.{tablesOf};
+ghost use Rattle.solitaire_game.specs.Running.{lentOf};
 ghost use Rattle.telling.specs.Doors.{told};
 
 #[no_mangle]
 pub extern "C" fn reckonbough_solitaire(
+    n: u64,
+    m: u64,
     owners: &[u8],
     priorities: &[u16],
     offsets: &[u16],
     targets: &[u16],
+    kept: &[u64],
     set: &mut [u64],
     work: &mut [u64],
     place: &mut u64,
     count: &mut u64,
 ) -> u64
-    ensures { λ n.
-        ⌜ SolvesSolitaire
-        (tablesOf (now (owners .entry)) (now (priorities .entry)) (now (offsets .entry)) (now (targets .entry)))
-        (record { set = now (set .entry); work = now (work .entry) })
-        (record { set = now (set .exit); work = now (work .exit) })
-        (told n (now (place .exit)) (now (count .exit))) ⌝ }
+    ensures { λ number.
+        ⌜ ByRecord
+        (recordOf n m (now (owners .entry)) (now (priorities .entry)) (now (offsets .entry)) (now (targets .entry))
+        (now (kept .entry)))
+        (told number (now (place .exit)) (now (count .exit)))
+        (lentOf (now (set .entry)) (now (work .entry)))
+        (lentOf (now (set .exit)) (now (work .exit)))
+        (λ t.
+        SolvesSolitaire t
+        (lentOf (now (set .entry)) (now (work .entry)))
+        (lentOf (now (set .exit)) (now (work .exit)))
+        (told number (now (place .exit)) (now (count .exit)))) ⌝ }
 {
-    tell(
-        solitaire_game::solve_solitaire_game(owners, priorities, offsets, targets, set, work),
-        place,
-        count,
-    )
+    let n = n as usize;
+    let m = m as usize;
+    let r = record::check_record(n, m, owners, priorities, offsets, targets, kept);
+    if r.number() != 0 {
+        return tell(r, place, count);
+    }
+    let done = solitaire_game::solve_solitaire_game(
+        &owners[0..n],
+        &priorities[0..n],
+        &offsets[0..n + 1],
+        &targets[0..m],
+        kept,
+        set,
+        work,
+    );
+    tell(done, place, count)
 }

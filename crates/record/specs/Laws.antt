@@ -12,7 +12,7 @@ use lib.ListN.{length, take, drop}
 use lib.Seq.{length-take-le}
 use Rattle.rules.specs.Outcome.{Outcome, Verdict, none, refused, given, outcome, answered, _then_}
 use Rattle.rules.specs.Record.{Record, recordOf, room2, room3, sizeChecks, recordTables, keptCheck, check47, recordChecks, tablesIn, sameList}
-use Rattle.rules.specs.Record.{freshCount, freshChecks, keptBy, CountsFresh}
+use Rattle.rules.specs.Record.{freshCount, keptRoom, freshChecks, keptBy, CountsFresh}
 use Rattle.rules.specs.Tables.{tablesOf, check1, tableChecks}
 use Rattle.parity_game.specs.Laws.{Numbered, numbered-then, numbered-given, numbered-check1, numbered-tables, accepted-sound}
 use Rattle.parity_game.specs.Said.{refusal}
@@ -98,17 +98,26 @@ pub part-fronts :
 part-fronts r = simp sub-zero
 
 -- 9 for kept numbers of another length, and none for 258 of them
+pub room-nine : (kept : List ℕ) → (length kept ≡ 258 → ⊥) → keptRoom kept ≡ refused 9 0
+unfolding keptRoom
+room-nine kept n = rw (ne-eqb (length kept) 258 n)
+
+pub numbered-room : (kept : List ℕ) → Numbered (keptRoom kept)
+unfolding keptRoom
+numbered-room kept = numbered-given 9 0 (not (eqb (length kept) 258)) (omega arith)
+
+pub room-passes : (kept : List ℕ) → length kept ≡ 258 → keptRoom kept ≡ none
+unfolding keptRoom
+room-passes kept e = rw (eq-eqb (length kept) 258 e)
+
 pub fresh-nine :
     (r : Record) →
     recordTables r ≡ none →
     (length (r .kept) ≡ 258 → ⊥) →
     CountsFresh r (r .kept) (refusal 9 0)
 unfolding freshChecks
-fresh-nine r ok n =
-    fresh-refused r (refusal 9 0)
-    (rw (ok, ne-eqb (length (r .kept)) 258 n))
-    (λ z. absurd (omega arith))
+fresh-nine r ok n = fresh-refused r (refusal 9 0) (rw (ok, room-nine (r .kept) n)) (λ z. absurd (omega arith))
 
 pub fresh-passes : (r : Record) → recordTables r ≡ none → length (r .kept) ≡ 258 → freshChecks r ≡ none
 unfolding freshChecks
-fresh-passes r ok e = rw (ok, eq-eqb (length (r .kept)) 258 e)
+fresh-passes r ok e = rw ok (room-passes (r .kept) e)

@@ -24,10 +24,37 @@ fn judge(
     offsets: &[u16],
     targets: &[u16],
 ) -> Line {
-    let said = solvers::read_said(list, from, owners.len());
-    let zielonka = solvers::solver_differs(false, owners, priorities, offsets, targets, said);
-    let promotion = solvers::solver_differs(true, owners, priorities, offsets, targets, said);
-    let solitaire = solvers::solitaire_differs(owners, priorities, offsets, targets, said);
+    let mut kept = [0u64; 258];
+    let n = owners.len();
+    record::fresh_count(
+        n,
+        targets.len(),
+        owners,
+        priorities,
+        offsets,
+        targets,
+        &mut kept,
+    );
+    let said = solvers::read_said(list, from, n);
+    let zielonka = solvers::solver_differs(
+        false,
+        owners,
+        priorities,
+        offsets,
+        targets,
+        &kept,
+        said,
+    );
+    let promotion = solvers::solver_differs(
+        true,
+        owners,
+        priorities,
+        offsets,
+        targets,
+        &kept,
+        said,
+    );
+    let solitaire = solvers::solitaire_differs(owners, priorities, offsets, targets, &kept, said);
     Line {
         next: end,
         zielonka: zielonka,

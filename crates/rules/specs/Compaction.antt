@@ -9,6 +9,7 @@ use lib.Dec.{eqb}
 use lib.ListN.{length, getD}
 use Rattle.rules.specs.Counting.{Set, some}
 use Rattle.rules.specs.Outcome.{Outcome, Verdict, none, refused, outcome, answered, _then_}
+use Rattle.rules.specs.Record.{keptRoom, freshCount}
 use Rattle.rules.specs.Tables.{Tables, vertices, tableChecks, check9}
 
 -- some vertex has this priority
@@ -35,16 +36,26 @@ lastBelow isUsed (suc p) =
 unfoldable pub compacted : List ℕ → ℕ → ℕ
 compacted priorities p = nextNumber (lastBelow (used priorities) p) p
 
--- 1 to 9, for tables and a new priority table of some length
-abbrev pub compactionChecks : Tables → ℕ → Verdict
-compactionChecks t newLength = tableChecks t then check9 (vertices t) [] (newLength ∷ [])
+-- what is lent to write in: the new priority table, and its kept numbers
+pub record LentCompacted : Type 0 where
+  pub priorities : List ℕ
+  pub kept : List ℕ
 
--- the new table that a verdict leaves: as it was after a refusal, else the rule's
-abbrev pub newTable : Verdict → Tables → List ℕ → List ℕ
-newTable none t before = map (compacted (t .priorities)) (t .priorities)
-newTable (refused k p) t before = before
+-- 1 to 9, for tables and what is lent
+abbrev pub compactionChecks : Tables → LentCompacted → Verdict
+compactionChecks t lent =
+    tableChecks t then check9 (vertices t) [] (length (lent .priorities) ∷ []) then keptRoom (lent .kept)
+
+-- the rule's new table
+abbrev pub newTable : Tables → List ℕ
+newTable t = map (compacted (t .priorities)) (t .priorities)
+
+-- what a verdict leaves: all as it was after a refusal, else the new table and a fresh count of it
+abbrev pub compactedBy : Verdict → Tables → LentCompacted → LentCompacted
+compactedBy none t before = record { priorities = newTable t; kept = freshCount (newTable t) }
+compactedBy (refused k p) t before = before
 
 -- the public function
-pub record Compacts (t : Tables) (before after : List ℕ) (o : Outcome) : Type 0 where
-  pub gives : o ≡ outcome (compactionChecks t (length before)) (answered 0)
-  pub table : after ≡ newTable (compactionChecks t (length before)) t before
+pub record Compacts (t : Tables) (before after : LentCompacted) (o : Outcome) : Type 0 where
+  pub gives : o ≡ outcome (compactionChecks t before) (answered 0)
+  pub leaves : after ≡ compactedBy (compactionChecks t before) t before

@@ -4,6 +4,7 @@ pub mod Counting
 pub mod Outcome
 pub mod Game
 pub mod Tables
+pub mod Record
 pub mod Words
 pub mod Winning
 pub mod Attractor
@@ -25,4 +26,3 @@ pub mod Writing
 pub mod Printing
 pub mod Mending
 pub mod Loop
-pub mod Record

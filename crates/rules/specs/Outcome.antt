@@ -1,5 +1,6 @@
 -- "Numbers given back": what every public function gives, and how refusals follow one another: the first that applies is given.
 use mathlib.Core.Bool.{Bool, cond}
+use mathlib.Core.Path.{_≡_}
 use Prim.Native.Nat.{ℕ}
 use lib.Dec.{ltb}
 use Rattle.rules.specs.Counting.{some, lowest}
@@ -40,3 +41,8 @@ outcome (refused k p) o = record { number = k; place = p; count = 0 }
 -- 13: what the rules need is more than the budget; the count given is the budget. Else the answer's count is what was needed
 abbrev pub budgeted : ℕ → ℕ → Outcome
 budgeted budget needed = cond (ltb budget needed) (record { number = 13; place = 0; count = budget }) (answered needed)
+
+-- a refusal writes nothing and gives count 0; else something is said of what was done
+abbrev pub Unless : {A : Type 0} → Verdict → Outcome → A → A → Type 0 → Type 0
+Unless (refused k p) o before after Else = (o ≡ record { number = k; place = p; count = 0 }) × (after ≡ before)
+Unless none o before after Else = Else

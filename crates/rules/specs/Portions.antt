@@ -7,9 +7,10 @@ use mathlib.Core.Path.{_≡_}
 use Prim.Native.Nat.{ℕ, _+_, _<_}
 use lib.Dec.{eqb, ltb}
 use lib.ListN.{length, drop, replicate}
-use Rattle.rules.specs.Outcome.{Outcome, Verdict, none, refused, given, outcome, answered, _then_}
+use Rattle.rules.specs.Outcome.{Outcome, Verdict, none, refused, given, outcome, answered, _then_, Unless}
 use Rattle.rules.specs.Pgsolver.{unsaid, Viable}
-use Rattle.rules.specs.Reading.{Limits, Over, Reads, Rooms, Written, limitsOf, readingWords, roomChecks, Told, game}
+use Rattle.rules.specs.Reading.{Limits, Over, Reads, Rooms, Written, limitsOf, readingWords, roomChecks, Told, game, keptBeside}
+use Rattle.rules.specs.Record.{keptRoom}
 
 -- ---- the bytes so far
 
@@ -71,11 +72,6 @@ pub record Emptied (before after : Lent) : Type 0 where
   pub priorities : after .priorities ≡ replicate (length (before .priorities)) 0
   pub offsets : after .offsets ≡ replicate (length (before .offsets)) 0
   pub targets : after .targets ≡ replicate (length (before .targets)) 0
-
--- 9 and 10 write nothing
-abbrev pub Unless : {A : Type 0} → Verdict → Outcome → A → A → Type 0 → Type 0
-Unless (refused k p) o before after Else = (o ≡ record { number = k; place = p; count = 0 }) × (after ≡ before)
-Unless none o before after Else = Else
 
 -- ---- start
 
@@ -153,6 +149,21 @@ pub record Closed (S : Meaning) (before after : Closing) (o : Outcome) : Type 0 
 
 abbrev pub EndsReading : Meaning → Closing → Closing → Outcome → Type 0
 EndsReading S before after o = Unless (endChecks (before .lent) (before .work)) o before after (Closed S before after o)
+
+-- a closing with the kept numbers of a record
+pub record ClosingRecord : Type 0 where
+  pub closing : Closing
+  pub kept : List ℕ
+
+pub record ClosedRecord (S : Meaning) (before after : ClosingRecord) (o : Outcome) : Type 0 where
+  pub closed : Closed S (before .closing) (after .closing) o
+  pub kept : after .kept ≡ keptBeside o (after .closing .n) (after .closing .lent .priorities)
+
+-- the public function: 9 is also a kept that is not 258 long; called again it writes kept again, with n and m
+abbrev pub EndsRecord : Meaning → ClosingRecord → ClosingRecord → Outcome → Type 0
+EndsRecord S before after o =
+    Unless (keptRoom (before .kept) then endChecks (before .closing .lent) (before .closing .work)) o before after
+    (ClosedRecord S before after o)
 
 -- ---- all together
 

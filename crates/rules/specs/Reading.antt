@@ -8,8 +8,9 @@ use Prim.Native.Nat.{ℕ, zero, suc, _+_, _-_, min, _≤_, _<_}
 use lib.Dec.{eqb, ltb}
 use lib.ListN.{length, take, drop, replicate}
 use Rattle.rules.specs.Counting.{times, listed}
-use Rattle.rules.specs.Outcome.{Outcome, Verdict, none, refused, given, givenAt, outcome, answered, _then_}
+use Rattle.rules.specs.Outcome.{Outcome, Verdict, none, refused, given, givenAt, outcome, answered, _then_, Unless}
 use Rattle.rules.specs.Pgsolver.{Blank, Gap, Number, Entry, Fields, Header, unsaid, highest, Records, Text, Viable, parityWord}
+use Rattle.rules.specs.Record.{freshCount, keptRoom}
 use Rattle.rules.specs.Tables.{Tables, tableChecks}
 
 -- ---- 30 and 32
@@ -220,3 +221,22 @@ ReadsBy none asks mostBytes bytes before after o = Told asks mostBytes bytes (be
 -- the public function
 abbrev pub ReadsText : Asks → ℕ → List ℕ → Written → Written → Outcome → Type 0
 ReadsText asks mostBytes bytes before after o = ReadsBy (roomChecks (before .rooms)) asks mostBytes bytes before after o
+
+-- ---- a record read
+
+-- the kept numbers that are written beside the tables: a fresh count after an answer, zero everywhere after a refusal
+abbrev pub keptBeside : Outcome → ℕ → List ℕ → List ℕ
+keptBeside o n priorities = cond (eqb (o .number) 0) (freshCount (take n priorities)) (replicate 258 0)
+
+pub record WrittenRecord : Type 0 where
+  pub tables : Written
+  pub kept : List ℕ
+
+pub record ToldRecord (mostBytes : ℕ) (bytes : List ℕ) (before after : WrittenRecord) (o : Outcome) : Type 0 where
+  pub told : Told game mostBytes bytes (before .tables .rooms) (after .tables) o
+  pub kept : after .kept ≡ keptBeside o (after .tables .n) (after .tables .rooms .priorities)
+
+-- the public function that reads a game: 9 is also a kept that is not 258 long
+abbrev pub ReadsRecord : ℕ → List ℕ → WrittenRecord → WrittenRecord → Outcome → Type 0
+ReadsRecord mostBytes bytes before after o =
+    Unless (keptRoom (before .kept) then roomChecks (before .tables .rooms)) o before after (ToldRecord mostBytes bytes before after o)

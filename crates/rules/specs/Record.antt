@@ -8,7 +8,7 @@ use Prim.Native.Nat.{ℕ, _+_}
 use lib.Dec.{eqb, ltb, leb}
 use lib.ListN.{length, getD, take, set}
 use Rattle.rules.specs.Counting.{Set, every, count, times, listed, greatest}
-use Rattle.rules.specs.Outcome.{Outcome, Verdict, none, refused, given, outcome, answered, _then_}
+use Rattle.rules.specs.Outcome.{Outcome, Verdict, none, refused, given, outcome, answered, _then_, Unless}
 use Rattle.rules.specs.Tables.{Tables, tablesOf, check1, tableChecks}
 
 pub record Record : Type 0 where
@@ -94,6 +94,14 @@ check47 r = keptCheck (take (r .n) (r .priorities)) (r .kept)
 unfoldable pub recordChecks : Record → Verdict
 recordChecks r = recordTables r then check47 r
 
+-- a function that takes a record: where 1 to 8 or 47 refuse it nothing is written, and past them it does what is said of its tables
+abbrev pub ByRecord : {A : Type 0} → Record → Outcome → A → A → (Tables → Type 0) → Type 0
+ByRecord r o before after Does = Unless (recordChecks r) o before after (Does (tablesIn r))
+
+-- 9: a kept to be written that is not 258 long
+unfoldable pub keptRoom : List ℕ → Verdict
+keptRoom kept = given 9 0 (not (eqb (length kept) 258))
+
 pub data Edit : Type 0 where
   setPriority : ℕ → ℕ → Edit
   setOwner : ℕ → ℕ → Edit
@@ -145,7 +153,7 @@ pub record Edits (e : Edit) (before after : Record) (o : Outcome) : Type 0 where
 
 -- a fresh count: 1 to 8, then 9 for a kept that is not 258 long; kept is an output, so there is no 47
 unfoldable pub freshChecks : Record → Verdict
-freshChecks r = recordTables r then given 9 0 (not (eqb (length (r .kept)) 258))
+freshChecks r = recordTables r then keptRoom (r .kept)
 
 abbrev pub keptBy : Verdict → Record → List ℕ
 keptBy none r = freshCount (take (r .n) (r .priorities))

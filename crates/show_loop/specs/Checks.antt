@@ -1,5 +1,6 @@
 -- The refusals 1 to 45, by the lengths that they go by, and what is known of what passes them.
 use mathlib.Core.Bool.{true, not, _||_}
+use mathlib.Core.List.{List}
 use mathlib.Core.Path.{_≡_, refl}
 use Prim.Native.Nat.{ℕ, _*_, _≤_, _<_}
 use native.Mathlib.Omega.{arith}
@@ -7,7 +8,7 @@ use borrow.Author.Tests.{ltb-true, ltb-false, not-false}
 use lib.Dec.{ltb}
 use lib.ListN.{length}
 use Rattle.rules.specs.Loop.{LentRun, loopChecks, check44, check45, check46}
-use Rattle.rules.specs.Outcome.{Verdict, none, _then_}
+use Rattle.rules.specs.Outcome.{Outcome, Verdict, none, outcome, _then_}
 use Rattle.rules.specs.Solitaire.{solitaire, soleOwner, check11}
 use Rattle.rules.specs.Tables.{Tables, gameOf, vertices, edgesIn, workWords, tableChecks, Accepted, check10}
 use Rattle.theory.specs.Basics.{or-false-both}
@@ -20,14 +21,22 @@ abbrev pub askedChecks : ℕ → ℕ → ℕ → ℕ → Verdict
 askedChecks n v path cycle = check44 n v then check45 n path cycle
 
 -- what is left past 10, past the tables, and all
-abbrev pub after10 : Tables → ℕ → ℕ → ℕ → Verdict
-after10 t v path cycle = check11 (vertices t) (t .owners) then askedChecks (vertices t) v path cycle
+abbrev pub after10 : List ℕ → ℕ → ℕ → ℕ → Verdict
+after10 owners v path cycle = check11 (length owners) owners then askedChecks (length owners) v path cycle
 
-abbrev pub after8 : Tables → ℕ → ℕ → ℕ → ℕ → Verdict
-after8 t v path cycle work = check10 (vertices t) (edgesIn t) work then after10 t v path cycle
+abbrev pub lentBy : List ℕ → ℕ → ℕ → ℕ → ℕ → ℕ → Verdict
+lentBy owners m v path cycle work = check10 (length owners) m work then after10 owners v path cycle
 
 abbrev pub checksBy : Tables → ℕ → ℕ → ℕ → ℕ → Verdict
-checksBy t v path cycle work = tableChecks t then after8 t v path cycle work
+checksBy t v path cycle work = tableChecks t then lentBy (t .owners) (edgesIn t) v path cycle work
+
+-- of accepted tables what is left past them is all
+pub past-tables :
+    (t : Tables) (v path cycle work : ℕ) (o : Outcome) →
+    Accepted t →
+    outcome (lentBy (t .owners) (edgesIn t) v path cycle work) o ≡ outcome (checksBy t v path cycle work) o
+unfolding Accepted
+past-tables t v path cycle work o accepted = rw accepted
 
 numbered-check44 : (n v : ℕ) → Numbered (check44 n v)
 unfolding check44
@@ -72,8 +81,8 @@ pub checks-passed : (t : Tables) (v path cycle work : ℕ) → checksBy t v path
 unfolding Accepted
 checks-passed t v path cycle work e =
     let n = vertices t in
-    let one = then-none (tableChecks t) (after8 t v path cycle work) e in
-    let two = then-none (check10 n (edgesIn t) work) (after10 t v path cycle) (one .1) in
+    let one = then-none (tableChecks t) (lentBy (t .owners) (edgesIn t) v path cycle work) e in
+    let two = then-none (check10 n (edgesIn t) work) (after10 (t .owners) v path cycle) (one .1) in
     let three = then-none (check11 n (t .owners)) (askedChecks n v path cycle) (two .1) in
     let four = then-none (check44 n v) (check45 n path cycle) (three .1) in
     let rooms = check45-none n path cycle (four .1) in

@@ -1,13 +1,13 @@
-// The refusals 1 to 8, 10, 11, 44 and 45. None writes anything.
+// The refusals 10, 11, 44 and 45. None writes anything.
 use parity_game::Answer;
 use parity_game::NO_SUCH_VERTEX;
 use parity_game::SHORT_LIST;
 ghost use mathlib.Core.Path.{_≡_};
 ghost use Prim.Native.Nat.{_≤_};
+ghost use lib.ListN.{length};
 ghost use Rattle.rules.specs.Outcome.{outcome, answered};
-ghost use Rattle.rules.specs.Tables.{tablesOf};
 ghost use Rattle.parity_game.specs.Said.{said};
-ghost use Rattle.show_loop.specs.Checks.{askedChecks, checksBy};
+ghost use Rattle.show_loop.specs.Checks.{askedChecks, lentBy};
 
 // 44 and 45.
 fn check_asked(n: usize, vertex: u64, path: usize, cycle: usize) -> Answer
@@ -26,30 +26,20 @@ fn check_asked(n: usize, vertex: u64, path: usize, cycle: usize) -> Answer
     Answer::Answered(0)
 }
 
-// All of them, by the lengths of what is lent.
-pub fn check_all(
+// All of them, by the lengths of what is lent, for accepted tables with m edges.
+pub fn check_lent(
     owners: &[u8],
-    priorities: &[u16],
-    offsets: &[u16],
-    targets: &[u16],
+    m: usize,
     vertex: u64,
     path: usize,
     cycle: usize,
     work: usize,
 ) -> Answer
-    ensures { λ r.
-        ⌜ said r
-        ≡ outcome
-        (checksBy (tablesOf (now (owners .entry)) (now (priorities .entry)) (now (offsets .entry))
-        (now (targets .entry))) vertex path cycle work)
-        (answered 0) ⌝ }
+    requires { ⌜ (length (now owners) ≤ 4096) × (m ≤ 16384) ⌝ }
+    ensures { λ r. ⌜ said r ≡ outcome (lentBy (now (owners .entry)) m vertex path cycle work) (answered 0) ⌝ }
 {
     let n = owners.len();
-    let r = parity_game::check_tables(owners, priorities, offsets, targets);
-    if r.number() != 0 {
-        return r;
-    }
-    let r = parity_game::check_work(n, targets.len(), work);
+    let r = parity_game::check_work(n, m, work);
     if r.number() != 0 {
         return r;
     }

@@ -1,14 +1,16 @@
-// The public function, for every input: it checks all that it takes, works in the first W words of the work area, and
+// The function on accepted tables: it checks all else that it takes, works in the first W words of the work area, and
 // leaves them 0.
-use crate::checks::check_all;
+use crate::checks::check_lent;
 use crate::lists::Lengths;
 use crate::lists::write_run;
 use parity_game::Answer;
 use parity_game::NO_LOOP;
 use parity_game::VertexIndex;
 use solitaire_game::sole_owner;
+ghost use mathlib.Core.Path.{_≡_};
 ghost use Rattle.rules.specs.Loop.{ShowsLoop};
-ghost use Rattle.rules.specs.Tables.{tablesOf};
+ghost use Rattle.rules.specs.Record.{freshCount};
+ghost use Rattle.rules.specs.Tables.{tablesOf, Accepted};
 ghost use Rattle.parity_game.specs.Said.{said};
 ghost use Rattle.show_loop.specs.Running.{Runnable, Ran, lentOf};
 
@@ -18,13 +20,14 @@ fn run(
     priorities: &[u16],
     offsets: &[u16],
     targets: &[u16],
+    kept: &[u64],
     v: usize,
     path: &mut [u16],
     cycle: &mut [u16],
     work: &mut [u64],
 ) -> Lengths
     requires { ⌜ Runnable (tablesOf (now owners) (now priorities) (now offsets) (now targets)) v (now path) (now cycle)
-        (now work) ⌝ }
+        (now work) × (now kept ≡ freshCount (now priorities)) ⌝ }
     ensures { λ r.
         ⌜ Ran (tablesOf (now (owners .entry)) (now (priorities .entry)) (now (offsets .entry)) (now (targets .entry))) v
         (now (work .entry)) (now (work .exit)) (now (path .entry)) (now (path .exit))
@@ -36,6 +39,7 @@ fn run(
         priorities,
         offsets,
         targets,
+        kept,
         &targets[0..0],
         owner as u16,
         work,
@@ -52,12 +56,15 @@ pub fn show_loop(
     priorities: &[u16],
     offsets: &[u16],
     targets: &[u16],
+    kept: &[u64],
     vertex: u64,
     path: &mut [u16],
     cycle: &mut [u16],
     work: &mut [u64],
     path_length: &mut u64,
 ) -> Answer
+    requires { ⌜ Accepted (tablesOf (now owners) (now priorities) (now offsets) (now targets)) ×
+        (now kept ≡ freshCount (now priorities)) ⌝ }
     ensures { λ r.
         ⌜ ShowsLoop
         (tablesOf (now (owners .entry)) (now (priorities .entry)) (now (offsets .entry)) (now (targets .entry)))
@@ -67,26 +74,19 @@ pub fn show_loop(
         (said r) ⌝ }
 {
     *path_length = 0;
-    let r = check_all(
-        owners,
-        priorities,
-        offsets,
-        targets,
-        vertex,
-        path.len(),
-        cycle.len(),
-        work.len(),
-    );
+    let m = targets.len();
+    let r = check_lent(owners, m, vertex, path.len(), cycle.len(), work.len());
     if r.number() != 0 {
         return r;
     }
-    let w = parity_game::work_words(owners.len(), targets.len());
+    let w = parity_game::work_words(owners.len(), m);
     let v = vertex as usize;
     let found = run(
         owners,
         priorities,
         offsets,
         targets,
+        kept,
         v,
         path,
         cycle,
@@ -95,6 +95,7 @@ pub fn show_loop(
     if found.path == 0 {
         return Answer::AtVertex(NO_LOOP, VertexIndex(v));
     }
+    let both = found.path as u64 + found.cycle as u64;
     *path_length = found.path as u64;
-    Answer::Answered(found.path as u64 + found.cycle as u64)
+    Answer::Answered(both)
 }

@@ -4,6 +4,7 @@ use breadth_first::spread_round;
 use loop_search::seek;
 ghost use mathlib.Core.Path.{_≡_};
 ghost use lib.ListN.{length};
+ghost use Rattle.rules.specs.Record.{freshCount};
 ghost use Rattle.show_loop.specs.Writing.{Writable, Wrote, Goable, Went};
 
 // How many vertices the path has, and the cycle; 0 where there is none.
@@ -49,6 +50,7 @@ pub fn write_run(
     priorities: &[u16],
     offsets: &[u16],
     targets: &[u16],
+    kept: &[u64],
     entries: &[u16],
     parity: u16,
     work: &mut [u64],
@@ -57,13 +59,13 @@ pub fn write_run(
     cycle: &mut [u16],
 ) -> Lengths
     requires { ⌜ Goable (now priorities) (now offsets) (now targets) (now entries) parity (now work) v (now path)
-        (now cycle) ⌝ }
+        (now cycle) × (now kept ≡ freshCount (now priorities)) ⌝ }
     ensures { λ r.
         ⌜ Went (now (priorities .entry)) (now (offsets .entry)) (now (targets .entry)) (now (entries .entry)) parity v
         (now (work .entry)) (now (work .exit)) (now (path .entry)) (now (path .exit))
         (now (cycle .entry)) (now (cycle .exit)) (r .path) (r .cycle) ⌝ }
 {
-    let p = seek(priorities, offsets, targets, entries, parity, work, v);
+    let p = seek(priorities, offsets, targets, kept, entries, parity, work, v);
     if 255 < p {
         return Lengths { path: 0, cycle: 0 };
     }

@@ -13,9 +13,27 @@ fn print_set(n: usize, set: u64) {
 fn report(name: &[u8], owners: &[u8], priorities: &[u16], offsets: &[u16], targets: &[u16]) {
     let mut set = [0u64; 1];
     let mut work = [0u64; 344];
-    solitaire_game::solve_solitaire_game(owners, priorities, offsets, targets, &mut set, &mut work);
+    let mut kept = [0u64; 258];
+    let mut place = 0;
+    let mut count = 0;
+    let n = owners.len();
+    let m = targets.len();
+    record::fresh_count(n, m, owners, priorities, offsets, targets, &mut kept);
+    reckonbough_solitaire::solitaire::reckonbough_solitaire(
+        n as u64,
+        m as u64,
+        owners,
+        priorities,
+        offsets,
+        targets,
+        &kept,
+        &mut set,
+        &mut work,
+        &mut place,
+        &mut count,
+    );
     io::write_all(STDOUT_FILENO, name);
-    print_set(owners.len(), set[0]);
+    print_set(n, set[0]);
     io::write_all(STDOUT_FILENO, b"\n");
 }
 

@@ -8,7 +8,7 @@ use borrow.Author.Tests.{ne-eqb, eq-eqb}
 use lib.Dec.{eqb}
 use lib.ListN.{length, getD}
 use Rattle.rules.specs.Counting.{Set, some}
-use Rattle.rules.specs.Outcome.{Verdict, none, outcome, answered, _then_}
+use Rattle.rules.specs.Outcome.{Outcome, Verdict, none, outcome, answered, _then_}
 use Rattle.rules.specs.Solitaire.{LentSet, solitaireChecks, check11}
 use Rattle.rules.specs.Tables.{Tables, vertices, edgesIn, words, workWords, tableChecks, Accepted, check9, check10}
 use Rattle.theory.specs.Basics.{some-intro, false-some}
@@ -16,20 +16,25 @@ use Rattle.parity_game.specs.Laws.{then-none, check9-set-none, check10-none}
 use Rattle.parity_game.specs.Laws.{Numbered, numbered-then, numbered-given, numbered-tables, numbered-check9, numbered-check10}
 use Rattle.parity_game.specs.Said.{refusal}
 
+-- what is left past 9
+abbrev pub after9 : List ℕ → ℕ → ℕ → Verdict
+after9 owners m work = check10 (length owners) m work then check11 (length owners) owners
+
+-- 9 to 11
+abbrev pub lentBy : List ℕ → ℕ → ℕ → ℕ → Verdict
+lentBy owners m set work = check9 (length owners) (set ∷ []) [] then after9 owners m work
+
 -- 1 to 11
 abbrev pub checksBy : Tables → ℕ → ℕ → Verdict
-checksBy t set work =
-    tableChecks t then
-    check9 (vertices t) (set ∷ []) [] then
-    check10 (vertices t) (edgesIn t) work then
-    check11 (vertices t) (t .owners)
+checksBy t set work = tableChecks t then lentBy (t .owners) (edgesIn t) set work
 
--- what is left past the tables, past 9
-abbrev pub after9 : Tables → ℕ → Verdict
-after9 t work = check10 (vertices t) (edgesIn t) work then check11 (vertices t) (t .owners)
-
-abbrev pub after8 : Tables → ℕ → ℕ → Verdict
-after8 t set work = check9 (vertices t) (set ∷ []) [] then after9 t work
+-- of accepted tables 9 to 11 are all that is left of them
+pub past-tables :
+    (t : Tables) (set work : ℕ) (o : Outcome) →
+    Accepted t →
+    outcome (lentBy (t .owners) (edgesIn t) set work) o ≡ outcome (checksBy t set work) o
+unfolding Accepted
+past-tables t set work o accepted = rw accepted
 
 pub numbered-check11 : (n : ℕ) (owners : List ℕ) → Numbered (check11 n owners)
 unfolding check11
@@ -51,8 +56,8 @@ pub record Passed (t : Tables) (set work : ℕ) : Type 0 where
 pub checks-passed : (t : Tables) (set work : ℕ) → checksBy t set work ≡ none → Passed t set work
 unfolding Accepted
 checks-passed t set work e =
-    let one = then-none (tableChecks t) (after8 t set work) e in
-    let two = then-none (check9 (vertices t) (set ∷ []) []) (after9 t work) (one .1) in
+    let one = then-none (tableChecks t) (lentBy (t .owners) (edgesIn t) set work) e in
+    let two = then-none (check9 (vertices t) (set ∷ []) []) (after9 (t .owners) (edgesIn t) work) (one .1) in
     let three = then-none (check10 (vertices t) (edgesIn t) work) (check11 (vertices t) (t .owners)) (two .1) in
     record {
       accepted = one .0;

@@ -29,6 +29,10 @@ use Rattle.solitaire_game.specs.Marking.{Markable, Marked}
 use Rattle.solitaire_game.specs.Gathering.{Placeable, Placed}
 
 -- what `run` asks for: accepted tables of one owner, a set of the right size, and W words
+-- what is lent to write in
+abbrev pub lentOf : List ℕ → List ℕ → LentSet
+lentOf set work = record { set = set; work = work }
+
 pub record Runnable (t : Tables) (set work : List ℕ) : Type 0 where
   pub accepted : Accepted t
   pub one-owner : check11 (vertices t) (t .owners) ≡ none

@@ -1,13 +1,13 @@
-// The refusals 1 to 11, each its own function. None writes anything.
+// The refusals 9 to 11, each its own function. None writes anything.
 use parity_game::Answer;
 use parity_game::OWNERS_DIFFER;
 ghost use mathlib.Core.Path.{_≡_};
+ghost use Prim.Native.Nat.{_≤_};
 ghost use lib.ListN.{length, getD};
 ghost use Rattle.rules.specs.Outcome.{outcome, answered};
 ghost use Rattle.rules.specs.Solitaire.{check11};
-ghost use Rattle.rules.specs.Tables.{tablesOf};
 ghost use Rattle.parity_game.specs.Said.{said};
-ghost use Rattle.solitaire_game.specs.Checks.{checksBy};
+ghost use Rattle.solitaire_game.specs.Checks.{lentBy};
 
 // The owner of the first vertex, and so of all; Even where there is none.
 pub fn sole_owner(owners: &[u8]) -> u8
@@ -32,32 +32,17 @@ pub fn check_owners_equal(owners: &[u8]) -> Answer
     Answer::Answered(0)
 }
 
-// 1 to 11, by the lengths of what is lent.
-pub fn check_all(
-    owners: &[u8],
-    priorities: &[u16],
-    offsets: &[u16],
-    targets: &[u16],
-    set: usize,
-    work: usize,
-) -> Answer
-    ensures { λ r.
-        ⌜ said r
-        ≡ outcome
-        (checksBy (tablesOf (now (owners .entry)) (now (priorities .entry)) (now (offsets .entry))
-        (now (targets .entry))) set work)
-        (answered 0) ⌝ }
+// 9 to 11, by the lengths of what is lent, for accepted tables with m edges.
+pub fn check_lent(owners: &[u8], m: usize, set: usize, work: usize) -> Answer
+    requires { ⌜ (length (now owners) ≤ 4096) × (m ≤ 16384) ⌝ }
+    ensures { λ r. ⌜ said r ≡ outcome (lentBy (now (owners .entry)) m set work) (answered 0) ⌝ }
 {
     let n = owners.len();
-    let r = parity_game::check_tables(owners, priorities, offsets, targets);
-    if r.number() != 0 {
-        return r;
-    }
     let r = parity_game::check_set(n, set);
     if r.number() != 0 {
         return r;
     }
-    let r = parity_game::check_work(n, targets.len(), work);
+    let r = parity_game::check_work(n, m, work);
     if r.number() != 0 {
         return r;
     }

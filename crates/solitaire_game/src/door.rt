@@ -1,14 +1,15 @@
-// The public solver, for every input: it checks all that it takes, works in the first W words of the work area, and
+// The solver of accepted tables: it checks all else that it takes, works in the first W words of the work area, and
 // leaves them 0.
-use crate::checks::check_all;
+use crate::checks::check_lent;
 use crate::checks::sole_owner;
 use crate::marking::mark_good;
 use crate::marking::place;
 use parity_game::Answer;
 ghost use mathlib.Core.Path.{_≡_};
 ghost use lib.ListN.{length, replicate};
+ghost use Rattle.rules.specs.Record.{freshCount};
 ghost use Rattle.rules.specs.Solitaire.{SolvesSolitaire, solitaire, soleOwner};
-ghost use Rattle.rules.specs.Tables.{gameOf, vertices, tablesOf};
+ghost use Rattle.rules.specs.Tables.{gameOf, vertices, tablesOf, Accepted};
 ghost use Rattle.rules.specs.Words.{Holds};
 ghost use Rattle.parity_game.specs.Said.{said};
 ghost use Rattle.solitaire_game.specs.Running.{Runnable};
@@ -19,10 +20,12 @@ fn run(
     priorities: &[u16],
     offsets: &[u16],
     targets: &[u16],
+    kept: &[u64],
     set: &mut [u64],
     work: &mut [u64],
 )
-    requires { ⌜ Runnable (tablesOf (now owners) (now priorities) (now offsets) (now targets)) (now set) (now work) ⌝ }
+    requires { ⌜ Runnable (tablesOf (now owners) (now priorities) (now offsets) (now targets)) (now set) (now work) ×
+        (now kept ≡ freshCount (now priorities)) ⌝ }
     ensures { λ _.
         ⌜ (let t =
         tablesOf (now (owners .entry)) (now (priorities .entry)) (now (offsets .entry)) (now (targets .entry)) in
@@ -34,7 +37,7 @@ fn run(
     let owner = sole_owner(owners);
     let row = n + 1 + targets.len() + n + n + n + n + n + n;
     let base = row + n + 2;
-    mark_good(owners, priorities, offsets, targets, owner, work, row);
+    mark_good(owners, priorities, offsets, targets, kept, owner, work, row);
     place(work, n, s, row, base);
     attractor::attract(owners, offsets, targets, owner, work, base, base + s);
     sets::copy_from(set, &work[base + s..base + s + s]);
@@ -46,9 +49,12 @@ pub fn solve_solitaire_game(
     priorities: &[u16],
     offsets: &[u16],
     targets: &[u16],
+    kept: &[u64],
     set: &mut [u64],
     work: &mut [u64],
 ) -> Answer
+    requires { ⌜ Accepted (tablesOf (now owners) (now priorities) (now offsets) (now targets)) ×
+        (now kept ≡ freshCount (now priorities)) ⌝ }
     ensures { λ r.
         ⌜ SolvesSolitaire
         (tablesOf (now (owners .entry)) (now (priorities .entry)) (now (offsets .entry)) (now (targets .entry)))
@@ -56,11 +62,20 @@ pub fn solve_solitaire_game(
         (record { set = now (set .exit); work = now (work .exit) })
         (said r) ⌝ }
 {
-    let r = check_all(owners, priorities, offsets, targets, set.len(), work.len());
+    let m = targets.len();
+    let r = check_lent(owners, m, set.len(), work.len());
     if r.number() != 0 {
         return r;
     }
-    let w = parity_game::work_words(owners.len(), targets.len());
-    run(owners, priorities, offsets, targets, set, &mut work[0..w]);
+    let w = parity_game::work_words(owners.len(), m);
+    run(
+        owners,
+        priorities,
+        offsets,
+        targets,
+        kept,
+        set,
+        &mut work[0..w],
+    );
     Answer::Answered(0)
 }

@@ -1,5 +1,7 @@
 // The good parts of the owner's parity: first a row of marked words, then their set beside the set of all vertices.
+ghost use mathlib.Core.Path.{_≡_};
 ghost use Rattle.rules.specs.Game.{playerOf};
+ghost use Rattle.rules.specs.Record.{freshCount};
 ghost use Rattle.rules.specs.Tables.{tablesOf};
 ghost use Rattle.solitaire_game.specs.Marking.{Markable, Marked};
 ghost use Rattle.solitaire_game.specs.Gathering.{Gatherable, Gathered, Placeable, Placed};
@@ -11,12 +13,13 @@ pub fn mark_good(
     priorities: &[u16],
     offsets: &[u16],
     targets: &[u16],
+    kept: &[u64],
     owner: u8,
     work: &mut [u64],
     row: usize,
 )
     requires { ⌜ Markable (tablesOf (now owners) (now priorities) (now offsets) (now targets)) owner (now work)
-        row ⌝ }
+        row × (now kept ≡ freshCount (now priorities)) ⌝ }
     ensures { λ _.
         ⌜ Marked
         (tablesOf (now (owners .entry)) (now (priorities .entry)) (now (offsets .entry)) (now (targets .entry)))
@@ -29,6 +32,7 @@ pub fn mark_good(
         priorities,
         offsets,
         targets,
+        kept,
         &targets[0..0],
         owner as u16,
         work,

@@ -10,6 +10,72 @@ fn print_winners(n: usize, odd: u64) {
     }
 }
 
+// The calls that Zielonka needs; the word of Odd's set is written.
+fn calls(
+    owners: &[u8],
+    priorities: &[u16],
+    offsets: &[u16],
+    targets: &[u16],
+    kept: &[u64],
+    odd: &mut [u64],
+    strategy: &mut [u16],
+) -> u64 {
+    let mut even = [0u64; 1];
+    let mut work = [0u64; 344];
+    let mut place = 0;
+    let mut count = 0;
+    reckonbough_solvers::recursion::reckonbough_zielonka(
+        owners.len() as u64,
+        targets.len() as u64,
+        owners,
+        priorities,
+        offsets,
+        targets,
+        kept,
+        1000000,
+        &mut even,
+        odd,
+        strategy,
+        &mut work,
+        &mut place,
+        &mut count,
+    );
+    count
+}
+
+// The rounds that priority promotion needs.
+fn rounds(
+    owners: &[u8],
+    priorities: &[u16],
+    offsets: &[u16],
+    targets: &[u16],
+    kept: &[u64],
+    odd: &mut [u64],
+    strategy: &mut [u16],
+) -> u64 {
+    let mut even = [0u64; 1];
+    let mut work = [0u64; 344];
+    let mut place = 0;
+    let mut count = 0;
+    reckonbough_solvers::promotion::reckonbough_priority_promotion(
+        owners.len() as u64,
+        targets.len() as u64,
+        owners,
+        priorities,
+        offsets,
+        targets,
+        kept,
+        1000000,
+        &mut even,
+        odd,
+        strategy,
+        &mut work,
+        &mut place,
+        &mut count,
+    );
+    count
+}
+
 fn report(
     name: &[u8],
     owners: &[u8],
@@ -18,37 +84,42 @@ fn report(
     targets: &[u16],
     strategy: &mut [u16],
 ) {
-    let mut even = [0u64; 1];
+    let mut kept = [0u64; 258];
     let mut odd = [0u64; 1];
-    let mut work = [0u64; 344];
-    let r = zielonka::solve_zielonka(
+    let n = owners.len();
+    record::fresh_count(
+        n,
+        targets.len(),
         owners,
         priorities,
         offsets,
         targets,
-        1000000,
-        &mut even,
+        &mut kept,
+    );
+    let made = calls(
+        owners,
+        priorities,
+        offsets,
+        targets,
+        &kept,
         &mut odd,
         strategy,
-        &mut work,
     );
     io::write_all(STDOUT_FILENO, name);
-    print_winners(owners.len(), odd[0]);
+    print_winners(n, odd[0]);
     io::write_all(STDOUT_FILENO, b" ");
-    io::print_decimal(STDOUT_FILENO, r.count());
-    let r = priority_promotion::solve_priority_promotion(
+    io::print_decimal(STDOUT_FILENO, made);
+    let made = rounds(
         owners,
         priorities,
         offsets,
         targets,
-        1000000,
-        &mut even,
+        &kept,
         &mut odd,
         strategy,
-        &mut work,
     );
     io::write_all(STDOUT_FILENO, b" ");
-    io::print_decimal(STDOUT_FILENO, r.count());
+    io::print_decimal(STDOUT_FILENO, made);
     io::write_all(STDOUT_FILENO, b"\n");
 }
 

@@ -6,16 +6,18 @@ use mathlib.Core.Path.{_≡_, refl, sym, ap, ap₂, subst, _∙_}
 use Prim.Native.Nat.{ℕ, _+_, _-_, _*_, _≤_, _<_}
 use native.Mathlib.Nat.{mul-le-mul-left, mul-add, mul-one}
 use native.Mathlib.Omega.{arith}
-use borrow.Author.Tests.{not-true, not-false}
+use native.Mathlib.Decide.{ℕ-discrete}
+use borrow.Author.Tests.{eq-eqb, not-true, not-false}
 use lib.ListN.{length, getD, take, drop, length-take}
-use Rattle.rules.specs.Counting.{some, count, greatest}
+use Rattle.rules.specs.Attractor.{attractor}
+use Rattle.rules.specs.Counting.{Set, some, count, greatest}
 use Rattle.rules.specs.Game.{Player, opponent, parity}
 use Rattle.rules.specs.Tables.{Tables, gameOf, vertices, edgesIn, words}
 use Rattle.rules.specs.Words.{setOf}
 use Rattle.rules.specs.Zielonka.{withPriority}
 use Rattle.sets.specs.After.{Cleared}
 use Rattle.sets.specs.Laws.{no-member}
-use Rattle.theory.specs.Basics.{clash, not-true-is-false, some-elim, some-false, count-pos}
+use Rattle.theory.specs.Basics.{clash, and-intro, without-right, not-true-is-false, some-elim, some-false, count-pos}
 use Rattle.theory.specs.Run.{Top, highest-top, cut-inside}
 use Rattle.theory.specs.RunSound.{run-sound}
 use Rattle.theory.specs.Tables.{accepted-sound}
@@ -23,7 +25,8 @@ use Rattle.area.specs.Area.{free, setAt, wordsAt}
 use Rattle.area.specs.Lent.{words-few}
 use Rattle.area.specs.SetsAt.{set-cleared, set-inside}
 use Rattle.area.specs.Walking.{lent-part}
-use Rattle.zielonka_level.specs.Parts.{highestOf, Searchable}
+use Rattle.zielonka_level.specs.Parts.{highestOf, SearchableTo}
+use Rattle.zielonka.specs.Ending.{CalledUnder}
 use Rattle.zielonka_level.specs.Level.{nextLevel, wonPlace, onLevel, wonAt, Called, Stays, Done, Over}
 use Rattle.zielonka_level.specs.Steps.{CutBy, AllAt, JoinedAt, stays-on, stays-next, level-stays, cut-over}
 use Rattle.zielonka_level.specs.Steps.{nested-called, first-less, cut-less}
@@ -55,15 +58,22 @@ module _ {t : Tables} {base : ℕ} {w₀ : List ℕ} (called : Called t base w�
   lent = lent-part (vertices t) s base w₀ size
 
   -- V can be searched
-  pub highest-given : Searchable (length (t .priorities)) (take ((base + s) - base) (drop base w₀))
-  highest-given =
+  pub highest-given :
+      {top : ℕ} →
+      ((v : ℕ) → onLevel t base w₀ v ≡ true → getD (t .priorities) v 0 ≤ top) →
+      SearchableTo (t .priorities) top (take ((base + s) - base) (drop base w₀))
+  highest-given under =
       let sound = accepted-sound t (called .accepted) in
       let long = sound .priority-each in
       let few = words-few (vertices t) (sound .few-vertices) in
       rw lent
       record {
-        few = omega (arith, length-take (words (vertices t)) (drop base w₀));
-        below = λ v m. omega (arith, called .below v m);
+        searchable =
+            record {
+              few = omega (arith, length-take (words (vertices t)) (drop base w₀));
+              below = λ v m. omega (arith, called .below v m);
+            };
+        under = under;
       }
 
   -- V is empty
@@ -169,12 +179,34 @@ module _ {t : Tables} {s base p : ℕ} {w₀ w₁ : List ℕ} (b : Begun t s bas
   pub begun-less : count (vertices t) (onLevel t (base + 4 * s) w₁) < count (vertices t) (onLevel t base w₀)
   begun-less = rw (b .ready .size) (first-less (b .called) (b .top) (b .cut))
 
-  -- and has what it asks for
-  pub begun-called : Called t (base + 4 * s) w₁
+  -- no priority there is above p − 1: every vertex of priority p was drawn
+  first-under : (v : ℕ) → onLevel t (nextLevel (words (vertices t)) base) w₁ v ≡ true → getD (t .priorities) v 0 ≤ p - 1
+  unfolding gameOf
+  first-under v m = go (ℕ-discrete (getD (t .priorities) v 0) p)
+    where
+      inside : onLevel t base w₀ v ≡ true
+      inside = cut-inside (b .cut .cut) v m
+
+      drawn : Set
+      drawn = attractor (gameOf t) (parity p) (onLevel t base w₀) (withPriority (gameOf t) (onLevel t base w₀) p)
+
+      go : Dec (getD (t .priorities) v 0 ≡ p) → getD (t .priorities) v 0 ≤ p - 1
+      go (yes e) =
+          absurd
+          (clash (b .cut .cut .drawn .closed .target v (and-intro inside (eq-eqb (getD (t .priorities) v 0) p e)))
+          (without-right (onLevel t base w₀) drawn v (sym (b .cut .cut .left v) ∙ m)))
+      go (no d) = omega (arith, d, b .top .most v inside)
+
+  -- and it has what it asks for
+  pub begun-called : CalledUnder t (base + 4 * s) (p - 1) w₁
   begun-called =
       rw (b .ready .size)
-      (nested-called (b .called) (record { long = refl; table = λ i l. refl; lower = λ i l h. refl }) (b .cut)
-      (first-less (b .called) (b .top) (b .cut)))
+      (record {
+        called =
+            nested-called (b .called) (record { long = refl; table = λ i l. refl; lower = λ i l h. refl }) (b .cut)
+            (first-less (b .called) (b .top) (b .cut));
+        under = first-under;
+      })
 
   pub begun-came :
       {calls budget made : ℕ} {w₂ : List ℕ} →
@@ -264,11 +296,19 @@ module _ {t : Tables} {s base p calls budget made : ℕ} {w₀ w₁ w₂ w₃ : 
     pub lost-less : count (vertices t) (onLevel t (base + 4 * s) w₃) < count (vertices t) (onLevel t base w₀)
     lost-less = rw (begun .ready .size) (cut-less (begun .called) (l .cut) (l .vertex) (l .lost))
 
-    pub lost-called : Called t (base + 4 * s) w₃
+    second-under : (v : ℕ) → onLevel t (nextLevel (words (vertices t)) base) w₃ v ≡ true → getD (t .priorities) v 0 ≤ p
+    unfolding gameOf
+    second-under v m = begun .top .most v (cut-inside (l .cut .cut) v m)
+
+    pub lost-called : CalledUnder t (base + 4 * s) p w₃
     lost-called =
         rw (begun .ready .size)
-        (nested-called (begun .called) (came-stays (l .came)) (l .cut)
-        (cut-less (begun .called) (l .cut) (l .vertex) (l .lost)))
+        (record {
+          called =
+              nested-called (begun .called) (came-stays (l .came)) (l .cut)
+              (cut-less (begun .called) (l .cut) (l .vertex) (l .lost));
+          under = second-under;
+        })
 
     pub lost-over : Over t (base + 4 * s) made budget w₃ → Over t base calls budget w₀
     lost-over over =

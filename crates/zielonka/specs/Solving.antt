@@ -21,6 +21,7 @@ use Rattle.theory.specs.Zielonka.{zielonka-entries-win}
 use Rattle.area.specs.Area.{free, setAt}
 use Rattle.zielonka_level.specs.Level.{wonPlace, onLevel, wonAt, entriesOf, Called, Done, Over}
 use Rattle.zielonka.specs.Calling.{level-fits}
+use Rattle.zielonka.specs.Ending.{CalledUnder, Under}
 use Rattle.attractor.specs.Attracted.{edges-sound}
 use Rattle.solver.specs.Preparing.{Preparable, Prepared}
 use Rattle.solver.specs.Outputs.{wonFrom, Found}
@@ -66,9 +67,9 @@ module _ (t : Tables) (ok : Accepted t) (w₀ : List ℕ)
       full v = prepared .full v
 
       -- what the recursion asks for
-      pub run-called : Called t base w
+      called : Called t base w
       unfolding gameOf
-      run-called =
+      called =
           record {
             accepted = ok;
             table = prepared .listed;
@@ -81,6 +82,9 @@ module _ (t : Tables) (ok : Accepted t) (w₀ : List ℕ)
             total =
                 subst (λ (S : Set). TotalIn (gameOf t) S) (sym (fun-ext full)) (everywhere-total (gameOf t) (accepted-total t ok));
           }
+
+      pub run-called : {top : ℕ} → Under t top → CalledUnder t base top w
+      run-called under = record { called = called; under = λ v m. under v (called .below v m) }
 
       -- more calls are needed than the budget
       pub run-over-budget : {budget : ℕ} → Over t base 0 budget w → budget < zielonka (gameOf t) .calls
@@ -102,7 +106,7 @@ module _ (t : Tables) (ok : Accepted t) (w₀ : List ℕ)
 
         -- all four sets of the level stand in the work area
         pub run-fits : base + 4 * words (vertices t) ≤ length w₄
-        run-fits = omega (arith, level-fits run-called refl, done .stays .long)
+        run-fits = omega (arith, level-fits called refl, done .stays .long)
 
         won-place :
             {s : ℕ} →

@@ -1,5 +1,5 @@
-// The public solver, for every input: it checks all that it takes, works in the first W words of the work area,
-// writes only when it answers, and leaves those words 0.
+// The solver, on accepted tables and their kept numbers: it checks all that it is lent, works in the first W words of
+// the work area, writes only when it answers, and leaves those words 0.
 use crate::recursion::zielonka_rec;
 use parity_game::Answer;
 use solver::Ran;
@@ -9,14 +9,17 @@ ghost use Rattle.rules.specs.Solver.{Solves};
 ghost use Rattle.rules.specs.Tables.{gameOf, tablesOf};
 ghost use Rattle.rules.specs.Zielonka.{zielonka};
 ghost use Rattle.parity_game.specs.Said.{said};
+ghost use Rattle.kept_numbers.specs.Reading.{Counted};
 ghost use Rattle.solver.specs.Running.{Runnable, Runs};
+ghost use Rattle.zielonka.specs.Ending.{Under};
 
-// The work itself, in W words, which are left 0.
+// The work itself, in W words, which are left 0. No priority is above `top`.
 fn run(
     owners: &[u8],
     priorities: &[u16],
     offsets: &[u16],
     targets: &[u16],
+    top: usize,
     budget: u64,
     even: &mut [u64],
     odd: &mut [u64],
@@ -24,7 +27,8 @@ fn run(
     work: &mut [u64],
 ) -> Ran
     requires { ⌜ Runnable (tablesOf (now owners) (now priorities) (now offsets) (now targets))
-        (now even) (now odd) (now strategy) (now work) ⌝ }
+        (now even) (now odd) (now strategy) (now work) ×
+        Under (tablesOf (now owners) (now priorities) (now offsets) (now targets)) top ⌝ }
     ensures { λ r.
         ⌜ (let t =
         tablesOf (now (owners .entry)) (now (priorities .entry)) (now (offsets .entry)) (now (targets .entry)) in
@@ -39,7 +43,17 @@ fn run(
     let entries = n + 1 + targets.len() + n + n;
     let base = entries + n + 2 * (s + 1);
     solver::prepare(offsets, targets, n, s, work, base);
-    let ran = zielonka_rec(owners, priorities, offsets, targets, work, base, 0, budget);
+    let ran = zielonka_rec(
+        owners,
+        priorities,
+        offsets,
+        targets,
+        work,
+        base,
+        top,
+        0,
+        budget,
+    );
     let Ran::Needed(calls) = ran else {
         sets::clear(work, 0, work.len());
         return Ran::OverBudget;
@@ -54,12 +68,14 @@ pub fn solve_zielonka(
     priorities: &[u16],
     offsets: &[u16],
     targets: &[u16],
+    kept: &[u64],
     budget: u64,
     even: &mut [u64],
     odd: &mut [u64],
     strategy: &mut [u16],
     work: &mut [u64],
 ) -> Answer
+    requires { ⌜ Counted (tablesOf (now owners) (now priorities) (now offsets) (now targets)) (now kept) ⌝ }
     ensures { λ r.
         ⌜ (let t =
         tablesOf (now (owners .entry)) (now (priorities .entry)) (now (offsets .entry)) (now (targets .entry)) in
@@ -78,11 +94,11 @@ pub fn solve_zielonka(
         })
         (said r)) ⌝ }
 {
-    let r = lent_checks::checks::check_all(
-        owners,
-        priorities,
-        offsets,
-        targets,
+    let n = owners.len();
+    let m = targets.len();
+    let r = lent_checks::checks::check_lent(
+        n,
+        m,
         even.len(),
         odd.len(),
         strategy.len(),
@@ -91,12 +107,14 @@ pub fn solve_zielonka(
     if r.number() != 0 {
         return r;
     }
-    let w = parity_game::work_words(owners.len(), targets.len());
+    let w = parity_game::work_words(n, m);
+    let top = kept[257] as usize;
     let ran = run(
         owners,
         priorities,
         offsets,
         targets,
+        top,
         budget,
         even,
         odd,

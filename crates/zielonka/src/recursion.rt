@@ -5,11 +5,12 @@ use zielonka_level::attract_lost;
 use zielonka_level::get_highest_prio;
 use zielonka_level::join;
 use zielonka_level::lost_nothing;
+use zielonka_level::one_less;
 use zielonka_level::win_everything;
-ghost use Rattle.zielonka_level.specs.Level.{Called};
-ghost use Rattle.zielonka.specs.Ending.{Ends};
+ghost use Rattle.zielonka.specs.Ending.{CalledUnder, Ends};
 ghost use Rattle.rules.specs.Tables.{tablesOf};
 
+// No priority in V is above `top`; at most `cap` calls are made in all.
 pub fn zielonka_rec(
     owners: &[u8],
     priorities: &[u16],
@@ -17,16 +18,18 @@ pub fn zielonka_rec(
     targets: &[u16],
     work: &mut [u64],
     base: usize,
+    top: usize,
     calls: u64,
-    budget: u64,
+    cap: u64,
 ) -> Ran
-    requires { ⌜ Called (tablesOf (now owners) (now priorities) (now offsets) (now targets)) base (now work) ⌝ }
+    requires { ⌜ CalledUnder (tablesOf (now owners) (now priorities) (now offsets) (now targets)) base top
+        (now work) ⌝ }
     ensures { λ r.
         ⌜ Ends (tablesOf (now (owners .entry)) (now (priorities .entry)) (now (offsets .entry))
-        (now (targets .entry))) base calls budget
+        (now (targets .entry))) base calls cap
         (now (work .entry)) (now (work .exit)) r ⌝ }
 {
-    if budget <= calls {
+    if cap <= calls {
         return Ran::OverBudget;
     }
     let s = parity_game::set_words(owners.len());
@@ -34,7 +37,7 @@ pub fn zielonka_rec(
         sets::clear(work, base + 2 * s, 2 * s);
         return Ran::Needed(calls + 1);
     }
-    let p = get_highest_prio(priorities, &work[base..base + s]).0;
+    let p = get_highest_prio(priorities, &work[base..base + s], top).0;
     attract_highest(owners, priorities, offsets, targets, p, s, work, base);
     let up = base + 4 * s;
     let first = zielonka_rec(
@@ -44,8 +47,9 @@ pub fn zielonka_rec(
         targets,
         work,
         up,
+        one_less(p),
         calls + 1,
-        budget,
+        cap,
     );
     let Ran::Needed(made) = first else {
         return Ran::OverBudget;
@@ -55,7 +59,7 @@ pub fn zielonka_rec(
         return Ran::Needed(made);
     }
     attract_lost(owners, offsets, targets, p, s, work, base);
-    let second = zielonka_rec(owners, priorities, offsets, targets, work, up, made, budget);
+    let second = zielonka_rec(owners, priorities, offsets, targets, work, up, p, made, cap);
     let Ran::Needed(all) = second else {
         return Ran::OverBudget;
     };

@@ -14,7 +14,7 @@ use Rattle.walk.specs.MemberLaws.{times-members}
 use Rattle.walk.specs.Walk.{members, left}
 use Rattle.walk.specs.declared.members.Members.{Members}
 use Rattle.area.specs.Walking.{times-gone, Walking, walking-start, walking-next, next-member, next-other}
-use Rattle.zielonka_level.specs.Parts.{highestOf, Searchable}
+use Rattle.zielonka_level.specs.Parts.{highestOf, Searchable, SearchableTo}
 
 -- no member that was passed has a priority above `highest`, and `highest` is not above that of V
 pub record SearchedTo (priorities set : List ℕ) (walk : Members) (highest : ℕ) : Type 0 where
@@ -79,3 +79,18 @@ module _ {priorities set : List ℕ} (given : Searchable (length priorities) set
               getD priorities u 0 ≤ higher
           bounded u m gone (yes e) = omega (arith, is, ap (λ (x : ℕ). getD priorities x 0) e)
           bounded u m gone (no d) = omega (arith, is, c .passed u m (next-other rest (c .walking) (moved .0) u d ∙ gone))
+
+-- a member that has the bound has the highest priority
+pub searched-top :
+    {priorities set : List ℕ} {top : ℕ} →
+    SearchableTo priorities top set →
+    (v : ℕ) →
+    setOf set v ≡ true →
+    getD priorities v 0 ≡ top →
+    top ≡ highestOf priorities (setOf set)
+searched-top {priorities} {set} {top} given v member has =
+    omega (
+      arith,
+      greatest-bounds (length priorities) (setOf set) (λ u. getD priorities u 0) v (given .searchable .below v member) member,
+      greatest-le (length priorities) (setOf set) (λ u. getD priorities u 0) top (λ u l m. given .under u m),
+    )

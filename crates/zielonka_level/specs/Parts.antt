@@ -21,6 +21,11 @@ pub record Searchable (n : ℕ) (set : List ℕ) : Type 0 where
   pub few : length set ≤ 64
   pub below : (v : ℕ) → setOf set v ≡ true → v < n
 
+-- and no vertex of it has a priority above `top`
+pub record SearchableTo (priorities : List ℕ) (top : ℕ) (set : List ℕ) : Type 0 where
+  pub searchable : Searchable (length priorities) set
+  pub under : (v : ℕ) → setOf set v ≡ true → getD priorities v 0 ≤ top
+
 -- V stands at `within`, has no vertex at n or above, and the set at `into` is apart from it and empty
 pub record Collects (n s within into : ℕ) (work : List ℕ) : Type 0 where
   pub size : s ≡ words n

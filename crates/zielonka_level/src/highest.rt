@@ -4,15 +4,24 @@ use successors::inside::lowest_inside;
 use walk::Members;
 use walk::Next;
 ghost use mathlib.Core.Path.{_≡_};
+ghost use Prim.Native.Nat.{_-_};
 ghost use lib.ListN.{length};
 ghost use Rattle.rules.specs.Words.{setOf};
-ghost use Rattle.zielonka_level.specs.Parts.{highestOf, Searchable, Collects, Collected};
+ghost use Rattle.zielonka_level.specs.Parts.{highestOf, SearchableTo, Collects, Collected};
 ghost use Rattle.zielonka_level.specs.Extending.{Extends, Extended};
 ghost use Rattle.rules.specs.Tables.{tablesOf};
 
-// The highest priority in V, its members found by words.
-pub fn get_highest_prio(priorities: &[u16], set: &[u64]) -> Priority
-    requires { ⌜ Searchable (length (now priorities)) (now set) ⌝ }
+// The number before p, or 0.
+pub fn one_less(p: usize) -> usize
+    ensures { λ r. ⌜ r ≡ p - 1 ⌝ }
+{
+    if p == 0 { 0 } else { p - 1 }
+}
+
+// The highest priority in V, its members found by words. No priority in V is above `top`, so a member that has it ends
+// the search.
+pub fn get_highest_prio(priorities: &[u16], set: &[u64], top: usize) -> Priority
+    requires { ⌜ SearchableTo (now priorities) top (now set) ⌝ }
     ensures { λ r. ⌜ r .0 ≡ highestOf (now (priorities .entry)) (setOf (now (set .entry))) ⌝ }
 {
     let mut highest: u16 = 0;
@@ -24,6 +33,9 @@ pub fn get_highest_prio(priorities: &[u16], set: &[u64]) -> Priority
         };
         let v = member.0;
         let p = priorities[v];
+        if p as usize == top {
+            return Priority(top);
+        }
         if highest < p {
             highest = p;
         }

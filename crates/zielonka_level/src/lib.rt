@@ -5,6 +5,7 @@ mod level;
 
 pub use highest::collect;
 pub use highest::get_highest_prio;
+pub use highest::one_less;
 pub use level::attract_highest;
 pub use level::attract_lost;
 pub use level::join;

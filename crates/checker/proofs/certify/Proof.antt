@@ -37,7 +37,7 @@ from23 s = v23 s then v24 s
 
 -- where the function begins, from past each kind
 abbrev past21 : tie.Else1 → tie.Start
-past21 c = c .before .before .before .before .before .before .before .before .before .before .before
+past21 c = c .before .before .before .before .before .before .before .before .before .before .before .before
 
 abbrev past22 : tie.Else2 → tie.Start
 past22 c = past21 (c .before .before .before)
@@ -59,28 +59,28 @@ ok22 : (c : tie.Else2) → v22 (past22 c) ≡ none
 ok22 c =
     let f = c .before .before .check-entries in
     went-on (f .result) (v22 (past22 c)) (c .if2 .left) (c .before .number2 .ensures) (numbered22 _ _ _)
-    (f .ensures ∙ out (check22-is (past22 c .pre)))
+    (f .ensures ∙ out (check22-is (past22 c .pre .0)))
 
 ok23 : (c : tie.Else3) → v23 (past23 c) ≡ none
 ok23 c =
     let f = c .before .before .check-sides in
-    sym (check23-is (past23 c .pre)) ∙
+    sym (check23-is (past23 c .pre .0)) ∙
     went-on (f .result) _ (c .if3 .left) (c .before .number3 .ensures) (numbered-givenAt 23 _ _ (omega arith)) (f .ensures)
 
 check-partition-requires : tie.Need-check-partition-requires
-check-partition-requires c κs = partition-ready (c .before .before .before .before .before .before .before .before .pre)
+check-partition-requires c κs = partition-ready (c .before .before .before .before .before .before .before .before .before .pre .0)
 
 number-requires : tie.Need-number-requires
 number-requires c κs = search needs
 
 returns : tie.Need-returns
 returns c =
-    let s = c .before .before .before .before .before .before .before .before .before .before .before in
+    let s = c .before .before .before .before .before .before .before .before .before .before .before .before in
     let f = c .before .before .check-partition in
-    certify-stops (s .pre) (stopped (f .result) (v21 s) (from22 s) (answered 0) (c .if1 .taken) (c .before .number .ensures) (f .ensures))
+    certify-stops (s .pre .0) (stopped (f .result) (v21 s) (from22 s) (answered 0) (c .if1 .taken) (c .before .number .ensures) (f .ensures))
 
 check-entries-requires : tie.Need-check-entries-requires
-check-entries-requires c κs = entries-ready (past21 c .pre)
+check-entries-requires c κs = entries-ready (past21 c .pre .0)
 
 number-requires-2 : tie.Need-number-requires-2
 number-requires-2 c κs = search needs
@@ -90,12 +90,12 @@ returns-2 c =
     let d = c .before .before .before in
     let s = past21 d in
     let f = c .before .before .check-entries in
-    certify-stops (s .pre)
+    certify-stops (s .pre .0)
     (past (from22 s) (ok21 d)
-    (stopped (f .result) (v22 s) (from23 s) (answered 0) (c .if2 .taken) (c .before .number2 .ensures) (f .ensures ∙ out (check22-is (s .pre)))))
+    (stopped (f .result) (v22 s) (from23 s) (answered 0) (c .if2 .taken) (c .before .number2 .ensures) (f .ensures ∙ out (check22-is (s .pre .0)))))
 
 check-sides-requires : tie.Need-check-sides-requires
-check-sides-requires c κs = sides-ready (past22 c .pre) (ok22 c)
+check-sides-requires c κs = sides-ready (past22 c .pre .0) (ok22 c)
 
 number-requires-3 : tie.Need-number-requires-3
 number-requires-3 c κs = search needs
@@ -105,14 +105,14 @@ returns-3 c =
     let d = c .before .before .before in
     let s = past22 d in
     let f = c .before .before .check-sides in
-    certify-stops (s .pre)
+    certify-stops (s .pre .0)
     (past (from22 s) (ok21 (d .before .before .before))
     (past (from23 s) (ok22 d)
-    (stopped (f .result) (v23 s) (v24 s) (answered 0) (c .if3 .taken) (c .before .number3 .ensures) (f .ensures ∙ out (check23-is (s .pre))))))
+    (stopped (f .result) (v23 s) (v24 s) (answered 0) (c .if3 .taken) (c .before .number3 .ensures) (f .ensures ∙ out (check23-is (s .pre .0))))))
 
 check-cycles-requires : tie.Need-check-cycles-requires
 check-cycles-requires c κs =
-    let d = c .before in cycles-given (past23 d .pre) (ok22 (d .before .before .before)) (ok23 d)
+    let d = c .before in (cycles-given (past23 d .pre .0) (ok22 (d .before .before .before)) (ok23 d), past23 d .pre .1)
 
 same-length : tie.Need-same-length
 same-length c = search needs
@@ -125,7 +125,7 @@ returns-4 c =
     let f = c .before .before .check-cycles in
     record {
       gives =
-          from21 (s .pre)
+          from21 (s .pre .0)
           (past (from22 s) (ok21 (e .before .before .before))
           (past (from23 s) (ok22 e)
           (past (v24 s) (ok23 d) (f .ensures .gives))));

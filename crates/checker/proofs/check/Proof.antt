@@ -1,10 +1,10 @@
 -- `check` meets its contract: after a refusal nothing was touched, and else the work area is cleared.
-use mathlib.Core.Path.{_≡_}
+use mathlib.Core.Path.{_≡_, _∙_}
 use Rattle.rules.specs.Outcome.{Verdict, none, answered}
 use Rattle.rules.specs.Checker.{certificateChecks}
 use Rattle.rules.specs.Tables.{Tables, gameOf, tablesOf}
 use Rattle.parity_game.proofs.Matched.{went-on, stopped, refusal-not-zero}
-use Rattle.lent_checks.specs.Checks.{numbered-by}
+use Rattle.lent_checks.specs.Checks.{numbered-by, past-tables, sizes-few}
 use Rattle.checker.specs.Checks.{Certifiable, refusals, checks-refused, certify-given, work-fits, checks-done}
 use native.Mathlib.Omega.{arith}
 use borrow.Author.Needs.{needs}
@@ -20,13 +20,14 @@ first s = refusals (tables s) (s .args .even .now) (s .args .odd .now) (s .args 
 
 -- where the function begins, from past them
 abbrev start : tie.Else1 → tie.Start
-start d = d .before .before .before .before .before .before .before .before .before .before .before
+start d = d .before .before .before .before .before .before .before .before .before .before .before .before
 
 -- there they gave nothing
 ok : (d : tie.Else1) → first (start d) ≡ none
 ok d =
-    let f = d .before .before .check-all in
-    went-on (f .result) _ (d .if1 .left) (d .before .number .ensures) (numbered-by _ _ _ _ _) (f .ensures)
+    let f = d .before .before .check-lent in
+    went-on (f .result) (first (start d)) (d .if1 .left) (d .before .number .ensures) (numbered-by _ _ _ _ _)
+    (f .ensures ∙ past-tables (tables (start d)) (start d .pre .0) _ _ _ _ (answered 0))
 
 -- so the kinds may be checked
 certifiable :
@@ -35,25 +36,27 @@ certifiable :
     Certifiable (tables (start d)) (a .even .now) (a .odd .now) (a .strategy .now) (a .work .now)
 certifiable d = certify-given (ok d)
 
-check-all-requires : tie.Need-check-all-requires
-check-all-requires c κs = search needs
+check-lent-requires : tie.Need-check-lent-requires
+check-lent-requires c κs =
+    let s = c .before .before .before .before .before .before .before .before .before in sizes-few (tables s) (s .pre .0)
 
 number-requires : tie.Need-number-requires
 number-requires c κs = search needs
 
 returns : tie.Need-returns
 returns c =
-    let s = c .before .before .before .before .before .before .before .before .before .before .before in
+    let s = c .before .before .before .before .before .before .before .before .before .before .before .before in
     let a = s .args in
-    let f = c .before .before .check-all in
+    let f = c .before .before .check-lent in
+    let gave = f .ensures ∙ past-tables (tables s) (s .pre .0) _ _ _ _ (answered 0) in
     checks-refused
     (stopped (f .result) (first s) (certificateChecks (gameOf (tables s)) (a .even .now) (a .odd .now) (a .strategy .now))
-    (answered 0) (c .if1 .taken) (c .before .number .ensures) (f .ensures))
-    (f .ensures)
+    (answered 0) (c .if1 .taken) (c .before .number .ensures) gave)
+    gave
     (refusal-not-zero (f .result) (c .if1 .taken) (c .before .number .ensures))
 
 certify-requires : tie.Need-certify-requires
-certify-requires c κs = certifiable (c .before)
+certify-requires c κs = (certifiable (c .before), start (c .before) .pre .1)
 
 work-words-requires : tie.Need-work-words-requires
 work-words-requires c κs = work-fits (certifiable (c .before .before .before .before .before))
@@ -77,7 +80,7 @@ pub check-spec : {M : Type 1} → statement M
 check-spec =
     tie.close
     (tie.spec
-    check-all-requires
+    check-lent-requires
     number-requires
     returns
     certify-requires

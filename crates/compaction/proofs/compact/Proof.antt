@@ -1,136 +1,136 @@
--- `compact` meets its contract. Past both checks the tables are accepted, and what is written is the rule's table.
+-- `compact` meets its contract. Past 9 for the new table and the new kept numbers, what is written is the rule's table and a
+-- fresh count of it.
 use mathlib.Core.List.{List, [], _∷_}
-use mathlib.Core.Path.{_≡_, sym, _∙_}
+use mathlib.Core.Path.{_≡_, refl, sym, ap, _∙_}
 use Prim.Native.Nat.{ℕ}
 use native.Mathlib.Omega.{arith}
 use borrow.Author.Needs.{needs}
 use lib.ListN.{length}
-use Rattle.rules.specs.Outcome.{Verdict, none, answered}
-use Rattle.rules.specs.Tables.{Tables, vertices, tableChecks, check9, Accepted}
-use Rattle.parity_game.specs.Laws.{Sound, accepted-sound, outcome-pass, numbered-tables, numbered-check9, check9-table-none}
+use Rattle.rules.specs.Compaction.{LentCompacted, newTable}
+use Rattle.rules.specs.Outcome.{none, answered}
+use Rattle.rules.specs.Record.{keptRoom}
+use Rattle.rules.specs.Tables.{Tables, tablesOf, vertices, Accepted}
+use Rattle.parity_game.specs.Laws.{Sound, accepted-sound, numbered-check9, check9-table-none}
 use Rattle.parity_game.proofs.Matched.{went-on, stopped, refusal-not-zero}
 use Rattle.parity_game.specs.Said.{said}
-use Rattle.rules.specs.Compaction.{compactionChecks}
 use Rattle.compaction.specs.Marks.{Small}
-use Rattle.compaction.specs.Laws.{compacts-refused, compacts-answered}
+use Rattle.compaction.specs.Laws.{lentOf, tableRoom, compacts-table, compacts-kept, compacts-answered, new-small}
 use Rattle.compaction.specs.Steps.{numbers-compact}
 use Rattle.compaction.proofs.compact.Statement.{statement}
 use Rattle.compaction.proofs.compact.Tie as tie
 
--- the tables and the new table as lent
-abbrev start : tie.After-check-tables → tie.Start
-start c = c .before .before .before .before .before .before
+-- the tables, and what is lent to write in
+abbrev start : tie.After-number → tie.Start
+start c = c .before .before .before .before .before .before .before .before
 
 abbrev tables : tie.Start → Tables
-tables c =
-    record {
-      owners = c .args .owners .now;
-      priorities = c .args .priorities .now;
-      offsets = c .args .offsets .now;
-      targets = c .args .targets .now;
-    }
+tables c = tablesOf (c .args .owners .now) (c .args .priorities .now) (c .args .offsets .now) (c .args .targets .now)
 
-abbrev fresh : tie.Start → List ℕ
-fresh c = c .args .new-priorities .now
+abbrev lent : tie.Start → LentCompacted
+lent c = lentOf (c .args .new-priorities .now) (c .args .new-kept .now)
 
--- 9 for the new table
-abbrev size-check : tie.Start → Verdict
-size-check c = check9 (vertices (tables c)) [] (length (fresh c) ∷ [])
-
--- past the first check the tables are accepted
-accepted : (c : tie.Else1) → Accepted (tables (start (c .before .before)))
-unfolding Accepted
-accepted c =
-    let called = c .before .before .check-tables in
-    let t = tables (start (c .before .before)) in
-    went-on (called .result) (tableChecks t) (c .if1 .left) (c .before .number .ensures) (numbered-tables t) (called .ensures)
-
--- past the second the new table has its size, and so nothing is refused
-abbrev start2 : tie.Else2 → tie.Start
-start2 c = start (c .before .before .before .before .before)
-
-sized : (c : tie.Else2) → size-check (start2 c) ≡ none
+-- past the first check the new table has its size
+sized : (c : tie.Else1) → tableRoom (tables (start (c .before))) (lent (start (c .before))) ≡ none
 sized c =
     let called = c .before .before .check-table in
-    went-on (called .result) (size-check (start2 c)) (c .if2 .left) (c .before .number2 .ensures) (numbered-check9 _ [] _) (called .ensures)
+    let at = start (c .before) in
+    went-on (called .result) (tableRoom (tables at) (lent at)) (c .if1 .left) (c .before .number .ensures)
+    (numbered-check9 _ [] _)
+    (called .ensures)
 
-passes : (c : tie.Else2) → compactionChecks (tables (start2 c)) (length (fresh (start2 c))) ≡ none
-unfolding Accepted
-passes c = rw (accepted (c .before .before .before)) (sized c)
+abbrev start2 : tie.Else2 → tie.Start
+start2 c = start (c .before .before)
 
 sound : (c : tie.Else2) → Sound (tables (start2 c))
-sound c = accepted-sound (tables (start2 c)) (accepted (c .before .before .before))
+sound c = accepted-sound (tables (start2 c)) (start2 c .pre)
 
 small : (c : tie.Else2) → Small (start2 c .args .priorities .now)
 small c v l = sound c .priority-small v (omega (arith, sound c .priority-each))
 
-check-tables-requires : tie.Need-check-tables-requires
-check-tables-requires c κs = search needs
+-- what is written is the rule's table
+abbrev marked : tie.After-write → tie.Else2
+marked c = c .before .before .before .before
+
+wrote : (c : tie.After-write) → c .write .last .1 .1 .0 ≡ newTable (tables (start2 (marked c)))
+wrote c =
+    let numbered = c .before .before in
+    c .write .ensures ∙
+    numbers-compact (tables (start2 (marked c)) .priorities) (numbered .before .mark .result) (numbered .number2 .result)
+    (small (marked c))
+    (numbered .before .mark .ensures)
+    (numbered .number2 .ensures)
+
+check-table-requires : tie.Need-check-table-requires
+check-table-requires c κs = search needs
 
 number-requires : tie.Need-number-requires
 number-requires c κs = search needs
 
 returns : tie.Need-returns
 returns c =
-    let called = c .before .before .check-tables in
-    let t = tables (start (c .before .before)) in
-    compacts-refused t (fresh (start (c .before .before))) (said (called .result))
-    (stopped (called .result) (tableChecks t) (size-check (start (c .before .before))) (answered 0) (c .if1 .taken) (c .before .number .ensures) (called .ensures))
+    let called = c .before .before .check-table in
+    let at = start (c .before) in
+    compacts-table (tables at) (lent at) (said (called .result)) (at .pre)
+    (stopped (called .result) (tableRoom (tables at) (lent at)) (keptRoom (lent at .kept)) (answered 0) (c .if1 .taken)
+    (c .before .number .ensures)
+    (called .ensures))
     (refusal-not-zero (called .result) (c .if1 .taken) (c .before .number .ensures))
 
-check-table-requires : tie.Need-check-table-requires
-check-table-requires c κs = search needs
-
-number-requires-2 : tie.Need-number-requires-2
-number-requires-2 c κs = search needs
-
 returns-2 : tie.Need-returns-2
-unfolding Accepted
 returns-2 c =
-    let called = c .before .before .check-table in
-    let at = start (c .before .before .before .before .before) in
-    compacts-refused (tables at) (fresh at) (said (called .result))
-    (called .ensures ∙ sym (outcome-pass (tableChecks (tables at)) (size-check at) (answered 0) (accepted (c .before .before .before))))
-    (refusal-not-zero (called .result) (c .if2 .taken) (c .before .number2 .ensures))
+    let at = start (c .before .before) in
+    compacts-kept (tables at) (lent at) (at .pre) (sized (c .before)) (c .if2 .taken)
 
 mark-requires : tie.Need-mark-requires
 mark-requires c κs = small c
 
-number-requires-3 : tie.Need-number-requires-3
-number-requires-3 c κs = search needs
+number-requires-2 : tie.Need-number-requires-2
+number-requires-2 c κs = search needs
 
 write-requires : tie.Need-write-requires
 write-requires c κs =
     let at = c .before .before .before in
     let t = tables (start2 at) in
-    (small at, check9-table-none (vertices t) (length (fresh (start2 at))) (sized at) ∙ sym (sound at .priority-each))
+    let long = check9-table-none (vertices t) (length (lent (start2 at) .priorities)) (sized (at .before)) in
+    (small at, long ∙ sym (sound at .priority-each))
+
+write-fresh-requires : tie.Need-write-fresh-requires
+write-fresh-requires c κs =
+    let written = c .before .before .before .before in
+    let at = marked written in
+    (rw (wrote written) (new-small (tables (start2 at)) (start2 at .pre)), at .if2 .left)
 
 same-length : tie.Need-same-length
 same-length c = search needs
 
+same-length-2 : tie.Need-same-length-2
+same-length-2 c = search needs
+
 returns-3 : tie.Need-returns-3
 returns-3 c =
-    let wrote = c .before .before in
-    let numbered = wrote .before .before in
-    let at = numbered .before .before in
-    let t = tables (start2 at) in
-    compacts-answered t (fresh (start2 at)) (wrote .write .last .1 .1 .0) (passes at)
-    (wrote .write .ensures ∙
-    numbers-compact (t .priorities) (numbered .before .mark .result) (numbered .number3 .result) (small at) (numbered .before .mark .ensures)
-    (numbered .number3 .ensures))
+    let counted = c .before .before in
+    let written = counted .before .before .before .before .before in
+    let at = marked written in
+    compacts-answered (tables (start2 at)) (lent (start2 at))
+    (lentOf (written .write .last .1 .1 .0) (counted .write-fresh .last .1 .0))
+    (start2 at .pre)
+    (sized (at .before))
+    (at .if2 .left)
+    (wrote written)
+    (counted .write-fresh .ensures)
 
 pub compact-spec : {M : Type 1} → statement M
 compact-spec =
     tie.close
     (tie.spec
-    check-tables-requires
+    check-table-requires
     number-requires
     returns
-    check-table-requires
-    number-requires-2
     returns-2
     mark-requires
-    number-requires-3
+    number-requires-2
     write-requires
+    write-fresh-requires
     same-length
+    same-length-2
     returns-3)

@@ -1,79 +1,31 @@
--- `write_fresh` meets its contract. The loop's invariant: the numbers passed are written.
+-- `write_fresh` meets its contract: the fresh count, written.
 use mathlib.Core.List.{List}
-use mathlib.Core.Path.{_≡_, sym, ap, _∙_}
-use Prim.Native.Nat.{ℕ, _≤_, _-_}
-use native.Mathlib.Omega.{arith}
-use borrow.Author.Needs.{needs}
-use lib.ListN.{length, length-set}
+use mathlib.Core.Path.{ap, _∙_}
+use Prim.Native.Nat.{ℕ}
+use lib.ListN.{length}
 use Rattle.theory.specs.Counts.{length-fresh}
-use Rattle.kept_numbers.specs.Steps.{Agree, agree-set, agree-all}
+use borrow.Author.Needs.{needs}
 use Rattle.kept_numbers.proofs.write_fresh.Statement.{statement}
 use Rattle.kept_numbers.proofs.write_fresh.Tie as tie
 use Rattle.kept_numbers.proofs.fresh.Reads as fresh-reads
+use Rattle.kept_numbers.proofs.put.Reads as put-reads
 
-abbrev Inv-loop : tie.InvT-loop
-Inv-loop priorities kept₀ count i₀ kept i = (i ≤ 258) × (length kept ≡ 258) × Agree i kept count
-
-abbrev μ-loop : tie.MeasureT-loop
-μ-loop priorities kept₀ count i₀ kept i = 258 - i
-
-fresh-requires : tie.Need-fresh-requires Inv-loop μ-loop
+fresh-requires : tie.Need-fresh-requires
 fresh-requires c κs = search needs
 
-loop-holds : tie.Need-loop-holds Inv-loop μ-loop
-loop-holds c = (search needs, search needs, λ k l. absurd (omega arith))
-
-mul-kept : tie.Need-mul-kept Inv-loop μ-loop
-mul-kept c = search needs
-
-array-read-kept : tie.Need-array-read-kept Inv-loop μ-loop
-array-read-kept c = search needs
-
-mul-kept-2 : tie.Need-mul-kept-2 Inv-loop μ-loop
-mul-kept-2 c = search needs
-
-slice-write-kept : tie.Need-slice-write-kept Inv-loop μ-loop
-slice-write-kept c = search needs
-
-add-i : tie.Need-add-i Inv-loop μ-loop
-add-i c = search needs
-
-loop-less : tie.Need-loop-less Inv-loop μ-loop
-loop-less c = search needs
-
-loop-again : tie.Need-loop-again Inv-loop μ-loop
-loop-again c =
-    let at = c .before in (
+put-requires : tie.Need-put-requires
+put-requires c κs =
+    let counted = c .before .before in
+    let args = counted .before .before .before .args in (
+      ap (λ (l : List ℕ). length l) (counted .fresh .ensures) ∙ length-fresh (args .priorities .now),
       search needs,
-      simp length-set (at .loop .inv .1),
-      agree-set (at .loop .i) (at .loop .kept) (at .before .fresh .result) (omega arith) (at .loop .inv .2),
     )
 
-same-length : tie.Need-same-length Inv-loop μ-loop
+same-length : tie.Need-same-length
 same-length c = search needs
 
-returns : tie.Need-returns Inv-loop μ-loop
-returns c =
-    let at = c .before in
-    let counted = at .before in
-    let long = ap (λ (l : List ℕ). length l) (counted .fresh .ensures) ∙ length-fresh (counted .before .before .before .args .priorities .now) in
-    agree-all (at .loop .kept) (counted .fresh .result) (at .loop .inv .1 ∙ sym long) (λ k l. at .loop .inv .2 k (omega arith)) ∙
-    counted .fresh .ensures
+returns : tie.Need-returns
+returns c = c .before .before .put .ensures ∙ c .before .before .before .before .before .fresh .ensures
 
 pub write-fresh-spec : {M : Type 1} → statement M
-write-fresh-spec =
-    tie.close
-    (tie.spec
-    Inv-loop
-    μ-loop
-    fresh-requires
-    loop-holds
-    mul-kept
-    array-read-kept
-    mul-kept-2
-    slice-write-kept
-    add-i
-    loop-less
-    loop-again
-    same-length
-    returns)
+write-fresh-spec = tie.close (tie.spec fresh-requires put-requires same-length returns)

@@ -3,20 +3,11 @@ use borrow.Author.Needs.{needs}
 use Rattle.oracle.proofs.differs.Statement.{statement}
 use Rattle.oracle.proofs.differs.Tie as tie
 
-number-requires : tie.Need-number-requires
-number-requires c κs = search needs
-
 returns : tie.Need-returns
 returns c = search needs
 
-count-requires : tie.Need-count-requires
-count-requires c κs = search needs
-
 returns-2 : tie.Need-returns-2
 returns-2 c = search needs
-
-number-requires-2 : tie.Need-number-requires-2
-number-requires-2 c κs = search needs
 
 returns-3 : tie.Need-returns-3
 returns-3 c = search needs
@@ -33,4 +24,4 @@ returns-6 c = search needs
 pub differs-spec : {M : Type 1} → statement M
 differs-spec =
     tie.close
-    (tie.spec number-requires returns count-requires returns-2 number-requires-2 returns-3 returns-4 returns-5 returns-6)
+    (tie.spec returns returns-2 returns-3 returns-4 returns-5 returns-6)

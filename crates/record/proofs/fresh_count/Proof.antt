@@ -1,13 +1,11 @@
 -- `fresh_count` meets its contract: 1 to 8, then 9, then the count is written.
-use mathlib.Core.Bool.{not}
 use mathlib.Core.List.{List}
 use mathlib.Core.Path.{_≡_, ap, _∙_}
 use Prim.Native.Nat.{ℕ}
 use native.Mathlib.Omega.{arith}
-use lib.Dec.{eqb}
 use lib.ListN.{length}
-use Rattle.rules.specs.Outcome.{none, given, answered}
-use Rattle.rules.specs.Record.{Record, recordOf, recordTables, freshCount, freshChecks}
+use Rattle.rules.specs.Outcome.{none, answered}
+use Rattle.rules.specs.Record.{Record, recordOf, recordTables, keptRoom, freshCount, freshChecks}
 use Rattle.parity_game.specs.Said.{said}
 use Rattle.parity_game.proofs.Matched.{went-on, stopped, refusal-not-zero}
 use Rattle.theory.specs.Edits.{Roomy, tables-pass}
@@ -49,7 +47,7 @@ returns c =
     let called = c .before .before .check-room in
     let r = lent (c .before .before .before .before .before .before .before .before) in
     fresh-refused r (said (called .result))
-    (stopped (called .result) (recordTables r) (given 9 0 (not (eqb (length (r .kept)) 258))) (answered 0) (c .if1 .taken)
+    (stopped (called .result) (recordTables r) (keptRoom (r .kept)) (answered 0) (c .if1 .taken)
     (c .before .number .ensures)
     (rw (tables-unkept r) at (called .ensures)))
     (refusal-not-zero (called .result) (c .if1 .taken) (c .before .number .ensures))

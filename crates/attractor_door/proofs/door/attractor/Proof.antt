@@ -1,17 +1,17 @@
 -- `attractor` meets its contract: a refusal is returned with nothing written; past the checks the work is done in the first W words.
-use mathlib.Core.Path.{_≡_, subst}
+use mathlib.Core.Path.{_≡_, ap, subst, _∙_}
 use native.Mathlib.Omega.{arith}
 use borrow.Author.Needs.{needs}
 use lib.ListN.{length}
 use Rattle.rules.specs.Game.{Player}
-use Rattle.rules.specs.Outcome.{none}
+use Rattle.rules.specs.Outcome.{Verdict, none, outcome, answered}
 use Rattle.rules.specs.Tables.{Tables}
 use Rattle.parity_game.specs.Laws.{accepted-sound}
-use Rattle.parity_game.specs.Said.{is}
+use Rattle.parity_game.specs.Said.{said, is}
 use Rattle.parity_game.proofs.Matched.{went-on, refusal-not-zero}
 use Rattle.rules.specs.Attracts.{Lent, attractorChecks}
 use Rattle.attractor_run.specs.Work.{Ran}
-use Rattle.attractor_door.specs.Answered.{Passed, numbered-checks, checks-passed, run-ready, attracts-refused, attracts-answered}
+use Rattle.attractor_door.specs.Answered.{Passed, accepted-checks, numbered-checks, checks-passed, run-ready, attracts-refused, attracts-answered}
 use Rattle.area.specs.Lent.{work-cleared}
 use Rattle.attractor_door.proofs.door.attractor.Statement.{statement}
 use Rattle.attractor_door.proofs.door.attractor.Tie as tie
@@ -29,8 +29,22 @@ tables c =
 abbrev lent : tie.Start → Lent
 lent c = record { result = c .args .result .now; strategy = c .args .strategy .now; distances = c .args .distances .now; work = c .args .work .now }
 
-abbrev at1 : tie.After-check-all → tie.Start
+abbrev at1 : tie.After-check-lent → tie.Start
 at1 c = c .before .before .before .before .before .before .before .before .before .before .before
+
+-- 9, 10 and 12 of accepted tables are all the checks
+told :
+    (c : tie.After-check-lent) →
+    let g = at1 c in
+    said (c .check-lent .result) ≡
+    outcome (attractorChecks (tables g) (g .args .within .now) (g .args .target .now) (lent g)) (answered 0)
+told c =
+    let g = at1 c in
+    let a = g .args in
+    c .check-lent .ensures ∙
+    ap (λ (v : Verdict). outcome v (answered 0))
+    (accepted-checks (tables g) (a .within .now) (a .target .now) (length (a .result .now)) (length (a .strategy .now))
+    (length (a .distances .now)) (length (a .work .now)) (g .pre))
 
 abbrev at2 : tie.Else1 → tie.Start
 at2 c = at1 (c .before .before)
@@ -39,9 +53,9 @@ at2 c = at1 (c .before .before)
 no-refusal : (c : tie.Else1) → let g = at2 c in attractorChecks (tables g) (g .args .within .now) (g .args .target .now) (lent g) ≡ none
 no-refusal c =
     let g = at2 c in
-    let called = c .before .before .check-all in
+    let called = c .before .before .check-lent in
     went-on (called .result) (attractorChecks (tables g) (g .args .within .now) (g .args .target .now) (lent g)) (c .if1 .left) (c .before .number .ensures)
-    (numbered-checks (tables g) (g .args .within .now) (g .args .target .now) (lent g)) (called .ensures)
+    (numbered-checks (tables g) (g .args .within .now) (g .args .target .now) (lent g)) (told (c .before .before))
 
 passed :
     (c : tie.Else1) →
@@ -53,8 +67,11 @@ passed c =
     checks-passed (tables g) (g .args .within .now) (g .args .target .now) (length (g .args .result .now)) (length (g .args .strategy .now)) (length (g .args .distances .now))
     (length (g .args .work .now)) (no-refusal c)
 
-check-all-requires : tie.Need-check-all-requires
-check-all-requires c κs = search needs
+check-lent-requires : tie.Need-check-lent-requires
+check-lent-requires c κs =
+    let g = c .before .before .before .before .before .before .before .before .before .before in
+    let f = accepted-sound (tables g) (g .pre) in
+    (f .few-vertices, f .few-edges)
 
 number-requires : tie.Need-number-requires
 number-requires c κs = search needs
@@ -62,8 +79,8 @@ number-requires c κs = search needs
 returns : tie.Need-returns
 returns c =
     let g = at1 (c .before .before) in
-    attracts-refused (tables g) (is (g .args .player)) (g .args .within .now) (g .args .target .now) (lent g) _ (c .before .before .check-all .ensures)
-    (refusal-not-zero (c .before .before .check-all .result) (c .if1 .taken) (c .before .number .ensures))
+    attracts-refused (tables g) (is (g .args .player)) (g .args .within .now) (g .args .target .now) (lent g) _ (told (c .before .before))
+    (refusal-not-zero (c .before .before .check-lent .result) (c .if1 .taken) (c .before .number .ensures))
 
 work-words-requires : tie.Need-work-words-requires
 work-words-requires c κs =
@@ -128,7 +145,7 @@ pub attractor-spec : {M : Type 1} → statement M
 attractor-spec =
     tie.close
     (tie.spec
-    check-all-requires
+    check-lent-requires
     number-requires
     returns
     work-words-requires

@@ -20,7 +20,7 @@ use Rattle.both_engines.proofs.tables.solve_in.Tie as tie
 
 -- the places, each from the next: where the function begins, and after each engine
 abbrev start : tie.After-solve-priority-promotion → tie.Start
-start c = c .before .before .before .before .before .before .before .before .before .before .before .before .before .before
+start c = c .before .before .before .before .before .before .before .before .before .before .before .before .before .before .before
 
 abbrev promotion : tie.After-solve-zielonka → tie.After-solve-priority-promotion
 promotion c = c .before .before .before .before .before .before .before .before .before .before .before .before .before
@@ -45,36 +45,36 @@ abbrev between : tie.After-solve-priority-promotion → Lent
 between c =
     let after = c .solve-priority-promotion .last in
     record {
-      even = after .1 .1 .1 .1 .1 .0;
-      odd = after .1 .1 .1 .1 .1 .1 .0;
-      strategy = after .1 .1 .1 .1 .1 .1 .1 .0;
-      work = after .1 .1 .1 .1 .1 .1 .1 .1 .0;
+      even = after .1 .1 .1 .1 .1 .1 .0;
+      odd = after .1 .1 .1 .1 .1 .1 .1 .0;
+      strategy = after .1 .1 .1 .1 .1 .1 .1 .1 .0;
+      work = after .1 .1 .1 .1 .1 .1 .1 .1 .1 .0;
     }
 
 abbrev odd-after : tie.After-solve-zielonka → List ℕ
-odd-after c = c .solve-zielonka .last .1 .1 .1 .1 .1 .1 .0
+odd-after c = c .solve-zielonka .last .1 .1 .1 .1 .1 .1 .1 .0
 
 even-same : (c : tie.After-solve-priority-promotion) → length (between c .even) ≡ length (start c .args .even .now)
-even-same c = c .solve-priority-promotion .kept .1 .1 .1 .1 .1 .0
+even-same c = c .solve-priority-promotion .kept .1 .1 .1 .1 .1 .1 .0
 
 odd-same : (c : tie.After-solve-priority-promotion) → length (between c .odd) ≡ length (start c .args .odd .now)
-odd-same c = c .solve-priority-promotion .kept .1 .1 .1 .1 .1 .1 .0
+odd-same c = c .solve-priority-promotion .kept .1 .1 .1 .1 .1 .1 .1 .0
 
 strategy-same : (c : tie.After-solve-priority-promotion) → length (between c .strategy) ≡ length (start c .args .strategy .now)
-strategy-same c = c .solve-priority-promotion .kept .1 .1 .1 .1 .1 .1 .1 .0
+strategy-same c = c .solve-priority-promotion .kept .1 .1 .1 .1 .1 .1 .1 .1 .0
 
 work-same : (c : tie.After-solve-priority-promotion) → length (between c .work) ≡ length (start c .args .work .now)
-work-same c = c .solve-priority-promotion .kept .1 .1 .1 .1 .1 .1 .1 .1 .0
+work-same c = c .solve-priority-promotion .kept .1 .1 .1 .1 .1 .1 .1 .1 .1 .0
 
 odd-again : (c : tie.After-solve-zielonka) → length (odd-after c) ≡ length (between (promotion c) .odd)
-odd-again c = c .solve-zielonka .kept .1 .1 .1 .1 .1 .1 .0
+odd-again c = c .solve-zielonka .kept .1 .1 .1 .1 .1 .1 .1 .0
 
 -- Zielonka's rooms have the sizes that promotion's had
-again : (c : tie.After-solve-priority-promotion) → Ready (tables (start c)) (between c) (start c .args .out .now)
+again : (c : tie.After-solve-priority-promotion) → Ready (tables (start c)) (start c .args .kept .now) (between c) (start c .args .out .now)
 again c =
     let r = start c .pre in
     record {
-      accepted = r .accepted;
+      counted = r .counted;
       few = r .few;
       room = r .room;
       even-size = even-same c ∙ r .even-size;
@@ -86,10 +86,11 @@ again c =
     }
 
 solve-priority-promotion-requires : tie.Need-solve-priority-promotion-requires
-solve-priority-promotion-requires c κs = search needs
+solve-priority-promotion-requires c κs = let at = c .before .before .before .before .before .before .before .before .before .before .before .before .before .before in at .pre .counted
 
 solve-zielonka-requires : tie.Need-solve-zielonka-requires
-solve-zielonka-requires c κs = search needs
+solve-zielonka-requires c κs =
+    let at1 = c .before .before .before .before .before .before .before .before .before .before .before .before in start at1 .pre .counted
 
 counted-requires : tie.Need-counted-requires
 counted-requires c κs = search needs

@@ -4,7 +4,8 @@ use Prim.Native.Nat.{_≤_}
 use native.Mathlib.Omega.{arith}
 use borrow.Author.Needs.{needs}
 use lib.ListN.{length, length-take}
-use Rattle.rules.specs.Tables.{words}
+use Rattle.rules.specs.Tables.{Tables, tablesOf, words}
+use Rattle.theory.specs.Tables.{accepted-sound}
 use Rattle.both_engines.specs.Solved.{words-few, work-enough}
 use Rattle.both_engines.proofs.tables.solve_tables.Statement.{statement}
 use Rattle.both_engines.proofs.tables.solve_tables.Tie as tie
@@ -12,6 +13,9 @@ use Rattle.both_engines.proofs.tables.solve_tables.Tie as tie
 -- where the function begins
 abbrev start : tie.After-set-words → tie.Start
 start c = c .before .before .before .before .before .before
+
+abbrev tables : tie.Start → Tables
+tables c = tablesOf (c .args .owners .now) (c .args .priorities .now) (c .args .offsets .now) (c .args .targets .now)
 
 -- a set has two words at most
 two : (c : tie.After-set-words) → c .set-words .result ≤ 2
@@ -22,6 +26,21 @@ two c =
 set-words-requires : tie.Need-set-words-requires
 set-words-requires c κs = search needs
 
+slice-aggregate-write-fresh : tie.Need-slice-aggregate-write-fresh
+slice-aggregate-write-fresh c = search needs
+
+write-fresh-requires : tie.Need-write-fresh-requires
+write-fresh-requires c κs =
+    let at = start (c .before) in
+    let sound = accepted-sound (tables at) (at .pre .accepted) in
+    let long = sound .priority-each in (
+      record { few = omega (arith, at .pre .few); each = λ v l. sound .priority-small v (omega arith) },
+      search needs,
+    )
+
+slice-aggregate-solve-in : tie.Need-slice-aggregate-solve-in
+slice-aggregate-solve-in c = search needs
+
 sub-solve-in : tie.Need-sub-solve-in
 sub-solve-in c = search needs
 
@@ -29,7 +48,7 @@ part-even-start : tie.Need-part-even-start
 part-even-start c = search needs
 
 part-even-end : tie.Need-part-even-end
-part-even-end c = two c
+part-even-end c = two (c .before .before .before .before)
 
 sub-solve-in-2 : tie.Need-sub-solve-in-2
 sub-solve-in-2 c = search needs
@@ -38,7 +57,7 @@ part-odd-start : tie.Need-part-odd-start
 part-odd-start c = search needs
 
 part-odd-end : tie.Need-part-odd-end
-part-odd-end c = two (c .before)
+part-odd-end c = two (c .before .before .before .before .before)
 
 sub-solve-in-3 : tie.Need-sub-solve-in-3
 sub-solve-in-3 c = search needs
@@ -49,16 +68,17 @@ part-strategy-start c = search needs
 part-strategy-end : tie.Need-part-strategy-end
 part-strategy-end c = search needs
 
-slice-aggregate-solve-in : tie.Need-slice-aggregate-solve-in
-slice-aggregate-solve-in c = search needs
+slice-aggregate-solve-in-2 : tie.Need-slice-aggregate-solve-in-2
+slice-aggregate-solve-in-2 c = search needs
 
 solve-in-requires : tie.Need-solve-in-requires
 solve-in-requires c κs =
-    let at1 = c .before .before .before .before .before in
+    let fresh = c .before .before .before .before .before .before .before in
+    let at1 = fresh .before .before in
     let at = start at1 in
     let n = length (at .args .owners .now) in
     record {
-      accepted = at .pre .accepted;
+      counted = record { accepted = at .pre .accepted; fresh = fresh .write-fresh .ensures };
       few = at .pre .few;
       room = at .pre .room;
       even-size = simp length-take (omega (arith, two at1, at1 .set-words .ensures));
@@ -78,6 +98,9 @@ solve-tables-spec =
     tie.close
     (tie.spec
     set-words-requires
+    slice-aggregate-write-fresh
+    write-fresh-requires
+    slice-aggregate-solve-in
     sub-solve-in
     part-even-start
     part-even-end
@@ -87,7 +110,7 @@ solve-tables-spec =
     sub-solve-in-3
     part-strategy-start
     part-strategy-end
-    slice-aggregate-solve-in
+    slice-aggregate-solve-in-2
     solve-in-requires
     same-length
     returns)

@@ -10,19 +10,19 @@ use Rattle.checker.proofs.cycles.check_cycles.Tie as tie
 
 -- where the function begins
 abbrev start : tie.After-mark-cycles → tie.Start
-start d = d .before .before .before .before .before .before .before .before .before
+start d = d .before .before .before .before .before .before .before .before .before .before
 
 -- the rows of marks may be searched
 scannable :
     (d : tie.After-mark-cycles) →
     let a = start d .args in
     let n = length (a .priorities .now) in
-    Scannable (a .even .now) (d .mark-cycles .last .1 .1 .1 .1 .1 .0) (behind n (length (a .targets .now))) n
-scannable d = scan-ready (start d .pre) (d .mark-cycles .ensures)
+    Scannable (a .even .now) (d .mark-cycles .last .1 .1 .1 .1 .1 .1 .0) (behind n (length (a .targets .now))) n
+scannable d = scan-ready (start d .pre .0) (d .mark-cycles .ensures)
 
 mark-cycles-requires : tie.Need-mark-cycles-requires
 mark-cycles-requires c κs =
-    let s = c .before .before .before .before .before .before .before .before in cycles-ready (s .pre)
+    let s = c .before .before .before .before .before .before .before .before .before in (cycles-ready (s .pre .0), s .pre .1)
 
 add-find-losing : tie.Need-add-find-losing
 add-find-losing c = search needs
@@ -69,7 +69,7 @@ same-length c = search needs
 returns : tie.Need-returns
 returns c =
     let d = c .before .before .before .before in
-    cycles-told (start d .pre) (d .mark-cycles .ensures) (c .find-losing .ensures)
+    cycles-told (start d .pre .0) (d .mark-cycles .ensures) (c .find-losing .ensures)
 
 pub check-cycles-spec : {M : Type 1} → statement M
 check-cycles-spec =

@@ -7,7 +7,7 @@ use Rattle.checker.proofs.cycles.mark_cycles.Tie as tie
 
 -- where the function begins, where the rows are cleared, and where the table is built
 abbrev start : tie.After-clear → tie.Start
-start k = k .before .before .before .before .before .before .before .before
+start k = k .before .before .before .before .before .before .before .before .before
 
 abbrev cleared : tie.After-build → tie.After-clear
 cleared b = b .before .before .before .before
@@ -20,12 +20,12 @@ all-marked :
     (o : tie.After-mark-parity2) →
     let a = start (cleared (built (o .before .before .before .before))) .args in
     CyclesMarked (a .owners .now) (a .priorities .now) (a .offsets .now) (a .targets .now) (a .strategy .now) (a .work .now)
-    (o .mark-parity2 .last .1 .1 .1 .1 .1 .0)
+    (o .mark-parity2 .last .1 .1 .1 .1 .1 .1 .0)
 all-marked o =
     let e = o .before .before .before .before in
     let b = built e in
     let k = cleared b in
-    cycles-marked (start k .pre) (k .clear .ensures) (b .build .ensures) (e .mark-parity .ensures) (o .mark-parity2 .ensures)
+    cycles-marked (start k .pre .0) (k .clear .ensures) (b .build .ensures) (e .mark-parity .ensures) (o .mark-parity2 .ensures)
 
 add-rows : tie.Need-add-rows
 add-rows c = search needs
@@ -62,13 +62,13 @@ clear-requires c κs = search needs
 
 build-requires : tie.Need-build-requires
 build-requires c κs =
-    let k = c .before .before .before in build-ready (start k .pre) (k .clear .ensures)
+    let k = c .before .before .before in build-ready (start k .pre .0) (k .clear .ensures)
 
 mark-parity-requires : tie.Need-mark-parity-requires
 mark-parity-requires c κs =
     let b = c .before .before .before in
     let k = cleared b in
-    evens-ready (start k .pre) (k .clear .ensures) (b .build .ensures)
+    (evens-ready (start k .pre .0) (k .clear .ensures) (b .build .ensures), start k .pre .1)
 
 add-mark-parity : tie.Need-add-mark-parity
 add-mark-parity c = search needs
@@ -78,7 +78,7 @@ mark-parity-requires-2 c κs =
     let e = c .before .before .before in
     let b = built e in
     let k = cleared b in
-    odds-ready (start k .pre) (k .clear .ensures) (b .build .ensures) (e .mark-parity .ensures)
+    (odds-ready (start k .pre .0) (k .clear .ensures) (b .build .ensures) (e .mark-parity .ensures), start k .pre .1)
 
 same-length : tie.Need-same-length
 same-length c = all-marked (c .before .before) .long

@@ -6,7 +6,7 @@ use Rattle.loop_search.proofs.priority.find.Tie as tie
 
 -- the calls in order, and where the function begins
 abbrev start : tie.After-clear → tie.Start
-start c = c .before .before .before .before .before .before .before
+start c = c .before .before .before .before .before .before .before .before
 
 abbrev bared : tie.After-mark-used → tie.After-clear
 bared c = c .before .before .before .before
@@ -47,10 +47,13 @@ clear-requires c κs = search needs
 mark-used-requires : tie.Need-mark-used-requires
 mark-used-requires c κs =
     let d = c .before .before .before in
-    let s = start d in
-    find-markable (s .args .priorities .now) (s .args .offsets .now) (s .args .targets .now) (s .args .entries .now)
-    (s .args .p) (s .args .work .now) (s .pre)
-    (d .clear .last .0) (d .clear .ensures)
+    let s = start d in (
+      find-markable (s .args .priorities .now) (s .args .offsets .now) (s .args .targets .now) (s .args .entries .now)
+          (s .args .p) (s .args .work .now) (s .pre .0)
+          (d .clear .last .0) (d .clear .ensures),
+      s .pre .1,
+      s .pre .2,
+    )
 
 add-clear-2 : tie.Need-add-clear-2
 add-clear-2 c = search needs
@@ -65,8 +68,8 @@ spread-heads-requires c κs =
     let d = bared m in
     let s = start d in
     find-headable (s .args .priorities .now) (s .args .offsets .now) (s .args .targets .now) (s .args .entries .now)
-    (s .args .p) (s .args .work .now) (s .pre)
-    (d .clear .last .0) (d .clear .ensures) (m .mark-used .last .1 .1 .1 .1 .1 .0) (m .mark-used .ensures) (b .clear2 .last .0)
+    (s .args .p) (s .args .work .now) (s .pre .0)
+    (d .clear .last .0) (d .clear .ensures) (m .mark-used .last .1 .1 .1 .1 .1 .1 .0) (m .mark-used .ensures) (b .clear2 .last .0)
     (b .clear2 .ensures)
 
 same-length : tie.Need-same-length
@@ -77,8 +80,8 @@ same-length c =
     let d = bared m in
     let s = start d in
     found (s .args .priorities .now) (s .args .offsets .now) (s .args .targets .now) (s .args .entries .now) (s .args .p)
-    (s .args .work .now) (s .pre)
-    (d .clear .last .0) (d .clear .ensures) (m .mark-used .last .1 .1 .1 .1 .1 .0) (m .mark-used .ensures) (b .clear2 .last .0)
+    (s .args .work .now) (s .pre .0)
+    (d .clear .last .0) (d .clear .ensures) (m .mark-used .last .1 .1 .1 .1 .1 .1 .0) (m .mark-used .ensures) (b .clear2 .last .0)
     (b .clear2 .ensures)
     (f .spread-heads .last .1 .1 .1 .1 .1 .0) (f .spread-heads .ensures) .long
 
@@ -90,8 +93,8 @@ returns c =
     let d = bared m in
     let s = start d in
     found (s .args .priorities .now) (s .args .offsets .now) (s .args .targets .now) (s .args .entries .now) (s .args .p)
-    (s .args .work .now) (s .pre)
-    (d .clear .last .0) (d .clear .ensures) (m .mark-used .last .1 .1 .1 .1 .1 .0) (m .mark-used .ensures) (b .clear2 .last .0)
+    (s .args .work .now) (s .pre .0)
+    (d .clear .last .0) (d .clear .ensures) (m .mark-used .last .1 .1 .1 .1 .1 .1 .0) (m .mark-used .ensures) (b .clear2 .last .0)
     (b .clear2 .ensures)
     (f .spread-heads .last .1 .1 .1 .1 .1 .0) (f .spread-heads .ensures)
 

@@ -8,14 +8,14 @@ use Rattle.loop_search.proofs.priority.seek.Statement.{statement}
 use Rattle.loop_search.proofs.priority.seek.Tie as tie
 
 abbrev Inv-loop : tie.InvT-loop
-Inv-loop priorities offsets targets entries parity work₀ v n labels k₀ work k =
+Inv-loop priorities offsets targets kept entries parity work₀ v n labels k₀ work k =
     (k ≤ 128) × Seeking priorities offsets targets entries parity v work₀ k work
 
 abbrev μ-loop : tie.MeasureT-loop
-μ-loop priorities offsets targets entries parity work₀ v n labels k₀ work k = 128 - k
+μ-loop priorities offsets targets kept entries parity work₀ v n labels k₀ work k = 128 - k
 
 abbrev start : tie.At-loop Inv-loop μ-loop → tie.Start Inv-loop μ-loop
-start a = a .before .before .before .before .before .before
+start a = a .before .before .before .before .before .before .before
 
 abbrev at : tie.After-find Inv-loop μ-loop → tie.At-loop Inv-loop μ-loop
 at f = f .before .before .before
@@ -37,44 +37,46 @@ add-labels-5 c = search needs
 
 loop-holds : tie.Need-loop-holds Inv-loop μ-loop
 loop-holds c =
-    let s = c .before .before .before .before .before in (
+    let s = c .before .before .before .before .before .before in (
       omega arith,
       seeking-starts (s .args .priorities .now) (s .args .offsets .now) (s .args .targets .now)
-          (s .args .entries .now) (s .args .parity) (s .args .v) (s .args .work .now) (s .pre),
+          (s .args .entries .now) (s .args .parity) (s .args .v) (s .args .work .now) (s .pre .0),
     )
 
 mul-find : tie.Need-mul-find Inv-loop μ-loop
 mul-find c = omega arith
 
 add-find : tie.Need-add-find Inv-loop μ-loop
-add-find c = omega (arith, start (c .before) .pre .side)
+add-find c = omega (arith, start (c .before) .pre .0 .side)
 
 find-requires : tie.Need-find-requires Inv-loop μ-loop
-find-requires c κs = c .before .before .loop .inv .1 .ready
+find-requires c κs =
+    let a = c .before .before in
+    let s = start a in (a .loop .inv .1 .ready, s .pre .1, omega (arith, s .pre .0 .side))
 
 add-if1 : tie.Need-add-if1 Inv-loop μ-loop
 add-if1 c =
     let f = c .before .before in
     let s = start (at f) in
-    omega (arith, s .pre .vertex, f .find .ensures .ready .room)
+    omega (arith, s .pre .0 .vertex, f .find .ensures .ready .room)
 
 mul-if1 : tie.Need-mul-if1 Inv-loop μ-loop
 mul-if1 c =
     let f = c .before .before in
     let s = start (at f) in
-    omega (arith, s .pre .vertex, f .find .ensures .ready .room)
+    omega (arith, s .pre .0 .vertex, f .find .ensures .ready .room)
 
 slice-read-if1 : tie.Need-slice-read-if1 Inv-loop μ-loop
 slice-read-if1 c =
     let f = c .before .before .before in
     let s = start (at f) in
-    omega (arith, s .pre .vertex, f .find .ensures .ready .room)
+    omega (arith, s .pre .0 .vertex, f .find .ensures .ready .room)
 
 mul-result : tie.Need-mul-result Inv-loop μ-loop
 mul-result c = let a = at (c .before .before .before .before) in omega arith
 
 add-result : tie.Need-add-result Inv-loop μ-loop
-add-result c = let a = at (c .before .before .before .before) in omega (arith, start a .pre .side)
+add-result c = let a = at (c .before .before .before .before) in omega (arith, start a .pre .0 .side)
 
 same-length : tie.Need-same-length Inv-loop μ-loop
 same-length c =
@@ -82,8 +84,8 @@ same-length c =
     let a = at f in
     let s = start a in
     seeking-met (s .args .priorities .now) (s .args .offsets .now) (s .args .targets .now) (s .args .entries .now)
-    (s .args .parity) (s .args .v) (s .args .work .now) (s .pre)
-    (a .loop .k) (a .loop .work) (a .loop .inv .1) (f .find .last .1 .1 .1 .1 .1 .0) (f .find .ensures) (omega arith)
+    (s .args .parity) (s .args .v) (s .args .work .now) (s .pre .0)
+    (a .loop .k) (a .loop .work) (a .loop .inv .1) (f .find .last .1 .1 .1 .1 .1 .1 .0) (f .find .ensures) (omega arith)
     (c .if1 .taken) .long
 
 returns : tie.Need-returns Inv-loop μ-loop
@@ -92,8 +94,8 @@ returns c =
     let a = at f in
     let s = start a in
     seeking-met (s .args .priorities .now) (s .args .offsets .now) (s .args .targets .now) (s .args .entries .now)
-    (s .args .parity) (s .args .v) (s .args .work .now) (s .pre)
-    (a .loop .k) (a .loop .work) (a .loop .inv .1) (f .find .last .1 .1 .1 .1 .1 .0) (f .find .ensures) (omega arith)
+    (s .args .parity) (s .args .v) (s .args .work .now) (s .pre .0)
+    (a .loop .k) (a .loop .work) (a .loop .inv .1) (f .find .last .1 .1 .1 .1 .1 .1 .0) (f .find .ensures) (omega arith)
     (c .if1 .taken)
 
 add-k : tie.Need-add-k Inv-loop μ-loop
@@ -109,8 +111,8 @@ loop-again c =
     let s = start a in (
       omega arith,
       seeking-on (s .args .priorities .now) (s .args .offsets .now) (s .args .targets .now) (s .args .entries .now)
-          (s .args .parity) (s .args .v) (s .args .work .now) (s .pre)
-          (a .loop .k) (a .loop .work) (a .loop .inv .1) (f .find .last .1 .1 .1 .1 .1 .0) (f .find .ensures) (c .if1 .left),
+          (s .args .parity) (s .args .v) (s .args .work .now) (s .pre .0)
+          (a .loop .k) (a .loop .work) (a .loop .inv .1) (f .find .last .1 .1 .1 .1 .1 .1 .0) (f .find .ensures) (c .if1 .left),
     )
 
 same-length-2 : tie.Need-same-length-2 Inv-loop μ-loop
@@ -122,7 +124,7 @@ returns-2 c =
     let s = start a in
     let all : a .loop .k ≡ 128 = omega arith in
     seeking-ends (s .args .priorities .now) (s .args .offsets .now) (s .args .targets .now) (s .args .entries .now)
-    (s .args .parity) (s .args .v) (s .args .work .now) (s .pre)
+    (s .args .parity) (s .args .v) (s .args .work .now) (s .pre .0)
     (a .loop .work)
     (subst
     (λ (k : ℕ).

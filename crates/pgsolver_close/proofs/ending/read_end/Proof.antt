@@ -2,7 +2,7 @@
 use mathlib.Core.Path.{_≡_, sym, ap, _∙_}
 use Rattle.rules.specs.Portions.{Closing, writtenIn, endChecks, Closed}
 use Rattle.rules.specs.Reading.{roomChecks}
-use Rattle.parity_game.specs.Said.{said}
+use Rattle.parity_game.specs.Said.{said, refusal}
 use Rattle.reading_rooms.specs.declared.checks.Fits.{Fits}
 use Rattle.reading_rooms.specs.declared.checks.Fits.the-variants.{Fit, Sizes, Work}
 use Rattle.reading_rooms.specs.Said.{fitsSaid, size-checks}
@@ -48,7 +48,7 @@ returns : tie.Need-returns
 returns c =
     let at = c .before .before .before in
     let e = entry (start at) in
-    unless-unfit (endChecks (e .lent) (e .work)) 10 e _
+    unless-unfit (endChecks (e .lent) (e .work)) 10 e (Closed Stands e e (refusal 10 0))
     (end-short (e .lent) (e .work) (checked at Fit (c .before .enum-told3 .given .1)) (c .if1 .taken))
 
 end-fitting-requires : tie.Need-end-fitting-requires
@@ -64,14 +64,16 @@ returns-2 : tie.Need-returns-2
 returns-2 c =
     let at = c .before .before in
     let e = entry (start at) in
-    unless-unfit (endChecks (e .lent) (e .work)) 9 e _ (end-unfit (e .lent) (e .work) 9 0 (checked at Sizes (c .enum-told
+    unless-unfit (endChecks (e .lent) (e .work)) 9 e (Closed Stands e e (refusal 9 0))
+    (end-unfit (e .lent) (e .work) 9 0 (checked at Sizes (c .enum-told
     .given .1)))
 
 returns-3 : tie.Need-returns-3
 returns-3 c =
     let at = c .before .before in
     let e = entry (start at) in
-    unless-unfit (endChecks (e .lent) (e .work)) 10 e _ (end-unfit (e .lent) (e .work) 10 0 (checked at Work (c .enum-told2
+    unless-unfit (endChecks (e .lent) (e .work)) 10 e (Closed Stands e e (refusal 10 0))
+    (end-unfit (e .lent) (e .work) 10 0 (checked at Work (c .enum-told2
     .given .1)))
 
 same-length : tie.Need-same-length

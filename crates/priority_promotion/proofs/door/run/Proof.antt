@@ -25,7 +25,7 @@ few :
     (length (g .args .owners .now) ≤ 4096) × (length (g .args .targets .now) ≤ 16384) ×
     (words (length (g .args .owners .now)) ≤ 64)
 few g =
-    let f = accepted-sound (tables g) (g .pre .accepted) in
+    let f = accepted-sound (tables g) (g .pre .0 .accepted) in
     (f .few-vertices, f .few-edges, words-few (length (g .args .owners .now)) (f .few-vertices))
 
 -- the rounds have ended: where each call stands
@@ -42,7 +42,7 @@ abbrev sized : tie.After-struct-known → tie.After-set-words
 sized d = prepared d .before .before
 
 abbrev start-at : tie.After-set-words → tie.Start
-start-at c = c .before .before .before .before .before .before .before .before .before
+start-at c = c .before .before .before .before .before .before .before .before .before .before
 
 abbrev start : tie.After-struct-known → tie.Start
 start d = start-at (sized d)
@@ -100,31 +100,31 @@ add-unsolved-3 c = omega (arith, few (start-at c), c .set-words .ensures)
 
 prepare-requires : tie.Need-prepare-requires
 prepare-requires c κs =
-    let g = c .before .before .before .before .before .before .before .before .before .before in
+    let g = c .before .before .before .before .before .before .before .before .before .before .before in
     let s = c .before .set-words in
     let a = g .args in
-    run-preparable (a .owners .now) (a .priorities .now) (a .offsets .now) (a .targets .now) (g .pre .accepted) (s .ensures)
-    (a .work .now) (g .pre .room)
+    run-preparable (a .owners .now) (a .priorities .now) (a .offsets .now) (a .targets .now) (g .pre .0 .accepted) (s .ensures)
+    (a .work .now) (g .pre .0 .room)
 
 begin-requires : tie.Need-begin-requires
 begin-requires c κs =
     let d = c .before .before .before in
-    let g = d .before .before .before .before .before .before .before .before .before .before .before in
+    let g = d .before .before .before .before .before .before .before .before .before .before .before .before in
     let s = d .before .before .set-words in
     let a = g .args in
-    run-beginnable (a .owners .now) (a .priorities .now) (a .offsets .now) (a .targets .now) (g .pre .accepted) (s .ensures)
-    (a .work .now) (g .pre .room) (d .prepare .ensures)
+    run-beginnable (a .owners .now) (a .priorities .now) (a .offsets .now) (a .targets .now) (g .pre .0 .accepted) (s .ensures)
+    (a .work .now) (g .pre .0 .room) (d .prepare .ensures) (g .pre .1)
 
 solve-requires : tie.Need-solve-requires
 solve-requires c κs =
     let b = c .before .before .before in
     let d = b .before .before .before .before in
-    let g = d .before .before .before .before .before .before .before .before .before .before .before in
+    let g = d .before .before .before .before .before .before .before .before .before .before .before .before in
     let s = d .before .before .set-words in
     let a = g .args in
     let (first, all, none) = b .begin .ensures in (
-      run-reached (a .owners .now) (a .priorities .now) (a .offsets .now) (a .targets .now) (g .pre .accepted) (s .ensures)
-          (a .work .now) (g .pre .room) (d .prepare .ensures) first all none,
+      run-reached (a .owners .now) (a .priorities .now) (a .offsets .now) (a .targets .now) (g .pre .0 .accepted) (s .ensures)
+          (a .work .now) (g .pre .0 .room) (d .prepare .ensures) first all none,
       omega (arith, none),
     )
 
@@ -160,7 +160,7 @@ write-out-requires c κs =
     let d = c .before .before .before .before .before in
     let g = start d in
     let none : ended d .solve .result .unsolved ≡ 0 = omega (arith, c .before .before .before .before .if1 .left) in
-    found-writable (found d none) (g .pre .even-size) (g .pre .odd-size) (g .pre .strategy-size)
+    found-writable (found d none) (g .pre .0 .even-size) (g .pre .0 .odd-size) (g .pre .0 .strategy-size)
 
 clear-requires-2 : tie.Need-clear-requires-2
 clear-requires-2 c κs = search needs
@@ -185,7 +185,7 @@ returns-2 c =
     let a = g .args in
     let none : ended d .solve .result .unsolved ≡ 0 = omega (arith, w .before .before .before .before .before .if1 .left) in (
       cleared-all (a .work .now) (left d) (kept-long d) (c .before .before .clear2 .ensures),
-      found-finished (found d none) (g .pre .strategy-size) (w .write-out .ensures)
+      found-finished (found d none) (g .pre .0 .strategy-size) (w .write-out .ensures)
           (run-rounds (ended d .solve .ensures) none)
           (ended d .solve .ensures .within),
     )

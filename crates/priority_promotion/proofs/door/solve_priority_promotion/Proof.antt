@@ -1,20 +1,21 @@
 -- `solve_priority_promotion` meets its contract: a refusal is returned with nothing written; past the checks the run is done in
 -- the first W words.
 use mathlib.Core.List.{_++_}
-use mathlib.Core.Path.{_≡_, subst}
+use mathlib.Core.Path.{_≡_, subst, _∙_}
 use Prim.Native.Nat.{ℕ, _-_}
 use native.Mathlib.Omega.{arith}
 use lib.ListN.{length, take, drop}
 use Rattle.rules.specs.Counting.{Set}
 use Rattle.rules.specs.Game.{Player}
-use Rattle.rules.specs.Outcome.{none}
+use Rattle.rules.specs.Outcome.{none, outcome, answered}
 use Rattle.rules.specs.Solver.{Lent, solverChecks, Solves}
 use Rattle.rules.specs.Tables.{Tables, gameOf, tablesOf}
 use Rattle.rules.specs.Promotion.{roundsNeeded}
 use Rattle.theory.specs.Tables.{accepted-sound}
 use Rattle.parity_game.proofs.Matched.{went-on, refusal-not-zero}
+use Rattle.parity_game.specs.Said.{said}
 use Rattle.area.specs.Lent.{work-cleared}
-use Rattle.lent_checks.specs.Checks.{numbered-checks, Passed, checks-passed}
+use Rattle.lent_checks.specs.Checks.{past-tables, numbered-checks, Passed, checks-passed}
 use Rattle.solver.specs.declared.ran.Ran.{Ran}
 use Rattle.solver.specs.Running.{outputsOf, Runs, ranOutcome, run-ready, solves-refused, solves-ran}
 use Rattle.priority_promotion.specs.Running.{wonIn, entriesIn}
@@ -22,58 +23,67 @@ use borrow.Author.Needs.{needs}
 use Rattle.priority_promotion.proofs.door.solve_priority_promotion.Statement.{statement}
 use Rattle.priority_promotion.proofs.door.solve_priority_promotion.Tie as tie
 
--- the tables and what is lent
+-- the tables, what is lent, and what the rules find
 abbrev tables : tie.Start → Tables
 tables g = tablesOf (g .args .owners .now) (g .args .priorities .now) (g .args .offsets .now) (g .args .targets .now)
 
 abbrev lent : tie.Start → Lent
 lent g =
-    let a = g .args in record { even = a .even .now; odd = a .odd .now; strategy = a .strategy .now; work = a .work .now }
+    let a = g .args in
+    record { even = a .even .now; odd = a .odd .now; strategy = a .strategy .now; work = a .work .now }
 
--- the rounds needed, the sets that they win and the entries that they choose
-abbrev needed : tie.Start → ℕ
-needed g = roundsNeeded (gameOf (tables g)) (g .args .budget)
+abbrev rounds : tie.Start → ℕ
+rounds g = roundsNeeded (gameOf (tables g)) (g .args .budget)
 
 abbrev won : tie.Start → Player → Set
 won g = wonIn (tables g) (g .args .budget)
 
-abbrev entries : tie.Start → ℕ → ℕ
-entries g = entriesIn (tables g) (g .args .budget)
+abbrev choice : tie.Start → ℕ → ℕ
+choice g = entriesIn (tables g) (g .args .budget)
 
--- where the function begins
-abbrev start : tie.Else1 → tie.Start
-start d = d .before .before .before .before .before .before .before .before .before .before .before
+abbrev start : tie.After-check-lent → tie.Start
+start c = c .before .before .before .before .before .before .before .before .before .before
+
+-- 9 and 10 of accepted tables are all the checks
+told : (c : tie.After-check-lent) → said (c .check-lent .result) ≡ outcome (solverChecks (tables (start c)) (lent (start c))) (answered 0)
+told c =
+    let l = lent (start c) in
+    c .check-lent .ensures ∙
+    past-tables (tables (start c)) (start c .pre .accepted) (length (l .even)) (length (l .odd)) (length (l .strategy)) (length (l .work))
+    (answered 0)
+
+abbrev asked : tie.Else1 → tie.After-check-lent
+asked d = d .before .before
 
 -- past the checks
-no-refusal : (d : tie.Else1) → solverChecks (tables (start d)) (lent (start d)) ≡ none
+no-refusal : (d : tie.Else1) → solverChecks (tables (start (asked d))) (lent (start (asked d))) ≡ none
 no-refusal d =
-    let g = start d in
-    let f = d .before .before .check-all in
-    went-on (f .result) (solverChecks (tables g) (lent g)) (d .if1 .left) (d .before .number .ensures) (numbered-checks (tables g) (lent g))
-    (f .ensures)
+    let g = start (asked d) in
+    went-on (asked d .check-lent .result) (solverChecks (tables g) (lent g)) (d .if1 .left) (d .before .number .ensures)
+    (numbered-checks (tables g) (lent g))
+    (told (asked d))
 
 passed :
     (d : tie.Else1) →
-    let a = start d .args in
-    Passed (tables (start d)) (length (a .even .now)) (length (a .odd .now)) (length (a .strategy .now)) (length (a .work .now))
+    let l = lent (start (asked d)) in
+    Passed (tables (start (asked d))) (length (l .even)) (length (l .odd)) (length (l .strategy)) (length (l .work))
 passed d =
-    let a = start d .args in
-    checks-passed (tables (start d)) (length (a .even .now)) (length (a .odd .now)) (length (a .strategy .now))
-    (length (a .work .now)) (no-refusal d)
+    let l = lent (start (asked d)) in
+    checks-passed (tables (start (asked d))) (length (l .even)) (length (l .odd)) (length (l .strategy)) (length (l .work)) (no-refusal d)
 
 -- what the run left
-abbrev checked : tie.After-run → tie.Else1
-checked r = r .before .before .before .before .before .before
+abbrev sized : tie.After-run → tie.After-work-words
+sized r = r .before .before .before .before .before
 
 abbrev began : tie.After-run → tie.Start
-began r = start (checked r)
+began r = start (asked (sized r .before))
 
 abbrev words : tie.After-run → ℕ
-words r = r .before .before .before .before .before .work-words .result
+words r = sized r .work-words .result
 
 abbrev after : tie.After-run → Lent
 after r =
-    let l = r .run .last .1 .1 .1 .1 .1 in
+    let l = r .run .last .1 .1 .1 .1 .1 .1 in
     let w = began r .args .work .now in
     record {
       even = l .0;
@@ -87,34 +97,40 @@ solved :
     (r : tie.After-run) {x : Ran} →
     r .run .result ≡ x →
     let g = began r in
-    Solves (g .args .budget) (tables g) (needed g) (won g) (entries g) (lent g) (after r)
-    (ranOutcome (g .args .budget) x)
+    let a = g .args in
+    Solves (a .budget) (tables g) (rounds g) (won g) (choice g) (lent g) (after r) (ranOutcome (a .budget) x)
 solved r {x} e =
     let g = began r in
-    solves-ran (g .args .budget) (tables g) (needed g) (won g) (entries g) (lent g) (after r) x
-    (no-refusal (checked r))
-    (subst
-    (Runs (g .args .budget) (tables g) (needed g) (won g) (entries g) (outputsOf (lent g)) (outputsOf (after r)))
-    e
+    let a = g .args in
+    solves-ran (a .budget) (tables g) (rounds g) (won g) (choice g) (lent g) (after r) x
+    (no-refusal (sized r .before))
+    (subst (Runs (a .budget) (tables g) (rounds g) (won g) (choice g) (outputsOf (lent g)) (outputsOf (after r))) e
     (r .run .ensures .1))
-    (work-cleared (tables g) (words r) (g .args .work .now) (r .run .last .1 .1 .1 .1 .1 .1 .1 .1 .0)
-    (r .before .before .before .before .before .work-words .ensures) (passed (checked r) .work-size) (r .run .ensures .0))
+    (work-cleared (tables g) (words r) (a .work .now) (r .run .last .1 .1 .1 .1 .1 .1 .1 .1 .1 .0)
+    (sized r .work-words .ensures)
+    (passed (sized r .before) .work-size)
+    (r .run .ensures .0))
 
-check-all-requires : tie.Need-check-all-requires
-check-all-requires c κs = search needs
+check-lent-requires : tie.Need-check-lent-requires
+check-lent-requires c κs =
+    let g = c .before .before .before .before .before .before .before .before .before in
+    let f = accepted-sound (tables g) (g .pre .accepted) in
+    (f .few-vertices, f .few-edges)
 
 number-requires : tie.Need-number-requires
 number-requires c κs = search needs
 
 returns : tie.Need-returns
 returns c =
-    let g = c .before .before .before .before .before .before .before .before .before .before .before in
-    solves-refused (g .args .budget) (tables g) (needed g) (won g) (entries g) (lent g) _
-    (c .before .before .check-all .ensures) (refusal-not-zero (c .before .before .check-all .result) (c .if1 .taken) (c .before .number .ensures))
+    let checked = c .before .before in
+    let g = start checked in
+    solves-refused (g .args .budget) (tables g) (rounds g) (won g) (choice g) (lent g) _
+    (told checked)
+    (refusal-not-zero (checked .check-lent .result) (c .if1 .taken) (c .before .number .ensures))
 
 work-words-requires : tie.Need-work-words-requires
 work-words-requires c κs =
-    let f = accepted-sound (tables (start c)) (passed c .accepted) in (f .few-vertices, f .few-edges)
+    let f = accepted-sound (tables (start (asked c))) (passed c .accepted) in (f .few-vertices, f .few-edges)
 
 sub-run : tie.Need-sub-run
 sub-run c = search needs
@@ -124,15 +140,17 @@ part-run-start c = search needs
 
 part-run-end : tie.Need-part-run-end
 part-run-end c =
-    omega (arith, passed (c .before .before .before .before) .work-size, c .before .before .before .work-words .ensures)
+    let w = c .before .before .before in omega (arith, passed (w .before) .work-size, w .work-words .ensures)
 
 run-requires : tie.Need-run-requires
 run-requires c κs =
-    let d = c .before .before .before .before .before in
-    let a = start d .args in
-    let w = c .before .before .before .before .work-words in
-    run-ready (tables (start d)) (w .result) (a .even .now) (a .odd .now) (a .strategy .now) (a .work .now) (w .ensures)
-    (passed d)
+    let w = c .before .before .before .before in
+    let g = start (asked (w .before)) in
+    let l = lent g in (
+      run-ready (tables g) (w .work-words .result) (l .even) (l .odd) (l .strategy) (l .work) (w .work-words .ensures)
+          (passed (w .before)),
+      g .pre,
+    )
 
 enum-known-ran : tie.Need-enum-known-ran
 enum-known-ran c = search needs
@@ -153,8 +171,7 @@ same-length-4 : tie.Need-same-length-4
 same-length-4 c = search needs
 
 returns-2 : tie.Need-returns-2
-returns-2 c =
-    solved (c .before .before .before .before .before .before .before .before .before .before) (c .enum-told .given .1)
+returns-2 c = solved (c .before .before .before .before .before .before .before .before .before .before) (c .enum-told .given .1)
 
 same-length-5 : tie.Need-same-length-5
 same-length-5 c = search needs
@@ -170,13 +187,15 @@ same-length-8 c = search needs
 
 returns-3 : tie.Need-returns-3
 returns-3 c =
-    solved (c .before .before .before .before .before .before .before .before .before .before .before) (c .before .ran .given .1)
+    let told = c .before in
+    let r = told .before .before .before .before .before .before .before .before .before .before in
+    solved r (told .ran .given .1)
 
 pub solve-priority-promotion-spec : {M : Type 1} → statement M
 solve-priority-promotion-spec =
     tie.close
     (tie.spec
-    check-all-requires
+    check-lent-requires
     number-requires
     returns
     work-words-requires

@@ -27,10 +27,13 @@ same-length-5 c = search needs
 same-length-6 : tie.Need-same-length-6
 same-length-6 c = search needs
 
+same-length-7 : tie.Need-same-length-7
+same-length-7 c = search needs
+
 returns : tie.Need-returns
 returns c =
-    let called = c .before .before .before .before .before .before .before .before .before .before .before .before .before
-    .before .before in
+    let called = c .before .before .before .before .before .before .before .before .before .before .before .before
+    .before .before .before .before .before in
     rw (← c .tell .ensures) (called .read-end .ensures)
 
 pub reckonbough-read-end-spec : {M : Type 1} → statement M
@@ -45,4 +48,5 @@ reckonbough-read-end-spec =
     same-length-4
     same-length-5
     same-length-6
+    same-length-7
     returns)

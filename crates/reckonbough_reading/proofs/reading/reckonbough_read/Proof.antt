@@ -24,9 +24,14 @@ same-length-4 c = search needs
 same-length-5 : tie.Need-same-length-5
 same-length-5 c = search needs
 
+same-length-6 : tie.Need-same-length-6
+same-length-6 c = search needs
+
 returns : tie.Need-returns
 returns c =
-    let called = c .before .before .before .before .before .before .before .before .before .before .before .before .before in rw (← c .tell .ensures) (called .read .ensures)
+    let called = c .before .before .before .before .before .before .before .before .before .before .before .before
+    .before .before .before in
+    rw (← c .tell .ensures) (called .read .ensures)
 
 pub reckonbough-read-spec : {M : Type 1} → statement M
 reckonbough-read-spec =
@@ -39,4 +44,5 @@ reckonbough-read-spec =
     same-length-3
     same-length-4
     same-length-5
+    same-length-6
     returns)

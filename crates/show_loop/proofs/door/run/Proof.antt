@@ -13,7 +13,7 @@ tables g = tablesOf (g .args .owners .now) (g .args .priorities .now) (g .args .
 
 -- the calls in order, and where the function begins
 abbrev start : tie.After-sole-owner → tie.Start
-start c = c .before .before .before .before .before .before .before .before
+start c = c .before .before .before .before .before .before .before .before .before
 
 abbrev owned : tie.After-build → tie.After-sole-owner
 owned c = c .before .before
@@ -31,7 +31,7 @@ build-requires : tie.Need-build-requires
 build-requires c κs =
     let o = c .before in
     let g = start o in
-    build-ready (tables g) (g .args .v) (g .args .path .now) (g .args .cycle .now) (g .args .work .now) (g .pre)
+    build-ready (tables g) (g .args .v) (g .args .path .now) (g .args .cycle .now) (g .args .work .now) (g .pre .0)
     (o .sole-owner .result) (o .sole-owner .ensures)
 
 sub-write-run : tie.Need-sub-write-run
@@ -50,10 +50,12 @@ write-run-requires : tie.Need-write-run-requires
 write-run-requires c κs =
     let b = c .before .before .before .before .before .before in
     let o = owned b in
-    let g = start o in
-    go-ready (tables g) (g .args .v) (g .args .path .now) (g .args .cycle .now) (g .args .work .now) (g .pre)
-    (o .sole-owner .result) (o .sole-owner .ensures)
-    (b .build .last .1 .1 .1 .0) (b .build .ensures)
+    let g = start o in (
+      go-ready (tables g) (g .args .v) (g .args .path .now) (g .args .cycle .now) (g .args .work .now) (g .pre .0)
+          (o .sole-owner .result) (o .sole-owner .ensures)
+          (b .build .last .1 .1 .1 .0) (b .build .ensures),
+      g .pre .1,
+    )
 
 clear-requires : tie.Need-clear-requires
 clear-requires c κs = search needs
@@ -75,12 +77,12 @@ returns c =
     let o = owned b in
     let g = start o in
     let f = w .write-run in
-    run-ran (tables g) (g .args .v) (g .args .path .now) (g .args .cycle .now) (g .args .work .now) (g .pre)
+    run-ran (tables g) (g .args .v) (g .args .path .now) (g .args .cycle .now) (g .args .work .now) (g .pre .0)
     (o .sole-owner .result) (o .sole-owner .ensures)
-    (b .build .last .1 .1 .1 .0) (b .build .ensures) (f .last .1 .1 .1 .1 .1 .0) (d .clear .last .0)
-    (f .last .1 .1 .1 .1 .1 .1 .1 .0)
-    (f .last .1 .1 .1 .1 .1 .1 .1 .1 .0) (f .result .path) (f .result .cycle) (f .ensures)
-    (cleared-all (g .args .work .now) (f .last .1 .1 .1 .1 .1 .0) (f .ensures .long ∙ b .build .ensures .long)
+    (b .build .last .1 .1 .1 .0) (b .build .ensures) (f .last .1 .1 .1 .1 .1 .1 .0) (d .clear .last .0)
+    (f .last .1 .1 .1 .1 .1 .1 .1 .1 .0)
+    (f .last .1 .1 .1 .1 .1 .1 .1 .1 .1 .0) (f .result .path) (f .result .cycle) (f .ensures)
+    (cleared-all (g .args .work .now) (f .last .1 .1 .1 .1 .1 .1 .0) (f .ensures .long ∙ b .build .ensures .long)
     (d .clear .ensures))
 
 pub run-spec : {M : Type 1} → statement M

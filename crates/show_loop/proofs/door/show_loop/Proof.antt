@@ -1,16 +1,16 @@
 -- `show_loop` meets its contract: a refusal is returned with only the path's length written; past the checks the run is done in
 -- the first W words, and no path is 46.
-use mathlib.Core.Path.{_≡_}
+use mathlib.Core.Path.{_≡_, _∙_}
 use native.Mathlib.Omega.{arith}
 use borrow.Author.Needs.{needs}
 use lib.ListN.{length}
 use Rattle.rules.specs.Loop.{LentRun, loopChecks}
-use Rattle.rules.specs.Outcome.{none}
+use Rattle.rules.specs.Outcome.{Outcome, none, outcome, answered}
 use Rattle.rules.specs.Tables.{Tables, tablesOf}
 use Rattle.theory.specs.Tables.{accepted-sound}
 use Rattle.parity_game.proofs.Matched.{went-on, refusal-not-zero}
 use Rattle.area.specs.Lent.{work-cleared}
-use Rattle.show_loop.specs.Checks.{numbered-checks, Passed, checks-passed}
+use Rattle.show_loop.specs.Checks.{lentBy, past-tables, numbered-checks, Passed, checks-passed}
 use Rattle.show_loop.specs.Running.{lentOf, shows-refused, run-ready, told-none, told-run, told-few}
 use Rattle.show_loop.proofs.door.show_loop.Statement.{statement}
 use Rattle.show_loop.proofs.door.show_loop.Tie as tie
@@ -23,18 +23,35 @@ abbrev lent : tie.Start → LentRun
 lent g = lentOf (g .args .path .now) (g .args .cycle .now) (g .args .work .now) (g .args .path-length .now)
 
 abbrev start : tie.Else1 → tie.Start
-start d = d .before .before .before .before .before .before .before .before .before .before
+start d = d .before .before .before .before .before .before .before .before .before .before .before
 
 abbrev began : tie.After-run → tie.Else1
 began r = r .before .before .before .before .before
+
+-- of accepted tables, what is checked is all that is refused
+gave :
+    {o : Outcome} (g : tie.Start) →
+    o ≡
+    outcome
+    (lentBy (g .args .owners .now) (length (g .args .targets .now)) (g .args .vertex) (length (g .args .path .now))
+    (length (g .args .cycle .now))
+    (length (g .args .work .now)))
+    (answered 0) →
+    o ≡ outcome (loopChecks (tables g) (g .args .vertex) (lent g)) (answered 0)
+gave g e =
+    e ∙
+    past-tables (tables g) (g .args .vertex) (length (g .args .path .now)) (length (g .args .cycle .now))
+    (length (g .args .work .now))
+    (answered 0)
+    (g .pre .0)
 
 -- past the checks
 no-refusal : (d : tie.Else1) → loopChecks (tables (start d)) (start d .args .vertex) (lent (start d)) ≡ none
 no-refusal d =
     let g = start d in
-    let called = d .before .before .check-all in
+    let called = d .before .before .check-lent in
     went-on (called .result) (loopChecks (tables g) (g .args .vertex) (lent g)) (d .if1 .left) (d .before .number .ensures)
-    (numbered-checks (tables g) (g .args .vertex) (lent g)) (called .ensures)
+    (numbered-checks (tables g) (g .args .vertex) (lent g)) (gave g (called .ensures))
 
 passed :
     (d : tie.Else1) →
@@ -46,19 +63,21 @@ passed d =
     (length (g .args .work .now))
     (no-refusal d)
 
-check-all-requires : tie.Need-check-all-requires
-check-all-requires c κs = search needs
+check-lent-requires : tie.Need-check-lent-requires
+check-lent-requires c κs =
+    let g = c .before .before .before .before .before .before .before .before in
+    let f = accepted-sound (tables g) (g .pre .0) in (f .few-vertices, f .few-edges)
 
 number-requires : tie.Need-number-requires
 number-requires c κs = search needs
 
 returns : tie.Need-returns
 returns c =
-    let g = c .before .before .before .before .before .before .before .before .before .before in
-    let called = c .before .before .check-all in
+    let g = c .before .before .before .before .before .before .before .before .before .before .before in
+    let called = c .before .before .check-lent in
     shows-refused (tables g) (g .args .vertex) (g .args .path .now) (g .args .cycle .now) (g .args .work .now)
     (g .args .path-length .now) _
-    (called .ensures) (refusal-not-zero (called .result) (c .if1 .taken) (c .before .number .ensures))
+    (gave g (called .ensures)) (refusal-not-zero (called .result) (c .if1 .taken) (c .before .number .ensures))
 
 work-words-requires : tie.Need-work-words-requires
 work-words-requires c κs = let f = accepted-sound (tables (start c)) (passed c .accepted) in (f .few-vertices, f .few-edges)
@@ -76,10 +95,12 @@ run-requires : tie.Need-run-requires
 run-requires c κs =
     let w = c .before .before .before in
     let e = w .before in
-    let g = start e in
-    run-ready (tables g) (g .args .vertex) (w .work-words .result) (g .args .path .now) (g .args .cycle .now)
-    (g .args .work .now) (w .work-words .ensures)
-    (passed e)
+    let g = start e in (
+      run-ready (tables g) (g .args .vertex) (w .work-words .result) (g .args .path .now) (g .args .cycle .now)
+          (g .args .work .now) (w .work-words .ensures)
+          (passed e),
+      g .pre .1,
+    )
 
 same-length : tie.Need-same-length
 same-length c = search needs
@@ -98,15 +119,15 @@ returns-2 c =
     let w = r .before .before .before .before .work-words in
     let g = start e in
     told-none (tables g) (g .args .vertex) (g .args .path .now) (g .args .cycle .now) (g .args .work .now)
-    (f .last .1 .1 .1 .1 .1 .0)
-    (f .last .1 .1 .1 .1 .1 .1 .0) (f .last .1 .1 .1 .1 .1 .1 .1 .0) _ (g .args .path-length .now) (f .result .path)
+    (f .last .1 .1 .1 .1 .1 .1 .0)
+    (f .last .1 .1 .1 .1 .1 .1 .1 .0) (f .last .1 .1 .1 .1 .1 .1 .1 .1 .0) _ (g .args .path-length .now) (f .result .path)
     (f .result .cycle)
     (passed e .accepted) (no-refusal e) (f .ensures)
     _ (work-cleared (tables g) (w .result) (g .args .work .now) _ (w .ensures) (passed e .work-size) (f .ensures .zeros))
     (c .if2 .taken)
 
-add-t28 : tie.Need-add-t28
-add-t28 c =
+add-both : tie.Need-add-both
+add-both c =
     let r = c .before .before .before .before .before .before .before .before in
     let f = r .run in
     let e = began r in
@@ -114,8 +135,8 @@ add-t28 c =
     omega (
       arith,
       told-few (tables g) (g .args .vertex) (g .args .path .now) (g .args .cycle .now) (g .args .work .now)
-          (f .last .1 .1 .1 .1 .1 .0)
-          (f .last .1 .1 .1 .1 .1 .1 .0) (f .last .1 .1 .1 .1 .1 .1 .1 .0) _ (g .args .path-length .now) (f .result .path)
+          (f .last .1 .1 .1 .1 .1 .1 .0)
+          (f .last .1 .1 .1 .1 .1 .1 .1 .0) (f .last .1 .1 .1 .1 .1 .1 .1 .1 .0) _ (g .args .path-length .now) (f .result .path)
           (f .result .cycle)
           (passed e .accepted) (no-refusal e) (f .ensures) (c .if2 .left),
     )
@@ -137,8 +158,8 @@ returns-3 c =
     let w = r .before .before .before .before .work-words in
     let g = start e in
     told-run (tables g) (g .args .vertex) (g .args .path .now) (g .args .cycle .now) (g .args .work .now)
-    (f .last .1 .1 .1 .1 .1 .0)
-    (f .last .1 .1 .1 .1 .1 .1 .0) (f .last .1 .1 .1 .1 .1 .1 .1 .0) _ (g .args .path-length .now) (f .result .path)
+    (f .last .1 .1 .1 .1 .1 .1 .0)
+    (f .last .1 .1 .1 .1 .1 .1 .1 .0) (f .last .1 .1 .1 .1 .1 .1 .1 .1 .0) _ (g .args .path-length .now) (f .result .path)
     (f .result .cycle)
     (passed e .accepted) (no-refusal e) (f .ensures)
     _ (work-cleared (tables g) (w .result) (g .args .work .now) _ (w .ensures) (passed e .work-size) (f .ensures .zeros))
@@ -148,7 +169,7 @@ pub show-loop-spec : {M : Type 1} → statement M
 show-loop-spec =
     tie.close
     (tie.spec
-    check-all-requires
+    check-lent-requires
     number-requires
     returns
     work-words-requires
@@ -160,7 +181,7 @@ show-loop-spec =
     same-length-2
     same-length-3
     returns-2
-    add-t28
+    add-both
     same-length-4
     same-length-5
     same-length-6

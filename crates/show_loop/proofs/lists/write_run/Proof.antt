@@ -7,13 +7,14 @@ use Rattle.show_loop.proofs.lists.write_run.Tie as tie
 
 -- where the function begins, and the search
 abbrev start : tie.After-seek → tie.Start
-start c = c .before .before .before .before .before .before .before .before .before
+start c = c .before .before .before .before .before .before .before .before .before .before
 
 abbrev sought : tie.Else1 → tie.After-seek
 sought c = c .before .before .before
 
 seek-requires : tie.Need-seek-requires
-seek-requires c κs = c .before .before .before .before .before .before .before .before .pre .seekable
+seek-requires c κs =
+    let s = c .before .before .before .before .before .before .before .before .before in (s .pre .0 .seekable, s .pre .1)
 
 same-length : tie.Need-same-length
 same-length c = search needs
@@ -24,7 +25,8 @@ returns c =
     let s = start f in
     went-none (s .args .priorities .now) (s .args .offsets .now) (s .args .targets .now) (s .args .entries .now)
     (s .args .parity) (s .args .work .now) (s .args .v)
-    (s .args .path .now) (s .args .cycle .now) (s .pre) (f .seek .last .1 .1 .1 .1 .1 .0) (f .seek .result) (f .seek .ensures)
+    (s .args .path .now) (s .args .cycle .now) (s .pre .0) (f .seek .last .1 .1 .1 .1 .1 .1 .0) (f .seek .result)
+    (f .seek .ensures)
     (c .if1 .taken)
 
 write-lists-requires : tie.Need-write-lists-requires
@@ -34,7 +36,8 @@ write-lists-requires c κs =
     let s = start f in
     lists-writable (s .args .priorities .now) (s .args .offsets .now) (s .args .targets .now) (s .args .entries .now)
     (s .args .parity) (s .args .work .now) (s .args .v)
-    (s .args .path .now) (s .args .cycle .now) (s .pre) (f .seek .last .1 .1 .1 .1 .1 .0) (f .seek .result) (f .seek .ensures)
+    (s .args .path .now) (s .args .cycle .now) (s .pre .0) (f .seek .last .1 .1 .1 .1 .1 .1 .0) (f .seek .result)
+    (f .seek .ensures)
     (e .if1 .left)
 
 same-length-2 : tie.Need-same-length-2
@@ -55,7 +58,8 @@ returns-2 c =
     let w = g .write-lists in
     went-there (s .args .priorities .now) (s .args .offsets .now) (s .args .targets .now) (s .args .entries .now)
     (s .args .parity) (s .args .work .now) (s .args .v)
-    (s .args .path .now) (s .args .cycle .now) (s .pre) (f .seek .last .1 .1 .1 .1 .1 .0) (f .seek .result) (f .seek .ensures)
+    (s .args .path .now) (s .args .cycle .now) (s .pre .0) (f .seek .last .1 .1 .1 .1 .1 .1 .0) (f .seek .result)
+    (f .seek .ensures)
     (e .if1 .left) (w .last .1 .1 .1 .1 .1 .0) (w .last .1 .1 .1 .1 .1 .1 .1 .0) (w .last .1 .1 .1 .1 .1 .1 .1 .1 .0)
     (w .result .path) (w .result .cycle)
     (w .ensures .0) (w .ensures .1)

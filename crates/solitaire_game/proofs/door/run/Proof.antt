@@ -20,7 +20,7 @@ tables g = tablesOf (g .args .owners .now) (g .args .priorities .now) (g .args .
 
 -- the calls in order, and where the function begins
 abbrev start : tie.After-sole-owner → tie.Start
-start c = c .before .before .before .before .before .before .before
+start c = c .before .before .before .before .before .before .before .before
 
 abbrev owned : tie.After-mark-good → tie.After-sole-owner
 owned c = c .before .before
@@ -42,9 +42,9 @@ few :
     (g : tie.Start) →
     (length (g .args .owners .now) ≤ 4096) × (length (g .args .targets .now) ≤ 16384) × (length (g .args .set .now) ≤ 64)
 few g =
-    let f = accepted-sound (tables g) (g .pre .accepted) in
+    let f = accepted-sound (tables g) (g .pre .0 .accepted) in
     let s = words-few (length (g .args .owners .now)) (f .few-vertices) in
-    (f .few-vertices, f .few-edges, omega (arith, g .pre .set-size))
+    (f .few-vertices, f .few-edges, omega (arith, g .pre .0 .set-size))
 
 -- what the attractor gives, the work area's length after it, and the room for the set in it
 attracted :
@@ -53,15 +53,15 @@ attracted :
     let base = baseOf (tables g) in
     Attracted (tables g) (playerOf (owned (marked (placed d)) .sole-owner .result)) base (base + length (g .args .set .now)) (placed d .place .last .0)
     (d .attract .last .1 .1 .1 .1 .0) (d .attract .result)
-attracted d = let g = begun d in d .attract .ensures (g .args .priorities .now) (g .pre .accepted)
+attracted d = let g = begun d in d .attract .ensures (g .args .priorities .now) (g .pre .0 .accepted)
 
 long : (d : tie.After-attract) → length (d .attract .last .1 .1 .1 .1 .0) ≡ length (begun d .args .work .now)
 long d =
     let p = placed d in
     let m = marked p in
     let g = begun d in
-    long₃ (tables g) (g .args .set .now) (g .args .work .now) (g .pre) (owned m .sole-owner .result) (owned m .sole-owner .ensures)
-    (m .mark-good .last .1 .1 .1 .1 .1 .0) (m .mark-good .ensures) (p .place .last .0) (p .place .ensures) (d .attract .result)
+    long₃ (tables g) (g .args .set .now) (g .args .work .now) (g .pre .0) (owned m .sole-owner .result) (owned m .sole-owner .ensures)
+    (m .mark-good .last .1 .1 .1 .1 .1 .1 .0) (m .mark-good .ensures) (p .place .last .0) (p .place .ensures) (d .attract .result)
     (d .attract .last .1 .1 .1 .1 .0) (attracted d)
 
 room :
@@ -72,8 +72,8 @@ room d =
     let p = placed d in
     let m = marked p in
     let g = begun d in
-    copy-fits (tables g) (g .args .set .now) (g .args .work .now) (g .pre) (owned m .sole-owner .result) (owned m .sole-owner .ensures)
-    (m .mark-good .last .1 .1 .1 .1 .1 .0) (m .mark-good .ensures) (p .place .last .0) (p .place .ensures) (d .attract .result)
+    copy-fits (tables g) (g .args .set .now) (g .args .work .now) (g .pre .0) (owned m .sole-owner .result) (owned m .sole-owner .ensures)
+    (m .mark-good .last .1 .1 .1 .1 .1 .1 .0) (m .mark-good .ensures) (p .place .last .0) (p .place .ensures) (d .attract .result)
     (d .attract .last .1 .1 .1 .1 .0) (attracted d)
 
 sole-owner-requires : tie.Need-sole-owner-requires
@@ -111,15 +111,17 @@ add-base-2 c = omega (arith, few (start c))
 
 mark-good-requires : tie.Need-mark-good-requires
 mark-good-requires c κs =
-    let g = start (c .before) in
-    mark-ready (tables g) (g .args .set .now) (g .args .work .now) (g .pre) (c .before .sole-owner .result) (c .before .sole-owner .ensures)
+    let g = start (c .before) in (
+      mark-ready (tables g) (g .args .set .now) (g .args .work .now) (g .pre .0) (c .before .sole-owner .result) (c .before .sole-owner .ensures),
+      g .pre .1,
+    )
 
 place-requires : tie.Need-place-requires
 place-requires c κs =
     let m = c .before .before .before in
     let g = start (owned m) in
-    place-ready (tables g) (g .args .set .now) (g .args .work .now) (g .pre) (owned m .sole-owner .result) (owned m .sole-owner .ensures)
-    (m .mark-good .last .1 .1 .1 .1 .1 .0) (m .mark-good .ensures)
+    place-ready (tables g) (g .args .set .now) (g .args .work .now) (g .pre .0) (owned m .sole-owner .result) (owned m .sole-owner .ensures)
+    (m .mark-good .last .1 .1 .1 .1 .1 .1 .0) (m .mark-good .ensures)
 
 add-attract : tie.Need-add-attract
 add-attract c = omega (arith, few (start (owned (marked (c .before .before .before)))))
@@ -129,8 +131,8 @@ attract-requires c κs =
     let p = c .before .before .before in
     let m = marked p in
     let g = start (owned m) in
-    attract-ready (tables g) (g .args .set .now) (g .args .work .now) (g .pre) (owned m .sole-owner .result) (owned m .sole-owner .ensures)
-    (m .mark-good .last .1 .1 .1 .1 .1 .0) (m .mark-good .ensures) (p .place .last .0) (p .place .ensures)
+    attract-ready (tables g) (g .args .set .now) (g .args .work .now) (g .pre .0) (owned m .sole-owner .result) (owned m .sole-owner .ensures)
+    (m .mark-good .last .1 .1 .1 .1 .1 .1 .0) (m .mark-good .ensures) (p .place .last .0) (p .place .ensures)
 
 add-copy-from : tie.Need-add-copy-from
 add-copy-from c = omega (arith, few (begun (c .before .before .before)))
@@ -159,8 +161,8 @@ copy-from-requires c κs =
     let p = placed d in
     let m = marked p in
     let g = begun d in
-    copy-long (tables g) (g .args .set .now) (g .args .work .now) (g .pre) (owned m .sole-owner .result) (owned m .sole-owner .ensures)
-    (m .mark-good .last .1 .1 .1 .1 .1 .0) (m .mark-good .ensures) (p .place .last .0) (p .place .ensures) (d .attract .result)
+    copy-long (tables g) (g .args .set .now) (g .args .work .now) (g .pre .0) (owned m .sole-owner .result) (owned m .sole-owner .ensures)
+    (m .mark-good .last .1 .1 .1 .1 .1 .1 .0) (m .mark-good .ensures) (p .place .last .0) (p .place .ensures) (d .attract .result)
     (d .attract .last .1 .1 .1 .1 .0) (attracted d)
 
 clear-requires : tie.Need-clear-requires
@@ -179,8 +181,8 @@ returns c =
     let m = marked p in
     let g = begun d in (
       cleared-all (g .args .work .now) (d .attract .last .1 .1 .1 .1 .0) (long d) (c .before .before .clear .ensures),
-      answer-holds (tables g) (g .args .set .now) (g .args .work .now) (g .pre) (owned m .sole-owner .result) (owned m .sole-owner .ensures)
-          (m .mark-good .last .1 .1 .1 .1 .1 .0) (m .mark-good .ensures) (p .place .last .0) (p .place .ensures) (d .attract .result)
+      answer-holds (tables g) (g .args .set .now) (g .args .work .now) (g .pre .0) (owned m .sole-owner .result) (owned m .sole-owner .ensures)
+          (m .mark-good .last .1 .1 .1 .1 .1 .1 .0) (m .mark-good .ensures) (p .place .last .0) (p .place .ensures) (d .attract .result)
           (d .attract .last .1 .1 .1 .1 .0) (attracted d)
           (c .before .before .before .before .before .before .copy-from .last .0) (c .before .before .before .before .before .before .copy-from .ensures),
     )

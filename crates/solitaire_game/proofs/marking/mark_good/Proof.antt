@@ -20,9 +20,9 @@ clear-requires c κs = search needs
 
 build-requires : tie.Need-build-requires
 build-requires c κs =
-    let g = c .before .before .before .before .before .before .before .before .before .before in
+    let g = c .before .before .before .before .before .before .before .before .before .before .before in
     let f1 = c .before .before .before .clear in
-    build-ready (tables g) (g .args .owner) (g .args .work .now) (g .args .row) (g .pre) (f1 .last .0) (f1 .ensures)
+    build-ready (tables g) (g .args .owner) (g .args .work .now) (g .args .row) (g .pre .0) (f1 .last .0) (f1 .ensures)
 
 sub-mark-parity : tie.Need-sub-mark-parity
 sub-mark-parity c = search needs
@@ -35,23 +35,29 @@ part-mark-parity-end c = search needs
 
 mark-parity-requires : tie.Need-mark-parity-requires
 mark-parity-requires c κs =
-    let g = c .before .before .before .before .before .before .before .before .before .before .before .before .before .before .before in
+    let g = c .before .before .before .before .before .before .before .before .before .before .before .before .before .before .before .before in
     let f1 = c .before .before .before .before .before .before .before .before .clear in
-    let f2 = c .before .before .before .before .build in
-    sweep-ready (tables g) (g .args .owner) (g .args .work .now) (g .args .row) (g .pre) (f1 .last .0) (f1 .ensures) (f2 .last .1 .1 .1 .0) (f2 .ensures) []
-    (λ v. refl) _ (omega (arith, g .pre .side))
+    let f2 = c .before .before .before .before .build in (
+      sweep-ready (tables g) (g .args .owner) (g .args .work .now) (g .args .row) (g .pre .0) (f1 .last .0) (f1 .ensures) (f2 .last .1 .1 .1 .0)
+          (f2 .ensures)
+          []
+          (λ v. refl)
+          _
+          (omega (arith, g .pre .0 .side)),
+      g .pre .1,
+    )
 
 same-length : tie.Need-same-length
 same-length c = search needs
 
 returns : tie.Need-returns
 returns c =
-    let g = c .before .before .before .before .before .before .before .before .before .before .before .before .before .before .before .before .before .before in
+    let g = c .before .before .before .before .before .before .before .before .before .before .before .before .before .before .before .before .before .before .before in
     let f1 = c .before .before .before .before .before .before .before .before .before .before .before .clear in
     let f2 = c .before .before .before .before .before .before .before .build in
     let f3 = c .before .before .mark-parity in
-    good-marked (tables g) (g .args .owner) (g .args .work .now) (g .args .row) (g .pre) (f1 .last .0) (f1 .ensures) (f2 .last .1 .1 .1 .0) (f2 .ensures) []
-    (λ v. refl) (f3 .last .1 .1 .1 .1 .1 .0) (f3 .ensures)
+    good-marked (tables g) (g .args .owner) (g .args .work .now) (g .args .row) (g .pre .0) (f1 .last .0) (f1 .ensures) (f2 .last .1 .1 .1 .0) (f2 .ensures) []
+    (λ v. refl) (f3 .last .1 .1 .1 .1 .1 .1 .0) (f3 .ensures)
 
 pub mark-good-spec : {M : Type 1} → statement M
 mark-good-spec =

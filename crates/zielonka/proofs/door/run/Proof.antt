@@ -38,7 +38,7 @@ few :
     let n = length (g .args .owners .now) in
     (n ≤ 4096) × (length (g .args .targets .now) ≤ 16384) × (words n ≤ 64)
 few g =
-    let f = accepted-sound (tables g) (g .pre .accepted) in
+    let f = accepted-sound (tables g) (g .pre .0 .accepted) in
     (f .few-vertices, f .few-edges, words-few (length (g .args .owners .now)) (f .few-vertices))
 
 -- the recursion has ended: where each call before it stands, and the work area then
@@ -79,7 +79,7 @@ found :
 found d =
     let r = ended d in
     let g = start r in
-    run-found (tables g) (g .pre .accepted) (g .args .work .now) (g .pre .room) (first (sized r)) (prepared r .prepare .ensures)
+    run-found (tables g) (g .pre .0 .accepted) (g .args .work .now) (g .pre .0 .room) (first (sized r)) (prepared r .prepare .ensures)
     (ends r (d .before .ran .given .1)) (sized r .set-words .ensures)
 
 set-words-requires : tie.Need-set-words-requires
@@ -113,14 +113,14 @@ prepare-requires : tie.Need-prepare-requires
 prepare-requires c κs =
     let z = c .before in
     let g = began z in
-    run-preparable (tables g) (g .pre .accepted) (g .args .work .now) (g .pre .room) (first z) (z .set-words .ensures)
+    run-preparable (tables g) (g .pre .0 .accepted) (g .args .work .now) (g .pre .0 .room) (first z) (z .set-words .ensures)
 
 zielonka-rec-requires : tie.Need-zielonka-rec-requires
 zielonka-rec-requires c κs =
     let d = c .before .before .before in
     let z = d .before .before in
     let g = began z in
-    run-called (tables g) (g .pre .accepted) (g .args .work .now) (g .pre .room) (first z) (d .prepare .ensures)
+    run-called (tables g) (g .pre .0 .accepted) (g .args .work .now) (g .pre .0 .room) (first z) (d .prepare .ensures) (g .pre .1)
 
 enum-known-ran : tie.Need-enum-known-ran
 enum-known-ran c = search needs
@@ -141,7 +141,7 @@ returns c =
       cleared-all (g .args .work .now) (left r) (kept-long r) (c .before .before .clear .ensures),
       record {
         over =
-            run-over-budget (tables g) (g .pre .accepted) (g .args .work .now) (g .pre .room) (first (sized r))
+            run-over-budget (tables g) (g .pre .0 .accepted) (g .args .work .now) (g .pre .0 .room) (first (sized r))
             (prepared r .prepare .ensures)
             (ends r (c .before .before .before .before .enum-told .given .1));
         same = refl;
@@ -149,7 +149,7 @@ returns c =
     )
 
 mul-write-out : tie.Need-mul-write-out
-mul-write-out c = search needs
+mul-write-out c = let r = ended c in omega (arith, few (start r), sized r .set-words .ensures)
 
 add-write-out : tie.Need-add-write-out
 add-write-out c = let r = ended c in omega (arith, few (start r), sized r .set-words .ensures)
@@ -158,7 +158,7 @@ write-out-requires : tie.Need-write-out-requires
 write-out-requires c κs =
     let d = c .before .before .before .before in
     let g = start (ended d) in
-    found-writable (found d) (g .pre .even-size) (g .pre .odd-size) (g .pre .strategy-size)
+    found-writable (found d) (g .pre .0 .even-size) (g .pre .0 .odd-size) (g .pre .0 .strategy-size)
 
 clear-requires-2 : tie.Need-clear-requires-2
 clear-requires-2 c κs = search needs
@@ -183,8 +183,8 @@ returns-2 c =
     let g = start r in
     let done = ends r (d .before .ran .given .1) in (
       cleared-all (g .args .work .now) (left r) (kept-long r) (c .before .before .clear2 .ensures),
-      found-finished (found d) (g .pre .strategy-size) (written .write-out .ensures)
-          (run-calls (tables g) (g .pre .accepted) (g .args .work .now) (g .pre .room) (first (sized r))
+      found-finished (found d) (g .pre .0 .strategy-size) (written .write-out .ensures)
+          (run-calls (tables g) (g .pre .0 .accepted) (g .args .work .now) (g .pre .0 .room) (first (sized r))
           (prepared r .prepare .ensures)
           done)
           (done .within),

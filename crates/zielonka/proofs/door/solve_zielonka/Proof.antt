@@ -1,20 +1,22 @@
 -- `solve_zielonka` meets its contract: a refusal is returned with nothing written; past the checks the run is done in the first W
 -- words.
 use mathlib.Core.List.{_++_}
-use mathlib.Core.Path.{_≡_, subst}
+use mathlib.Core.Path.{_≡_, subst, _∙_}
 use Prim.Native.Nat.{ℕ, _-_}
 use native.Mathlib.Omega.{arith}
 use lib.ListN.{length, take, drop}
 use Rattle.rules.specs.Counting.{Set}
 use Rattle.rules.specs.Game.{Player}
-use Rattle.rules.specs.Outcome.{none}
+use Rattle.rules.specs.Outcome.{none, outcome, answered}
 use Rattle.rules.specs.Solver.{Lent, solverChecks, Solves}
 use Rattle.rules.specs.Tables.{Tables, gameOf, tablesOf}
 use Rattle.rules.specs.Zielonka.{zielonka}
 use Rattle.theory.specs.Tables.{accepted-sound}
 use Rattle.parity_game.proofs.Matched.{went-on, refusal-not-zero}
+use Rattle.parity_game.specs.Said.{said}
 use Rattle.area.specs.Lent.{work-cleared}
-use Rattle.lent_checks.specs.Checks.{numbered-checks, Passed, checks-passed}
+use Rattle.kept_numbers.specs.Reading.{kept-long, kept-bounds}
+use Rattle.lent_checks.specs.Checks.{past-tables, numbered-checks, Passed, checks-passed}
 use Rattle.solver.specs.declared.ran.Ran.{Ran}
 use Rattle.solver.specs.Running.{outputsOf, Runs, ranOutcome, run-ready, solves-refused, solves-ran}
 use borrow.Author.Needs.{needs}
@@ -39,38 +41,49 @@ won g = zielonka (gameOf (tables g)) .won
 abbrev choice : tie.Start → ℕ → ℕ
 choice g = zielonka (gameOf (tables g)) .entries
 
-abbrev start : tie.Else1 → tie.Start
-start d = d .before .before .before .before .before .before .before .before .before .before .before
+abbrev start : tie.After-check-lent → tie.Start
+start c = c .before .before .before .before .before .before .before .before .before .before
+
+-- 9 and 10 of accepted tables are all the checks
+told : (c : tie.After-check-lent) → said (c .check-lent .result) ≡ outcome (solverChecks (tables (start c)) (lent (start c))) (answered 0)
+told c =
+    let l = lent (start c) in
+    c .check-lent .ensures ∙
+    past-tables (tables (start c)) (start c .pre .accepted) (length (l .even)) (length (l .odd)) (length (l .strategy)) (length (l .work))
+    (answered 0)
+
+abbrev asked : tie.Else1 → tie.After-check-lent
+asked d = d .before .before
 
 -- past the checks
-no-refusal : (d : tie.Else1) → solverChecks (tables (start d)) (lent (start d)) ≡ none
+no-refusal : (d : tie.Else1) → solverChecks (tables (start (asked d))) (lent (start (asked d))) ≡ none
 no-refusal d =
-    let g = start d in
-    let checked = d .before .before .check-all in
-    went-on (checked .result) (solverChecks (tables g) (lent g)) (d .if1 .left) (d .before .number .ensures) (numbered-checks (tables g) (lent g))
-    (checked .ensures)
+    let g = start (asked d) in
+    went-on (asked d .check-lent .result) (solverChecks (tables g) (lent g)) (d .if1 .left) (d .before .number .ensures)
+    (numbered-checks (tables g) (lent g))
+    (told (asked d))
 
 passed :
     (d : tie.Else1) →
-    let l = lent (start d) in
-    Passed (tables (start d)) (length (l .even)) (length (l .odd)) (length (l .strategy)) (length (l .work))
+    let l = lent (start (asked d)) in
+    Passed (tables (start (asked d))) (length (l .even)) (length (l .odd)) (length (l .strategy)) (length (l .work))
 passed d =
-    let l = lent (start d) in
-    checks-passed (tables (start d)) (length (l .even)) (length (l .odd)) (length (l .strategy)) (length (l .work)) (no-refusal d)
+    let l = lent (start (asked d)) in
+    checks-passed (tables (start (asked d))) (length (l .even)) (length (l .odd)) (length (l .strategy)) (length (l .work)) (no-refusal d)
 
 -- what the run left
 abbrev sized : tie.After-run → tie.After-work-words
-sized r = r .before .before .before .before .before
+sized r = r .before .before .before .before .before .before
 
 abbrev began : tie.After-run → tie.Start
-began r = start (sized r .before)
+began r = start (asked (sized r .before))
 
 abbrev words : tie.After-run → ℕ
 words r = sized r .work-words .result
 
 abbrev after : tie.After-run → Lent
 after r =
-    let l = r .run .last .1 .1 .1 .1 .1 in
+    let l = r .run .last .1 .1 .1 .1 .1 .1 in
     let w = began r .args .work .now in
     record {
       even = l .0;
@@ -93,27 +106,34 @@ solved r {x} e =
     (no-refusal (sized r .before))
     (subst (Runs (a .budget) (tables g) (calls g) (won g) (choice g) (outputsOf (lent g)) (outputsOf (after r))) e
     (r .run .ensures .1))
-    (work-cleared (tables g) (words r) (a .work .now) (r .run .last .1 .1 .1 .1 .1 .1 .1 .1 .0)
+    (work-cleared (tables g) (words r) (a .work .now) (r .run .last .1 .1 .1 .1 .1 .1 .1 .1 .1 .0)
     (sized r .work-words .ensures)
     (passed (sized r .before) .work-size)
     (r .run .ensures .0))
 
-check-all-requires : tie.Need-check-all-requires
-check-all-requires c κs = search needs
+check-lent-requires : tie.Need-check-lent-requires
+check-lent-requires c κs =
+    let g = c .before .before .before .before .before .before .before .before .before in
+    let f = accepted-sound (tables g) (g .pre .accepted) in
+    (f .few-vertices, f .few-edges)
 
 number-requires : tie.Need-number-requires
 number-requires c κs = search needs
 
 returns : tie.Need-returns
 returns c =
-    let g = c .before .before .before .before .before .before .before .before .before .before .before in
+    let checked = c .before .before in
+    let g = start checked in
     solves-refused (g .args .budget) (tables g) (calls g) (won g) (choice g) (lent g) _
-    (c .before .before .check-all .ensures)
-    (refusal-not-zero (c .before .before .check-all .result) (c .if1 .taken) (c .before .number .ensures))
+    (told checked)
+    (refusal-not-zero (checked .check-lent .result) (c .if1 .taken) (c .before .number .ensures))
 
 work-words-requires : tie.Need-work-words-requires
 work-words-requires c κs =
-    let f = accepted-sound (tables (start c)) (passed c .accepted) in (f .few-vertices, f .few-edges)
+    let f = accepted-sound (tables (start (asked c))) (passed c .accepted) in (f .few-vertices, f .few-edges)
+
+shared-slice-read-top : tie.Need-shared-slice-read-top
+shared-slice-read-top c = omega (arith, kept-long (start (asked (c .before .before)) .pre))
 
 sub-run : tie.Need-sub-run
 sub-run c = search needs
@@ -123,15 +143,17 @@ part-run-start c = search needs
 
 part-run-end : tie.Need-part-run-end
 part-run-end c =
-    let w = c .before .before .before in omega (arith, passed (w .before) .work-size, w .work-words .ensures)
+    let w = c .before .before .before .before in omega (arith, passed (w .before) .work-size, w .work-words .ensures)
 
 run-requires : tie.Need-run-requires
 run-requires c κs =
-    let w = c .before .before .before .before in
-    let g = start (w .before) in
-    let l = lent g in
-    run-ready (tables g) (w .work-words .result) (l .even) (l .odd) (l .strategy) (l .work) (w .work-words .ensures)
-    (passed (w .before))
+    let w = c .before .before .before .before .before in
+    let g = start (asked (w .before)) in
+    let l = lent g in (
+      run-ready (tables g) (w .work-words .result) (l .even) (l .odd) (l .strategy) (l .work) (w .work-words .ensures)
+          (passed (w .before)),
+      kept-bounds (g .pre),
+    )
 
 enum-known-ran : tie.Need-enum-known-ran
 enum-known-ran c = search needs
@@ -176,10 +198,11 @@ pub solve-zielonka-spec : {M : Type 1} → statement M
 solve-zielonka-spec =
     tie.close
     (tie.spec
-    check-all-requires
+    check-lent-requires
     number-requires
     returns
     work-words-requires
+    shared-slice-read-top
     sub-run
     part-run-start
     part-run-end

@@ -29,6 +29,7 @@ use Rattle.sets.proofs.clear.Reads as clear-reads
 use Rattle.sets.proofs.is_empty.Reads as is-empty-reads
 use Rattle.zielonka_level.proofs.get_highest_prio.Reads as get-highest-prio-reads
 use Rattle.zielonka_level.proofs.attract_highest.Reads as attract-highest-reads
+use Rattle.zielonka_level.proofs.one_less.Reads as one-less-reads
 use Rattle.zielonka_level.proofs.attract_lost.Reads as attract-lost-reads
 use Rattle.zielonka_level.proofs.join.Reads as join-reads
 use Rattle.zielonka_level.proofs.lost_nothing.Reads as lost-nothing-reads
@@ -58,6 +59,8 @@ cs t = (
   get-highest-prio-reads.Learnt,
   attract-highest-reads.Asked,
   attract-highest-reads.Learnt,
+  one-less-reads.Asked,
+  one-less-reads.Learnt,
   below t,
   own.Post,
   lost-nothing-reads.Asked,
@@ -91,7 +94,7 @@ module _ (t : ℕ) where
 
   -- and on from there
   abbrev after-cut : At lts.After-zielonka-rec → At lts.After-attract-highest
-  after-cut c = c .before .before .before .before
+  after-cut c = c .before .before .before .before .before
 
   abbrev after-first : At lts.After-known-told → At lts.After-zielonka-rec
   after-first c = c .before .before .before .before .before
@@ -144,7 +147,7 @@ module _ (t : ℕ) where
 
   -- there is room for the level
   fits : (c : At lts.After-set-words) → let a = start-of c .args in a .base + 4 * c .set-words .result ≤ length (a .work .now)
-  fits c = level-fits (start-of c .pre .1) (c .set-words .ensures)
+  fits c = level-fits (start-of c .pre .1 .called) (c .set-words .ensures)
 
   -- V has a member
   member :
@@ -154,7 +157,7 @@ module _ (t : ℕ) where
   member c =
       let tested = after-test c in
       let sized = after-words tested in
-      level-some (start-of sized .pre .1) (sized .set-words .ensures) (tested .is-empty .ensures)
+      level-some (start-of sized .pre .1 .called) (sized .set-words .ensures) (tested .is-empty .ensures)
       (c .before .before .before .if2 .left)
 
   -- the first cut is made
@@ -162,7 +165,7 @@ module _ (t : ℕ) where
       (c : At lts.After-attract-highest) →
       Begun (tables (start c)) (size c) (start c .args .base) (top c) (work₀ c) (work₁ c)
   begun c =
-      let called = start c .pre .1 in
+      let called = start c .pre .1 .called in
       let sized = after-words (after-test (after-highest c)) .set-words .ensures in
       let (v, q) = member (after-highest c) in
       record {
@@ -177,7 +180,7 @@ module _ (t : ℕ) where
   FirstEnds c =
       let d = after-cut c in
       let a = start d .args in
-      Ends (tables (start d)) (a .base + 4 * size d) (a .calls + 1) (a .budget) (work₁ d) (work₂ c)
+      Ends (tables (start d)) (a .base + 4 * size d) (a .calls + 1) (a .cap) (work₁ d) (work₂ c)
 
   first-ends : (c : At lts.After-zielonka-rec) {r : Ran} → c .zielonka-rec .result ≡ r → FirstEnds c r
   first-ends c e = subst (FirstEnds c) e (c .zielonka-rec .ensures)
@@ -187,7 +190,7 @@ module _ (t : ℕ) where
       (c : At lts.After-known-told) →
       let d = after-cut (after-first c) in
       let a = start d .args in
-      Came (tables (start d)) (size d) (a .base) (top d) (a .calls) (a .budget) (made c)
+      Came (tables (start d)) (size d) (a .base) (top d) (a .calls) (a .cap) (made c)
       (work₀ d) (work₁ d) (work₂ (after-first c))
   came c =
       let first = after-first c in begun-came (begun (after-cut first)) (first-ends first (c .before .first .given .1))
@@ -198,12 +201,12 @@ module _ (t : ℕ) where
       let told = after-told c in
       let d = first-cut c in
       let a = start d .args in
-      Lost (tables (start d)) (size d) (a .base) (top d) (a .calls) (a .budget) (made told)
+      Lost (tables (start d)) (size d) (a .base) (top d) (a .calls) (a .cap) (made told)
       (work₀ d) (work₁ d) (work₂ (after-first told)) (work₃ c)
   lost c =
       let g = start (first-cut c) in
       came-lost (came (after-told c)) (c .before .before .before .lost-nothing .ensures) (c .before .before .if3 .left)
-      (c .attract-lost .ensures (g .args .priorities .now) (g .pre .1 .accepted))
+      (c .attract-lost .ensures (g .args .priorities .now) (g .pre .1 .called .accepted))
 
   -- the second nested call has ended, by what it gave
   abbrev SecondEnds : At lts.After-zielonka-rec2 → Ran → Type 0
@@ -211,13 +214,13 @@ module _ (t : ℕ) where
       let l = after-second-cut c in
       let d = first-cut l in
       let a = start d .args in
-      Ends (tables (start d)) (a .base + 4 * size d) (made (after-told l)) (a .budget) (work₃ l) (work₄ c)
+      Ends (tables (start d)) (a .base + 4 * size d) (made (after-told l)) (a .cap) (work₃ l) (work₄ c)
 
   second-ends : (c : At lts.After-zielonka-rec2) {r : Ran} → c .zielonka-rec2 .result ≡ r → SecondEnds c r
   second-ends c e = subst (SecondEnds c) e (c .zielonka-rec2 .ensures)
 
   returns : At lts.Need-returns
-  returns c = over-first (c .before .before .before .before .before .before .pre .1) (c .if1 .taken)
+  returns c = over-first (c .before .before .before .before .before .before .pre .1 .called) (c .if1 .taken)
 
   set-words-requires : At lts.Need-set-words-requires
   set-words-requires c κs = search needs
@@ -252,8 +255,8 @@ module _ (t : ℕ) where
   clear-requires : At lts.Need-clear-requires
   clear-requires c κs = omega (arith, fits (after-words (c .before .before)))
 
-  add-t30 : At lts.Need-add-t30
-  add-t30 c = search needs
+  add-t31 : At lts.Need-add-t31
+  add-t31 c = search needs
 
   same-length : At lts.Need-same-length
   same-length c = search needs
@@ -262,7 +265,7 @@ module _ (t : ℕ) where
   returns-2 c =
       let tested = c .before .before .before .before .before in
       let sized = after-words tested in
-      let called = start-of sized .pre .1 in
+      let called = start-of sized .pre .1 .called in
       let s = sized .set-words .ensures in
       empty-done called s (level-empty called s (tested .is-empty .ensures) (c .before .before .before .before .if2 .taken))
       (sized .before .if1 .left)
@@ -285,13 +288,15 @@ module _ (t : ℕ) where
 
   get-highest-prio-requires : At lts.Need-get-highest-prio-requires
   get-highest-prio-requires c κs =
-      let sized = after-words (c .before .before .before) in highest-given (start-of sized .pre .1) (sized .set-words .ensures)
+      let sized = after-words (c .before .before .before) in
+      let given = start-of sized .pre .1 in
+      highest-given (given .called) (sized .set-words .ensures) (given .under)
 
   attract-highest-requires : At lts.Need-attract-highest-requires
   attract-highest-requires c κs =
       let sized = after-words (after-test (c .before)) in
       let (v, q) = member (c .before) in
-      member-ready (start-of sized .pre .1) (sized .set-words .ensures) v q
+      member-ready (start-of sized .pre .1 .called) (sized .set-words .ensures) v q
 
   mul-up : At lts.Need-mul-up
   mul-up c = search needs
@@ -299,12 +304,17 @@ module _ (t : ℕ) where
   add-up : At lts.Need-add-up
   add-up c = search needs
 
+  one-less-requires : At lts.Need-one-less-requires
+  one-less-requires c κs = search needs
+
   add-zielonka-rec : At lts.Need-add-zielonka-rec
   add-zielonka-rec c = search needs
 
   zielonka-rec-requires : At lts.Need-zielonka-rec-requires
   zielonka-rec-requires c κs =
-      let d = c .before .before .before in (omega (arith, begun-less (begun d), start d .pre .0), begun-called (begun d))
+      let d = c .before .before .before .before in
+      let called = begun-called (begun d) in
+      (omega (arith, begun-less (begun d), start d .pre .0), rw (c .one-less .ensures) called)
 
   enum-known-first : At lts.Need-enum-known-first
   enum-known-first c = search needs
@@ -319,7 +329,7 @@ module _ (t : ℕ) where
   returns-3 c =
       let first = c .before .before .before .before in
       let a = start (after-cut first) .args in
-      begun-over (begun (after-cut first)) (a .calls) (a .budget) (first-ends first (c .enum-told .given .1))
+      begun-over (begun (after-cut first)) (a .calls) (a .cap) (first-ends first (c .enum-told .given .1))
 
   lost-nothing-requires : At lts.Need-lost-nothing-requires
   lost-nothing-requires c κs = omega (arith, came-ready (came (c .before)) .high)
@@ -403,7 +413,7 @@ pub +zielonka-rec-spec : {M : Type 1} → statement M
     (add-clear t)
     (mul-clear-2 t)
     (clear-requires t)
-    (add-t30 t)
+    (add-t31 t)
     (same-length t)
     (returns-2 t)
     (add-get-highest-prio t)
@@ -415,6 +425,7 @@ pub +zielonka-rec-spec : {M : Type 1} → statement M
     (attract-highest-requires t)
     (mul-up t)
     (add-up t)
+    (one-less-requires t)
     (add-zielonka-rec t)
     (zielonka-rec-requires t)
     (enum-known-first t)

@@ -1,0 +1,2 @@
+-- The demands, of the doors' own contracts.
+pub mod Demands

@@ -1,0 +1,3 @@
+-- The kept numbers beside tables that were read, and 9 and 10 of a call that writes them.
+pub mod Beside
+pub mod Rooms
