@@ -1,5 +1,6 @@
 -- Where things stand in the work area of a game of n vertices and m edges: the predecessor table, then a counter, a distance and
--- an entry for each vertex, then the attractor's two layers; from `free` on, sets and whatever a solver keeps.
+-- an entry for each vertex, then the attractor's two layers and the set of those it met; from `free` on, sets and whatever a
+-- solver keeps.
 use mathlib.Core.List.{List}
 use Prim.Native.Nat.{ℕ, _+_, _*_}
 use lib.ListN.{take, drop, getD}
@@ -23,8 +24,12 @@ layers n m = entries n m + n
 abbrev pub layerWords : ℕ → ℕ
 layerWords n = words n + 1
 
+-- the vertices whose counter was made
+abbrev pub metAt : ℕ → ℕ → ℕ
+metAt n m = layers n m + 2 * layerWords n
+
 abbrev pub free : ℕ → ℕ → ℕ
-free n m = layers n m + 2 * layerWords n
+free n m = metAt n m + words n
 
 -- the words of a set of n vertices that stands at a base
 abbrev pub wordsAt : ℕ → ℕ → List ℕ → List ℕ

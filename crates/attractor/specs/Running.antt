@@ -23,12 +23,13 @@ use Rattle.theory.specs.AttractorSteps.{takes-then, steps-members, steps-looks}
 use Rattle.theory.specs.Tables.{accepted-total}
 use Rattle.predecessors.specs.Table.{start, row}
 use Rattle.sets.specs.Laws.{other-bit}
-use Rattle.area.specs.Area.{counters, distances, entries, layers, layerWords, free, setAt, wordsAt, entryAt, distanceAt}
+use Rattle.area.specs.Area.{counters, distances, entries, layers, layerWords, metAt, free, setAt, wordsAt, entryAt}
+use Rattle.area.specs.Area.{distanceAt}
 use Rattle.area.specs.Lent.{back, back-part, part-length, set-alike, slice-alike}
 use Rattle.area.specs.Walked.{Beside}
 use Rattle.layer.specs.Layer.{Layer, Poppable, Popped, inLayer, room, marks}
 use Rattle.layer.specs.Laws.{unmarked-empty}
-use Rattle.attractor_counters.specs.Counters.{ownBy}
+use Rattle.attractor_counters.specs.Counters.{ownBy, insideCount}
 use Rattle.theory.specs.AttractorBasics.{countOf}
 use Rattle.attractor_step.specs.State.{State, looked}
 use Rattle.attractor_step.specs.Growth.{Mark}
@@ -36,9 +37,9 @@ use Rattle.attractor_step.specs.Looks.{Safe, onward-looked}
 use Rattle.attractor_step.specs.Taking.{Standing, Ready, Row, andOne, growing, taking-safe, taking-stands}
 use Rattle.attractor_step.specs.Layers.{takenOf, butOne, neither, Parts, parts-onward}
 use Rattle.attractor_step.specs.Layers.{taken-onward, Layered, layered-more, layered-turn, taken-turn}
-use Rattle.attractor_step.specs.View.{cells, layerAt, stateAt, Placed, Room}
+use Rattle.attractor_step.specs.View.{cells, layerAt, stateAt, Placed, Room, Becomes}
 use Rattle.attractor_step.specs.Views.{cells-at, cells-alike, Changes, back-changes, changes-cells}
-use Rattle.attractor_step.specs.Views.{changes-set, changes-layer, state-alike, layer-part, layer-long}
+use Rattle.attractor_step.specs.Views.{changes-set, changes-layer, changes-counter, state-alike, layer-part, layer-long}
 use Rattle.attractor_step.specs.TakeLoop.{Takeable, Took, row-length}
 use Rattle.attractor.specs.Attracted.{Attractable, Attracted, Listed, listed-kept, listed-row, owned}
 
@@ -51,8 +52,13 @@ Sides n m this next =
 abbrev pub nowAt : ℕ → ℕ → List ℕ → Set
 nowAt n this work = inLayer (layerAt n this work)
 
-abbrev pub takenAt : ℕ → ℕ → ℕ → ℕ → ℕ → List ℕ → Set
-takenAt n m set this next work = takenOf (nowAt n this work) (stateAt n m set next work)
+abbrev pub takenAt : ℕ → ℕ → ℕ → ℕ → List ℕ → Set
+takenAt n set this next work u = setAt n set work u && not (nowAt n this work u || nowAt n next work u)
+
+-- the state, with the counters of those not met yet by V as it was lent
+abbrev pub stateIn : List ℕ → List ℕ → List ℕ → ℕ → ℕ → List ℕ → ℕ → List ℕ → State
+stateIn owners offsets targets within set before next after =
+    stateAt (insideCount offsets targets (setAt (length owners) within before)) (length owners) (length targets) set next after
 
 -- while a layer is taken: every game of these tables has come here by the rules' steps, layer by layer
 pub record Going (owners offsets targets : List ℕ) (alpha within set : ℕ) (before : List ℕ) (this next far looks : ℕ)
@@ -65,12 +71,12 @@ pub record Going (owners offsets targets : List ℕ) (alpha within set : ℕ) (b
   pub sides : Sides (length owners) (length targets) this next
   pub layer : Layer (layerAt (length owners) this after)
   pub next-layer : Layer (layerAt (length owners) next after)
-  pub parts : Parts (nowAt (length owners) this after) (stateAt (length owners) (length targets) set next after)
+  pub parts : Parts (nowAt (length owners) this after) (stateIn owners offsets targets within set before next after)
   pub stands :
       let n = length owners in
       Standing n (targetsOf offsets targets) (setAt n within before) (setAt n set before) (ownBy owners alpha)
-      (takenAt n (length targets) set this next after) (stateAt n (length targets) set next after)
-  pub few : looks ≤ 16384 * count (length owners) (takenAt (length owners) (length targets) set this next after)
+      (takenAt n set this next after) (stateIn owners offsets targets within set before next after)
+  pub few : looks ≤ 16384 * count (length owners) (takenAt (length owners) set this next after)
   pub far-some : 1 ≤ far
   pub run :
       let n = length owners in
@@ -78,16 +84,16 @@ pub record Going (owners offsets targets : List ℕ) (alpha within set : ℕ) (b
       Accepted (tablesOf owners priorities offsets targets) →
       Takes (gameOf (tablesOf owners priorities offsets targets)) (playerOf alpha) (setAt n within before)
       (atFirst (setAt n set before))
-      (growing (takenAt n (length targets) set this next after) looks (stateAt n (length targets) set next after)) ×
+      (growing (takenAt n set this next after) looks (stateIn owners offsets targets within set before next after)) ×
       Layered (gameOf (tablesOf owners priorities offsets targets)) (playerOf alpha) (setAt n within before) (setAt n set before)
       (ownBy owners alpha) (cells n (entries n (length targets)) before) (far - 1) (nowAt n this after)
-      (stateAt n (length targets) set next after)
+      (stateIn owners offsets targets within set before next after)
 
 -- before each member is taken: where this layer is empty, so is the next
 pub record Running (owners offsets targets : List ℕ) (alpha within set : ℕ) (before : List ℕ) (this next far looks : ℕ)
     (after : List ℕ) : Type 0 where
   pub going : Going owners offsets targets alpha within set before this next far looks after
-  pub deep : far ≤ count (length owners) (takenAt (length owners) (length targets) set this next after) + 1
+  pub deep : far ≤ count (length owners) (takenAt (length owners) set this next after) + 1
   pub last : marks (layerAt (length owners) this after) ≡ 0 → (u : ℕ) → nowAt (length owners) next after u ≡ false
 
 -- the marks of a layer, as they are read
@@ -118,6 +124,9 @@ module _ (owners offsets targets : List ℕ) (alpha within set : ℕ) (before : 
   abbrev own : Set
   own = ownBy owners alpha
 
+  abbrev counts : ℕ → ℕ
+  counts = insideCount offsets targets V'
+
   abbrev entry : ℕ → ℕ
   entry = cells n (entries n m) before
 
@@ -130,21 +139,21 @@ module _ (owners offsets targets : List ℕ) (alpha within set : ℕ) (before : 
   module _ (this next far looks : ℕ) (after : List ℕ)
       (c : Going owners offsets targets alpha within set before this next far looks after) where
     abbrev state : State
-    state = stateAt n m set next after
+    state = stateAt counts n m set next after
 
     abbrev now : Set
     now = nowAt n this after
 
     abbrev taken : Set
-    taken = takenAt n m set this next after
+    taken = takenAt n set this next after
 
-    this-high : this + layerWords n ≤ free n m
+    this-high : this + layerWords n ≤ metAt n m
     this-high = ⊎-elim (λ e. omega (arith, e .0)) (λ e. omega (arith, e .0)) (c .sides)
 
     this-low : layers n m ≤ this
     this-low = ⊎-elim (λ e. omega (arith, e .0)) (λ e. omega (arith, e .0)) (c .sides)
 
-    next-high : next + layerWords n ≤ free n m
+    next-high : next + layerWords n ≤ metAt n m
     next-high = ⊎-elim (λ e. omega (arith, e .1)) (λ e. omega (arith, e .1)) (c .sides)
 
     next-low : layers n m ≤ next
@@ -189,11 +198,11 @@ module _ (owners offsets targets : List ℕ) (alpha within set : ℕ) (before : 
         mid-layer : layerAt n this mid ≡ ys
         mid-layer = ap (λ (l : List ℕ). layerAt n this l) is-back ∙ back-part this (layerWords n) after ys layer-fits ys-long
 
-        mid-state : stateAt n m set next mid ≡ state
+        mid-state : stateAt counts n m set next mid ≡ state
         mid-state =
             state-alike
             (changes-set mid-changes n set (inr (omega (arith, this-high, given .placed .set-low))))
-            (changes-cells mid-changes n (counters n m) (inl (omega (arith, this-low))))
+            (changes-counter mid-changes counts n m (inl (omega (arith, this-low))) (inr this-high))
             (changes-cells mid-changes n (distances n m) (inl (omega (arith, this-low))))
             (changes-cells mid-changes n (entries n m) (inl (omega (arith, this-low))))
             (ap inLayer mid-next)
@@ -275,10 +284,11 @@ module _ (owners offsets targets : List ℕ) (alpha within set : ℕ) (before : 
         mid-next-layer =
             subst Layer (sym (changes-layer mid-changes n next (⊎-elim (λ l. inr l) (λ l. inl l) layers-apart))) (c .next-layer)
 
-        pub take-ready : Takeable owners m s alpha within set next mid w far
+        pub take-ready : Takeable owners offsets targets s alpha within set next mid w far
         take-ready =
             record {
               size = size;
+              edges = given .edges;
               placed =
                   record {
                     within-low = given .placed .within-low;
@@ -296,7 +306,9 @@ module _ (owners offsets targets : List ℕ) (alpha within set : ℕ) (before : 
                   subst
                   (λ (S : Set).
                   (k : ℕ) → k < length (row n mid w) →
-                  Safe n S own (looked S own w far (take k (row n mid w)) (stateAt n m set next mid)) (getD (row n mid w) k 0))
+                  Safe n S own
+                  (looked S own w far (take k (row n mid w)) (stateAt (insideCount offsets targets S) n m set next mid))
+                  (getD (row n mid w) k 0))
                   (sym inside-mid)
                   (subst
                   (λ (x : State).
@@ -307,25 +319,30 @@ module _ (owners offsets targets : List ℕ) (alpha within set : ℕ) (before : 
             }
 
         -- and its row is looked at
-        module _ (fin : List ℕ) (took : Took owners m alpha within set next w far mid fin) where
+        module _ (fin : List ℕ) (took : Took owners offsets targets alpha within set next w far mid fin) where
           abbrev later : State
           later = looked V' own w far (row n mid w) state
 
-          fin-state : stateAt n m set next fin ≡ later
-          fin-state =
-              took .becomes .state ∙
-              ap (λ (S : Set). looked S own w far (row n mid w) (stateAt n m set next mid)) inside-mid ∙
-              ap (looked V' own w far (row n mid w)) mid-state
+          becomes : Becomes counts n m set next (looked V' own w far (row n mid w)) mid fin
+          becomes =
+              subst
+              (λ (S : Set). Becomes (insideCount offsets targets S) n m set next (looked S own w far (row n mid w)) mid fin)
+              inside-mid
+              (took .becomes)
+
+          fin-state : stateAt counts n m set next fin ≡ later
+          fin-state = becomes .state ∙ ap (looked V' own w far (row n mid w)) mid-state
 
           fin-layer : layerAt n this fin ≡ layerAt n this mid
           fin-layer =
-              slice-alike (layerWords n) this mid fin (took .becomes .kept .long)
+              slice-alike (layerWords n) this mid fin (becomes .kept .long)
               (λ i l.
-              took .becomes .kept .rest (this + i)
+              becomes .kept .rest (this + i)
               (inr (
                 omega (arith, this-low),
                 inl (omega (arith, this-high, given .placed .set-low)),
                 ⊎-elim (λ h. inl (omega arith)) (λ h. inr (omega arith)) layers-apart,
+                inl (omega (arith, this-high)),
               )))
 
           fin-now : nowAt n this fin ≡ butOne w now
@@ -334,11 +351,13 @@ module _ (owners offsets targets : List ℕ) (alpha within set : ℕ) (before : 
           later-taken : takenOf (butOne w now) later ≡ andOne w taken
           later-taken = fun-ext (taken-onward (onward-looked V' own w far (row n mid w) state) (c .parts) (popped .member))
 
-          fin-taken : takenAt n m set this next fin ≡ andOne w taken
+          fin-taken : takenAt n set this next fin ≡ andOne w taken
           fin-taken =
-              ap (λ (N : Set). takenOf N (stateAt n m set next fin)) fin-now ∙ ap (takenOf (butOne w now)) fin-state ∙ later-taken
+              ap (λ (N : Set). takenOf N (stateAt counts n m set next fin)) fin-now ∙
+              ap (takenOf (butOne w now)) fin-state ∙
+              later-taken
 
-          pub taken-grows : count n taken < count n (takenAt n m set this next fin)
+          pub taken-grows : count n taken < count n (takenAt n set this next fin)
           taken-grows =
               subst (λ (S : Set). count n taken < count n S) (sym fin-taken)
               (count-strict n taken (andOne w taken) (λ u l p. or-left (taken u) _ p) w next-small fresh
@@ -349,10 +368,10 @@ module _ (owners offsets targets : List ℕ) (alpha within set : ℕ) (before : 
 
           -- what holds of the state that was made holds of the one that stands there
           moved : (P : Set → Set → State → Type 0) → P (butOne w now) (andOne w taken) later → P (nowAt n this fin)
-              (takenAt n m set this next fin) (stateAt n m set next fin)
+              (takenAt n set this next fin) (stateAt counts n m set next fin)
           moved P p =
-              subst (λ (N : Set). P N (takenAt n m set this next fin) (stateAt n m set next fin)) (sym fin-now)
-              (subst (λ (X : Set). P (butOne w now) X (stateAt n m set next fin)) (sym fin-taken)
+              subst (λ (N : Set). P N (takenAt n set this next fin) (stateAt counts n m set next fin)) (sym fin-now)
+              (subst (λ (X : Set). P (butOne w now) X (stateAt counts n m set next fin)) (sym fin-taken)
               (subst (P (butOne w now) (andOne w taken)) (sym fin-state) p))
 
           pub going-more : Going owners offsets targets alpha within set before this next far (looks + (start mid (w + 1)
@@ -360,16 +379,16 @@ module _ (owners offsets targets : List ℕ) (alpha within set : ℕ) (before : 
           unfolding gameOf
           going-more =
               record {
-                long = took .becomes .kept .long ∙ mid-long;
-                table = λ i l. took .becomes .kept .rest i (inl l) ∙ mid-table i l;
+                long = becomes .kept .long ∙ mid-long;
+                table = λ i l. becomes .kept .rest i (inl l) ∙ mid-table i l;
                 rest =
                     λ i l o.
-                    took .becomes .kept .rest i (inr (omega arith, o, inr (omega (arith, next-high)))) ∙
+                    becomes .kept .rest i (inr (omega arith, o, inr (omega (arith, next-high)), inr (omega arith))) ∙
                     mid-changes .rest i (inr (omega (arith, this-high))) ∙
                     c .rest i l o;
                 sides = c .sides;
                 layer = subst Layer (sym (fin-layer ∙ mid-layer)) (popped .layer);
-                next-layer = took .becomes .layer mid-next-layer;
+                next-layer = becomes .layer mid-next-layer;
                 parts =
                     moved (λ (N X : Set) (x : State). Parts N x)
                     (parts-onward (onward-looked V' own w far (row n mid w) state) (c .parts) (popped .member));
@@ -382,38 +401,48 @@ module _ (owners offsets targets : List ℕ) (alpha within set : ℕ) (before : 
               runs :
                   (priorities : List ℕ) (ok : Accepted (tablesOf owners priorities offsets targets)) →
                   Takes (gameOf (tablesOf owners priorities offsets targets)) (playerOf alpha) V' (atFirst T)
-                  (growing (takenAt n m set this next fin) (looks + (start mid (w + 1) - start mid w)) (stateAt n m set next fin))
+                  (growing (takenAt n set this next fin) (looks + (start mid (w + 1) - start mid w))
+                  (stateAt counts n m set next fin))
               runs priorities ok =
                   let g = gameOf (tablesOf owners priorities offsets targets) in
                   let a = playerOf alpha in
                   takes-then (c .run priorities ok .0)
                   (subst
                   (λ (X : Set). TakesOne g a V' (growing taken looks state) (growing X (looks + (start mid (w + 1)
-                  - start mid w)) (stateAt n m set next fin)))
+                  - start mid w)) (stateAt counts n m set next fin)))
                   (sym fin-taken)
                   (subst
                   (λ (k : ℕ). TakesOne g a V' (growing taken looks state) (growing (andOne w taken) (looks + k)
-                  (stateAt n m set next fin)))
+                  (stateAt counts n m set next fin)))
                   row-is
                   (subst
                   (λ (x : State). TakesOne g a V' (growing taken looks x) (growing (andOne w taken) (looks + length
-                  (row n mid w)) (stateAt n m set next fin)))
+                  (row n mid w)) (stateAt counts n m set next fin)))
                   mid-state
                   (subst
                   (λ (S : Set).
-                  TakesOne g a S (growing taken looks (stateAt n m set next mid)) (growing (andOne w taken) (looks + length
-                  (row n mid w)) (stateAt n m set next fin)))
+                  TakesOne g a S (growing taken looks (stateAt (insideCount offsets targets S) n m set next mid))
+                  (growing (andOne w taken) (looks + length (row n mid w))
+                  (stateAt (insideCount offsets targets S) n m set next fin)))
                   inside-mid
                   (took .step g a T taken looks (owned owners offsets targets alpha (given .side) priorities ok)
-                  (subst (λ (S : Set). Standing n (targetsOf offsets targets) S T own taken (stateAt n m set next mid))
+                  (subst
+                  (λ (S : Set).
+                  Standing n (targetsOf offsets targets) S T own taken
+                  (stateAt (insideCount offsets targets S) n m set next mid))
                   (sym inside-mid)
                   (subst (Standing n (targetsOf offsets targets) V' T own taken) (sym mid-state) (c .stands)))
-                  (subst (Ready n (targetsOf offsets targets) taken w (row n mid w)) (sym mid-state) ready))))))
+                  (subst
+                  (λ (S : Set).
+                  Ready n (targetsOf offsets targets) taken w (row n mid w)
+                  (stateAt (insideCount offsets targets S) n m set next mid))
+                  (sym inside-mid)
+                  (subst (Ready n (targetsOf offsets targets) taken w (row n mid w)) (sym mid-state) ready)))))))
 
               lays :
                   (priorities : List ℕ) (ok : Accepted (tablesOf owners priorities offsets targets)) →
                   Layered (gameOf (tablesOf owners priorities offsets targets)) (playerOf alpha) V' T own entry (far - 1)
-                  (nowAt n this fin) (stateAt n m set next fin)
+                  (nowAt n this fin) (stateAt counts n m set next fin)
               lays priorities ok =
                   let g = gameOf (tablesOf owners priorities offsets targets) in
                   let a = playerOf alpha in
@@ -431,7 +460,7 @@ module _ (owners offsets targets : List ℕ) (alpha within set : ℕ) (before : 
     layer-done : getD after (this + words n) 0 ≡ 0 → (u : ℕ) → now u ≡ false
     layer-done z = unmarked-empty (layerAt n this after) (c .layer) (marks-read ∙ z)
 
-    pub turned : getD after (this + words n) 0 ≡ 0 → takenAt n m set next this after ≡ taken
+    pub turned : getD after (this + words n) 0 ≡ 0 → takenAt n set next this after ≡ taken
     turned z =
         fun-ext
         (λ u.
@@ -483,11 +512,11 @@ module _ (owners offsets targets : List ℕ) (alpha within set : ℕ) (before : 
                       let g = gameOf (tablesOf owners priorities offsets targets) in
                       let a = playerOf alpha in (
                         subst
-                            (λ (S : Set). Takes g a V' (atFirst T) (growing S looks (stateAt n m set this after)))
+                            (λ (S : Set). Takes g a V' (atFirst T) (growing S looks (stateAt counts n m set this after)))
                             (sym (turned z))
                             (c .run priorities ok .0),
                         subst
-                            (λ (k : ℕ). Layered g a V' T own entry k (nowAt n next after) (stateAt n m set this after))
+                            (λ (k : ℕ). Layered g a V' T own entry k (nowAt n next after) (stateAt counts n m set this after))
                             same-far
                             (turn-lays priorities ok),
                       );
@@ -502,11 +531,11 @@ module _ (owners offsets targets : List ℕ) (alpha within set : ℕ) (before : 
           turn-lays :
               (priorities : List ℕ) (ok : Accepted (tablesOf owners priorities offsets targets)) →
               Layered (gameOf (tablesOf owners priorities offsets targets)) (playerOf alpha) V' T own entry (suc (far - 1))
-              (nowAt n next after) (stateAt n m set this after)
+              (nowAt n next after) (stateAt counts n m set this after)
           turn-lays priorities ok =
               layered-turn (gameOf (tablesOf owners priorities offsets targets)) (playerOf alpha) V' T own (fits priorities ok)
               (omega (arith, given .edges .few-vertices)) (owned owners offsets targets alpha (given .side) priorities ok)
-              entry (far - 1) now state (c .stands) (c .run priorities ok .1) (layer-done z) (stateAt n m set this after)
+              entry (far - 1) now state (c .stands) (c .run priorities ok .1) (layer-done z) (stateAt counts n m set this after)
               refl refl refl (layer-done z)
 
     -- no member is left

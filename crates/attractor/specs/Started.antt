@@ -1,7 +1,7 @@
 -- From what `attract` asks for to what holds where its loop begins: nothing is taken and no entry was met.
 use mathlib.Core.Bool.{Bool, true, false, _&&_, _||_, not}
 use mathlib.Core.List.{List}
-use mathlib.Core.Logic.{_⊎_, inl, inr, ⊎-elim}
+use mathlib.Core.Logic.{_⊎_, inl, inr}
 use mathlib.Core.Path.{_≡_, refl, sym, ap, ap₂, subst, fun-ext, _∙_}
 use Prim.Native.Nat.{ℕ, _+_, _-_, _*_, _≤_, _<_, zero-le}
 use native.Mathlib.Omega.{arith}
@@ -13,18 +13,18 @@ use Rattle.rules.specs.Attractor.{atFirst, Takes, stop}
 use Rattle.rules.specs.Words.{setOf}
 use Rattle.theory.specs.Basics.{bool-cases, clash}
 use Rattle.theory.specs.AttractorBasics.{countOf}
-use Rattle.area.specs.Area.{counters, distances, entries, layers, layerWords, free, setAt}
+use Rattle.sets.specs.After.{Cleared}
+use Rattle.area.specs.Area.{entries, layers, layerWords, metAt, free, setAt}
 use Rattle.area.specs.Lent.{set-alike, words-few}
-use Rattle.area.specs.Walked.{Beside}
+use Rattle.area.specs.SetsAt.{set-zeros}
 use Rattle.layer.specs.Layer.{Layer, inLayer}
-use Rattle.attractor_counters.specs.Counters.{Countable, Counted, ownBy}
+use Rattle.attractor_counters.specs.Counters.{ownBy, insideCount, counter-new}
 use Rattle.attractor_counters.specs.Tally.{tally-nobody}
 use Rattle.attractor_step.specs.State.{State}
 use Rattle.attractor_step.specs.Growth.{Mark}
 use Rattle.attractor_step.specs.Taking.{Standing, growing}
 use Rattle.attractor_step.specs.Layers.{takenOf, Layered, layered-first}
 use Rattle.attractor_step.specs.View.{cells, layerAt, stateAt}
-use Rattle.attractor_step.specs.Views.{cells-at}
 use Rattle.attractor.specs.Attracted.{Attractable, listed-kept}
 use Rattle.attractor.specs.Begun.{Beginnable, Begun, layerOf}
 use Rattle.attractor.specs.Running.{Running, nowAt, takenAt, fits, Same}
@@ -41,23 +41,19 @@ module _ (owners offsets targets : List ℕ) (alpha within set s : ℕ) (work : 
     abbrev own : Set
     own = ownBy owners alpha
 
-    pub count-ready : Countable owners offsets targets s within work
-    count-ready =
-        record {
-          size = size;
-          edges = given .edges;
-          low = given .placed .within-low;
-          high = given .placed .within-high;
-          below = given .nested .below;
-        }
+    pub clear-ready : layers (length owners) (length targets) + 2 * (s + 1) + s ≤ length work
+    clear-ready = omega (arith, size, given .placed .set-low, given .placed .set-high)
 
-    module _ (between : List ℕ) (counted : Counted owners offsets targets alpha within work between) where
+    module _ (between : List ℕ) (cleared' : Cleared (layers n m + 2 * (s + 1)) s work between) where
+      cleared : Cleared (metAt n m) (words n) work between
+      cleared = subst (λ (k : ℕ). Cleared (layers n m + 2 * (k + 1)) k work between) size cleared'
+
       pub begin-ready : Beginnable (layers n m) set s between
       begin-ready =
           record {
             few = rw size (words-few n (given .edges .few-vertices));
             before-set = omega (arith, size, given .placed .set-low);
-            high = omega (arith, size, counted .long, given .placed .set-high);
+            high = omega (arith, size, cleared .long, given .placed .set-high);
           }
 
       module _ (after : List ℕ) (begun' : Begun (layers n m) set s between after) where
@@ -67,17 +63,13 @@ module _ (owners offsets targets : List ℕ) (alpha within set s : ℕ) (work : 
         abbrev second : ℕ
         second = layers n m + words n + 1
 
-        abbrev state : State
-        state = stateAt n m set second after
-
-        -- what stands outside the counters and the layers is as it was
-        same : (i : ℕ) → (i < counters n m) ⊎ ((distances n m ≤ i) × Beside (2 * layerWords n) (layers n m) i) →
-            getD after i 0 ≡ getD work i 0
-        same i (inl l) = begun .rest i (inl (omega arith)) ∙ counted .rest i (inl l)
-        same i (inr (l, o)) = begun .rest i o ∙ counted .rest i (inr l)
+        -- what stands before the layers and in the free part is as it was
+        same : (i : ℕ) → (i < layers n m) ⊎ (free n m ≤ i) → getD after i 0 ≡ getD work i 0
+        same i (inl l) = begun .rest i (inl l) ∙ cleared .rest i (inl (omega arith))
+        same i (inr l) = begun .rest i (inr (omega arith)) ∙ cleared .rest i (inr l)
 
         all-long : length after ≡ length work
-        all-long = begun .long ∙ counted .long
+        all-long = begun .long ∙ cleared .long
 
         abbrev V' : Set
         V' = setAt n within after
@@ -85,22 +77,19 @@ module _ (owners offsets targets : List ℕ) (alpha within set s : ℕ) (work : 
         abbrev T : Set
         T = setAt n set after
 
+        abbrev state : State
+        state = stateAt (insideCount offsets targets V') n m set second after
+
         -- V, the target, the entries and all that is to stay are as they were
         inside-same : V' ≡ setAt n within work
         inside-same =
             set-alike n within work after all-long
-            (λ i l. same (within + i) (inr (
-              omega (arith, given .placed .within-low),
-              inr (omega (
-                arith,
-                given .placed .within-low,
-              )),
-            )))
+            (λ i l. same (within + i) (inr (omega (arith, given .placed .within-low))))
 
         target-same : T ≡ setAt n set work
         target-same =
             set-alike n set work after all-long
-            (λ i l. same (set + i) (inr (omega (arith, given .placed .set-low), inr (omega (arith, given .placed .set-low)))))
+            (λ i l. same (set + i) (inr (omega (arith, given .placed .set-low))))
 
         pub started-same : Same n m within set work after
         started-same =
@@ -108,9 +97,9 @@ module _ (owners offsets targets : List ℕ) (alpha within set s : ℕ) (work : 
               long = all-long;
               inside = inside-same;
               target = target-same;
-              entry = λ v l. same (entries n m + v) (inr (omega arith, inl (omega arith)));
-              table = λ i l. same i (inl l);
-              rest = λ i l. same i (inr (omega arith, inr (omega arith)));
+              entry = λ v l. same (entries n m + v) (inl (omega arith));
+              table = λ i l. same i (inl (omega arith));
+              rest = λ i l. same i (inr l);
             }
 
         -- what is asked for holds where the loop begins
@@ -133,23 +122,21 @@ module _ (owners offsets targets : List ℕ) (alpha within set s : ℕ) (work : 
                         ap (λ (S : Set). S v) inside-same ∙ given .nested .part v (ap (λ (S : Set). S v) (sym target-same) ∙ p);
                   };
               edges = given .edges;
-              listed = listed-kept n offsets targets work after all-long (λ i l. same i (inl l)) (given .listed);
+              listed = listed-kept n offsets targets work after all-long (λ i l. same i (inl (omega arith))) (given .listed);
               side = given .side;
             }
 
         now-is : nowAt n (layers n m) after ≡ T
         now-is =
             begun .is ∙
-            set-alike n set work between (counted .long) (λ i l. counted .rest (set + i) (inr (omega (
-              arith,
-              given .placed .set-low,
-            )))) ∙
+            set-alike n set work between (cleared .long)
+            (λ i l. cleared .rest (set + i) (inr (omega (arith, given .placed .set-low)))) ∙
             sym target-same
 
         none : (u : ℕ) → state .next u ≡ false
         none u = begun .next-none u
 
-        untaken : takenAt n m set (layers n m) second after ≡ (λ u. false)
+        untaken : takenAt n set (layers n m) second after ≡ (λ u. false)
         untaken =
             fun-ext
             (λ u.
@@ -160,13 +147,14 @@ module _ (owners offsets targets : List ℕ) (alpha within set s : ℕ) (work : 
             neither-way true d = refl
             neither-way false d = refl
 
-        counter-at : (u : ℕ) → V' u ≡ true → own u ≡ false → state .counter u ≡ countOf (targetsOf offsets targets u) V'
-        counter-at u i o =
-            let small = started-given .nested .below u i in
-            cells-at n (counters n m) after u small ∙
-            begun .rest (counters n m + u) (inl (omega arith)) ∙
-            counted .counts u (ap (λ (S : Set). S u) (sym inside-same) ∙ i) o ∙
-            ap (countOf (targetsOf offsets targets u)) (sym inside-same)
+        none-met : (u : ℕ) → setAt n (metAt n m) after u ≡ false
+        none-met =
+            set-zeros n (metAt n m) after
+            (λ i low high. begun .rest i (inr (omega arith)) ∙ cleared .zeros i (omega arith) (omega arith))
+
+        counter-at : (u : ℕ) → V' u ≡ true → state .counter u ≡ countOf (targetsOf offsets targets u) V'
+        counter-at u i =
+            counter-new (insideCount offsets targets V') n m after u (started-given .nested .below u i) (none-met u)
 
         mark-first :
             (u : ℕ) →
@@ -178,7 +166,7 @@ module _ (owners offsets targets : List ℕ) (alpha within set s : ℕ) (work : 
               member-inside = λ p. started-given .nested .part u p;
               target-in = λ p. p;
               own-out = λ i o p. unseen;
-              other-out = λ i o p. let h = counter-at u i p in omega arith;
+              other-out = λ i o p. let h = counter-at u i in omega arith;
               waiting = λ i o p q. absurd (omega arith);
               in-met = λ p t. absurd (clash p t);
               other-in = λ p t o. absurd (clash p t);

@@ -1,7 +1,6 @@
 // The whole attractor: the set at `set` grows from the target to the attractor in the set at `within`. Gives the
 // looks.
 use crate::begin::begin_layers;
-use attractor_counters::counters::initialize_attractor_counters;
 use attractor_step::step::take;
 use layer::marked::pop;
 ghost use mathlib.Core.List.{List};
@@ -30,7 +29,7 @@ pub fn attract(
     let m = targets.len();
     let s = parity_game::set_words(n);
     let first = n + 1 + m + n + n + n;
-    initialize_attractor_counters(owners, offsets, targets, s, alpha, work, within);
+    sets::clear(work, first + 2 * (s + 1), s);
     begin_layers(work, first, set, s);
     let mut this = first;
     let mut next = first + s + 1;
@@ -39,7 +38,19 @@ pub fn attract(
     while work[this + s] != 0 {
         let w = pop(&mut work[this..this + s + 1]);
         looks += work[w + 1] - work[w];
-        take(owners, m, s, alpha, work, within, set, next, w, far);
+        take(
+            owners,
+            offsets,
+            targets,
+            s,
+            alpha,
+            work,
+            within,
+            set,
+            next,
+            w,
+            far,
+        );
         if work[this + s] == 0 {
             let done = this;
             this = next;

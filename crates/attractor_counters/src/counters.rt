@@ -1,11 +1,12 @@
-// For each opponent vertex of V, how many of its edges end inside V, parallel edges counted.
-use walk::Members;
-use walk::Next;
+// Counters: how many of a vertex's edges end inside V, parallel edges counted, less those that were met. A counter is
+// made when its vertex is first met: most vertices never are.
 ghost use mathlib.Core.Path.{_≡_};
+ghost use lib.ListN.{length};
 ghost use Rattle.rules.specs.Tables.{targetsOf};
 ghost use Rattle.rules.specs.Words.{setOf};
 ghost use Rattle.theory.specs.AttractorBasics.{countOf};
-ghost use Rattle.attractor_counters.specs.Counters.{EdgesOf, Countable, Counted};
+ghost use Rattle.area.specs.Area.{setAt};
+ghost use Rattle.attractor_counters.specs.Counters.{EdgesOf, insideCount, Countable, CountedDown};
 
 // The edges of v that end inside the set.
 fn inside_edges(offsets: &[u16], targets: &[u16], v: usize, set: &[u64]) -> u64
@@ -22,34 +23,30 @@ fn inside_edges(offsets: &[u16], targets: &[u16], v: usize, set: &[u64]) -> u64
     inside
 }
 
-// Each vertex of V that is not alpha's gets its counter.
-pub fn initialize_attractor_counters(
-    owners: &[u8],
+// One edge of v fewer is to be met; where v was not met before, its counter is made first. Gives what is left.
+pub fn count_down(
     offsets: &[u16],
     targets: &[u16],
+    n: usize,
     s: usize,
-    alpha: u8,
     work: &mut [u64],
     within: usize,
-)
-    requires { ⌜ Countable (now owners) (now offsets) (now targets) s within (now work) ⌝ }
-    ensures { λ _.
-        ⌜ Counted (now (owners .entry)) (now (offsets .entry)) (now (targets .entry)) alpha within
-        (now (work .entry)) (now (work .exit)) ⌝ }
+    v: usize,
+) -> u64
+    requires { ⌜ Countable (now offsets) (now targets) n s within (now work) v ⌝ }
+    ensures { λ r.
+        ⌜ CountedDown (insideCount (now (offsets .entry)) (now (targets .entry)) (setAt n within (now (work .entry)))) n
+        (length (now (targets .entry))) v (now (work .entry)) (now (work .exit)) r ⌝ }
 {
-    let n = owners.len();
     let m = targets.len();
-    let mut walk = Members::new(&work[within..within + s]);
-    loop {
-        let next = walk.next(&work[within..within + s]);
-        let Next::Member(index, rest) = next else {
-            return;
-        };
-        let v = index.0;
-        if owners[v] != alpha {
-            let inside = inside_edges(offsets, targets, v, &work[within..within + s]);
-            work[n + 1 + m + v] = inside;
-        }
-        walk = rest;
+    let met = n + 1 + m + n + n + n + 2 * (s + 1);
+    if sets::contains(&work[met..met + s], v) {
+        let left = work[n + 1 + m + v] - 1;
+        work[n + 1 + m + v] = left;
+        return left;
     }
+    sets::insert(&mut work[met..met + s], v);
+    let left = inside_edges(offsets, targets, v, &work[within..within + s]) - 1;
+    work[n + 1 + m + v] = left;
+    left
 }

@@ -139,7 +139,7 @@ checks-passed t V' T result strategy distances work e =
       bits = second .1;
     }
 
--- W words have room for the predecessor table, the counters, the distances, the entries, the layers and two sets
+-- W words have room for the predecessor table, the counters, the distances, the entries, the layers, those met and two sets
 work-room : (n m : ℕ) → free n m + words n + words n ≤ workWords n m
 unfolding workWords
 work-room n m =

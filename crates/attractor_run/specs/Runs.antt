@@ -64,7 +64,7 @@ module _ (owners offsets targets : List ℕ) (alpha : ℕ) (within target result
 
     -- where V and the target go
     abbrev base : ℕ
-    base = layers n m + 2 * (s + 1)
+    base = layers n m + 2 * (s + 1) + s
 
     abbrev set : ℕ
     set = base + s

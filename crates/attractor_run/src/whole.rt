@@ -83,7 +83,7 @@ pub fn run(
     let n = owners.len();
     let m = targets.len();
     let s = within.len();
-    let base = n + 1 + m + n + n + n + 2 * (s + 1);
+    let base = n + 1 + m + n + n + n + 2 * (s + 1) + s;
     prepare(offsets, targets, n, within, target, work, base);
     let looks = attract(owners, offsets, targets, alpha, work, base, base + s);
     hand_out(

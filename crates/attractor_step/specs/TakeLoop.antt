@@ -11,10 +11,10 @@ use Rattle.rules.specs.Counting.{Set}
 use Rattle.rules.specs.Game.{Player, Game, same}
 use Rattle.rules.specs.Tables.{words}
 use Rattle.rules.specs.Attractor.{TakesOne}
-use Rattle.predecessors.specs.Table.{start, row}
-use Rattle.area.specs.Area.{layers, layerWords, free, setAt}
+use Rattle.predecessors.specs.Table.{start, row, SoundEdges}
+use Rattle.area.specs.Area.{setAt}
 use Rattle.layer.specs.Layer.{Layer}
-use Rattle.attractor_counters.specs.Counters.{ownBy}
+use Rattle.attractor_counters.specs.Counters.{ownBy, insideCount}
 use Rattle.attractor_step.specs.State.{State, touched, looked, looked-none, looked-more}
 use Rattle.attractor_step.specs.Looks.{Safe}
 use Rattle.attractor_step.specs.Taking.{Standing, Ready, andOne, growing, taking-step}
@@ -22,37 +22,42 @@ use Rattle.attractor_step.specs.View.{layerAt, stateAt, Placed, Room, Be
 use Rattle.attractor_step.specs.Views.{kept-set, kept-placed, kept-room, becomes-same, becomes-then, becomes-as}
 
 -- what `take` asks for: the row of w lies in the table, and each look along it is safe
-pub record Takeable (owners : List ℕ) (m s alpha within set next : ℕ) (work : List ℕ) (w far : ℕ) : Type 0 where
+pub record Takeable (owners offsets targets : List ℕ) (s alpha within set next : ℕ) (work : List ℕ) (w far : ℕ) : Type 0 where
   pub size : s ≡ words (length owners)
-  pub placed : Placed (length owners) m within set work
-  pub room : Room (length owners) m set next work
+  pub edges : SoundEdges (length owners) offsets targets
+  pub placed : Placed (length owners) (length targets) within set work
+  pub room : Room (length owners) (length targets) set next work
   pub layer : Layer (layerAt (length owners) next work)
   pub small : w < length owners
   pub rising : start work w ≤ start work (w + 1)
-  pub top : start work (w + 1) ≤ m
+  pub top : start work (w + 1) ≤ length targets
   pub safe :
       let n = length owners in
       (k : ℕ) →
       k < length (row n work w) →
       Safe n (setAt n within work) (ownBy owners alpha)
-      (looked (setAt n within work) (ownBy owners alpha) w far (take k (row n work w)) (stateAt n m set next work))
+      (looked (setAt n within work) (ownBy owners alpha) w far (take k (row n work w))
+      (stateAt (insideCount offsets targets (setAt n within work)) n (length targets) set next work))
       (getD (row n work w) k 0)
 
 -- what `take` leaves: the looks along the row were made; and in a game whose predecessor entries of w are that row, with w a
 -- member not yet taken, this is one of the rules' steps, the entries it meets included
-pub record Took (owners : List ℕ) (m alpha within set next w far : ℕ) (before after : List ℕ) : Type 0 where
+pub record Took (owners offsets targets : List ℕ) (alpha within set next w far : ℕ) (before after : List ℕ) : Type 0 where
   pub becomes :
       let n = length owners in
-      Becomes n m set next (looked (setAt n within before) (ownBy owners alpha) w far (row n before w)) before after
+      Becomes (insideCount offsets targets (setAt n within before)) n (length targets) set next
+      (looked (setAt n within before) (ownBy owners alpha) w far (row n before w))
+      before after
   pub step :
       let n = length owners in
+      let state = stateAt (insideCount offsets targets (setAt n within before)) n (length targets) set next in
       (g : Game) (a : Player) (T taken : Set) (looks : ℕ) →
       ((v : ℕ) → ownBy owners alpha v ≡ same (g .owner v) a) →
-      Standing (g .size) (g .targets) (setAt n within before) T (ownBy owners alpha) taken (stateAt n m set next before) →
-      Ready (g .size) (g .targets) taken w (row n before w) (stateAt n m set next before) →
+      Standing (g .size) (g .targets) (setAt n within before) T (ownBy owners alpha) taken (state before) →
+      Ready (g .size) (g .targets) taken w (row n before w) (state before) →
       TakesOne g a (setAt n within before)
-      (growing taken looks (stateAt n m set next before))
-      (growing (andOne w taken) (looks + length (row n before w)) (stateAt n m set next after))
+      (growing taken looks (state before))
+      (growing (andOne w taken) (looks + length (row n before w)) (state after))
 
 -- ---- rows
 
@@ -71,19 +76,23 @@ row-at n w k work h l =
 -- ---- the loop
 
 -- the looks up to entry e were made
-pub record Looking (owners : List ℕ) (m alpha within set next w far : ℕ) (before : List ℕ) (e : ℕ) (after : List ℕ) : Type 0 where
+pub record Looking (owners offsets targets : List ℕ) (alpha within set next w far : ℕ) (before : List ℕ) (e : ℕ)
+    (after : List ℕ) : Type 0 where
   pub low : start before w ≤ e
   pub high : e ≤ start before (w + 1)
   pub becomes :
       let n = length owners in
-      Becomes n m set next
+      Becomes (insideCount offsets targets (setAt n within before)) n (length targets) set next
       (looked (setAt n within before) (ownBy owners alpha) w far (take (e - start before w) (row n before w)))
       before after
 
-module _ (owners : List ℕ) (m s alpha within set next w far : ℕ) (before : List ℕ)
-    (given : Takeable owners m s alpha within set next before w far) where
+module _ (owners offsets targets : List ℕ) (s alpha within set next w far : ℕ) (before : List ℕ)
+    (given : Takeable owners offsets targets s alpha within set next before w far) where
   abbrev n : ℕ
   n = length owners
+
+  abbrev m : ℕ
+  m = length targets
 
   abbrev V' : Set
   V' = setAt n within before
@@ -91,11 +100,14 @@ module _ (owners : List ℕ) (m s alpha within set next w far : ℕ) (before : L
   abbrev own : Set
   own = ownBy owners alpha
 
+  abbrev counts : ℕ → ℕ
+  counts = insideCount offsets targets V'
+
   abbrev here : List ℕ
   here = row n before w
 
   abbrev Looks : ℕ → List ℕ → Type 0
-  Looks e after = Looking owners m alpha within set next w far before e after
+  Looks e after = Looking owners offsets targets alpha within set next w far before e after
 
   -- the row lies before the counters, and so in the work area
   row-fits : n + 1 + start before (w + 1) ≤ length before
@@ -109,9 +121,9 @@ module _ (owners : List ℕ) (m s alpha within set next w far : ℕ) (before : L
         becomes =
             becomes-as
             (looked V' own w far (take (start before w - start before w) here))
-            (becomes-same n m set next before)
-            (ap (λ (k : ℕ). looked V' own w far (take k here) (stateAt n m set next before)) (sub-self (start before w)) ∙
-            looked-none V' own w far (stateAt n m set next before));
+            (becomes-same counts n m set next before)
+            (ap (λ (k : ℕ). looked V' own w far (take k here) (stateAt counts n m set next before)) (sub-self (start before w)) ∙
+            looked-none V' own w far (stateAt counts n m set next before));
       }
 
   module _ (e : ℕ) (after : List ℕ) (l : Looks e after) (more : e < start before (w + 1)) where
@@ -131,19 +143,23 @@ module _ (owners : List ℕ) (m s alpha within set next w far : ℕ) (before : L
     same-inside : setAt n within after ≡ V'
     same-inside = kept-set n m within set next before after (given .placed) (given .room) (l .becomes .kept)
 
-    pub look-ready : Touchable owners m s alpha within set next after (getD after (n + 1 + e) 0)
+    pub look-ready : Touchable owners offsets targets s alpha within set next after (getD after (n + 1 + e) 0)
     look-ready =
         record {
           size = given .size;
+          edges = given .edges;
           placed = kept-placed (l .becomes .kept) (given .placed);
           room = kept-room (l .becomes .kept) (given .room);
           layer = l .becomes .layer (given .layer);
           safe =
               subst
-              (λ (v : ℕ). Safe n (setAt n within after) own (stateAt n m set next after) v)
+              (λ (v : ℕ).
+              Safe n (setAt n within after) own
+              (stateAt (insideCount offsets targets (setAt n within after)) n m set next after) v)
               (sym entry-read)
               (subst
-              (λ (S : Set). Safe n S own (stateAt n m set next after) (getD here (e - start before w) 0))
+              (λ (S : Set).
+              Safe n S own (stateAt (insideCount offsets targets S) n m set next after) (getD here (e - start before w) 0))
               (sym same-inside)
               (subst
               (λ (t : State). Safe n V' own t (getD here (e - start before w) 0))
@@ -154,37 +170,45 @@ module _ (owners : List ℕ) (m s alpha within set next w far : ℕ) (before : L
     -- one look more
     pub looking-more :
         (after' : List ℕ) →
-        Becomes n m set next (touched (setAt n within after) own w far (getD after (n + 1 + e) 0)) after after' →
+        Becomes (insideCount offsets targets (setAt n within after)) n m set next
+        (touched (setAt n within after) own w far (getD after (n + 1 + e) 0))
+        after after' →
         Looks (e + 1) after'
     looking-more after' b =
         record {
           low = omega (arith, l .low);
           high = omega arith;
-          becomes = becomes-as (looked V' own w far (take (e + 1 - start before w) here)) (becomes-then (l .becomes) b)
+          becomes = becomes-as (looked V' own w far (take (e + 1 - start before w) here)) (becomes-then (l .becomes) here-becomes)
               same-looks;
         }
       where
         one-more : e + 1 - start before w ≡ suc (e - start before w)
         one-more = omega (arith, l .low)
 
+        here-becomes : Becomes counts n m set next (touched V' own w far (getD after (n + 1 + e) 0)) after after'
+        here-becomes =
+            subst
+            (λ (S : Set).
+            Becomes (insideCount offsets targets S) n m set next (touched S own w far (getD after (n + 1 + e) 0)) after after')
+            same-inside b
+
         same-looks :
-            looked V' own w far (take (e + 1 - start before w) here) (stateAt n m set next before) ≡
-            touched (setAt n within after) own w far (getD after (n + 1 + e) 0)
-            (looked V' own w far (take (e - start before w) here) (stateAt n m set next before))
+            looked V' own w far (take (e + 1 - start before w) here) (stateAt counts n m set next before) ≡
+            touched V' own w far (getD after (n + 1 + e) 0)
+            (looked V' own w far (take (e - start before w) here) (stateAt counts n m set next before))
         same-looks =
-            let t = looked V' own w far (take (e - start before w) here) (stateAt n m set next before) in
-            ap (λ (k : ℕ). looked V' own w far (take k here) (stateAt n m set next before)) one-more ∙
+            let t = looked V' own w far (take (e - start before w) here) (stateAt counts n m set next before) in
+            ap (λ (k : ℕ). looked V' own w far (take k here) (stateAt counts n m set next before)) one-more ∙
             ap
-            (λ (vs : List ℕ). looked V' own w far vs (stateAt n m set next before))
+            (λ (vs : List ℕ). looked V' own w far vs (stateAt counts n m set next before))
             (take-suc here (e - start before w) 0 short) ∙
             looked-more V' own w far (getD here (e - start before w) 0) (take (e - start before w) here)
-            (stateAt n m set next before) ∙
-            ap (λ (v : ℕ). touched V' own w far v t) (sym entry-read) ∙
-            ap (λ (S : Set). touched S own w far (getD after (n + 1 + e) 0) t) (sym same-inside)
+            (stateAt counts n m set next before) ∙
+            ap (λ (v : ℕ). touched V' own w far v t) (sym entry-read)
 
   -- all looks were made
   pub looking-all : (e : ℕ) (after : List ℕ) → Looks e after → start before (w + 1) ≤ e →
-      Took owners m alpha within set next w far before after
+      Took owners offsets targets alpha within set next w far before after
   looking-all e after l done =
       record {
         becomes = all;
@@ -192,15 +216,15 @@ module _ (owners : List ℕ) (m s alpha within set next w far : ℕ) (before : L
             λ g a T taken looks owned st ready.
             subst
             (λ (t : State).
-            TakesOne g a V' (growing taken looks (stateAt n m set next before)) (growing (andOne w taken) (looks + length here)
-            t))
+            TakesOne g a V' (growing taken looks (stateAt counts n m set next before))
+            (growing (andOne w taken) (looks + length here) t))
             (sym (all .state))
-            (taking-step g a V' T own owned taken looks w far here (stateAt n m set next before) st ready);
+            (taking-step g a V' T own owned taken looks w far here (stateAt counts n m set next before) st ready);
       }
     where
-      all : Becomes n m set next (looked V' own w far here) before after
+      all : Becomes counts n m set next (looked V' own w far here) before after
       all =
           becomes-as (looked V' own w far here) (l .becomes)
           (ap
-          (λ (vs : List ℕ). looked V' own w far vs (stateAt n m set next before))
+          (λ (vs : List ℕ). looked V' own w far vs (stateAt counts n m set next before))
           (sym (take-all (e - start before w) here (omega (arith, row-length n w before row-fits, l .low)))))

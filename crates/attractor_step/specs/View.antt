@@ -7,10 +7,11 @@ use Prim.Native.Nat.{ℕ, _+_, _≤_, _<_}
 use lib.Dec.{ltb}
 use lib.ListN.{length, getD, take, drop}
 use Rattle.rules.specs.Tables.{words}
-use Rattle.area.specs.Area.{counters, distances, entries, layers, layerWords, free, setAt}
+use Rattle.predecessors.specs.Table.{SoundEdges}
+use Rattle.area.specs.Area.{counters, distances, entries, layers, layerWords, metAt, free, setAt}
 use Rattle.area.specs.Walked.{Beside}
 use Rattle.layer.specs.Layer.{Layer, inLayer}
-use Rattle.attractor_counters.specs.Counters.{ownBy}
+use Rattle.attractor_counters.specs.Counters.{ownBy, insideCount, counterAt}
 use Rattle.attractor_step.specs.State.{State}
 use Rattle.attractor_step.specs.Looks.{Safe}
 
@@ -22,11 +23,12 @@ cells n base work v = cond (ltb v n) (getD work (base + v) 0) 0
 abbrev pub layerAt : ℕ → ℕ → List ℕ → List ℕ
 layerAt n base work = take (layerWords n) (drop base work)
 
-abbrev pub stateAt : ℕ → ℕ → ℕ → ℕ → List ℕ → State
-stateAt n m set next work =
+-- the counters of those not met yet are the first ones
+abbrev pub stateAt : (ℕ → ℕ) → ℕ → ℕ → ℕ → ℕ → List ℕ → State
+stateAt first n m set next work =
     record {
       members = setAt n set work;
-      counter = cells n (counters n m) work;
+      counter = counterAt first n m work;
       distance = cells n (distances n m) work;
       entry = cells n (entries n m) work;
       next = inLayer (layerAt n next work);
@@ -41,9 +43,11 @@ pub record Placed (n m within set : ℕ) (work : List ℕ) : Type 0 where
   pub apart : (within + words n ≤ set) ⊎ (set + words n ≤ within)
 
 -- a word that no step changes: of the predecessor table, or one behind the entries that is neither the set's nor the next layer's
+-- nor of those met
 abbrev pub Aside : ℕ → ℕ → ℕ → ℕ → ℕ → Type 0
 Aside n m set next i =
-    (i < counters n m) ⊎ ((layers n m ≤ i) × Beside (words n) set i × Beside (layerWords n) next i)
+    (i < counters n m) ⊎
+    ((layers n m ≤ i) × Beside (words n) set i × Beside (layerWords n) next i × Beside (words n) (metAt n m) i)
 
 pub record Kept (n m set next : ℕ) (before after : List ℕ) : Type 0 where
   pub long : length after ≡ length before
@@ -54,12 +58,12 @@ pub record Room (n m set next : ℕ) (work : List ℕ) : Type 0 where
   pub low : free n m ≤ set
   pub high : set + words n ≤ length work
   pub next-low : layers n m ≤ next
-  pub next-high : next + layerWords n ≤ free n m
+  pub next-high : next + layerWords n ≤ metAt n m
 
 -- a step that makes f of the state, and leaves a right layer where there was one
-pub record Becomes (n m set next : ℕ) (f : State → State) (before after : List ℕ) : Type 0 where
+pub record Becomes (first : ℕ → ℕ) (n m set next : ℕ) (f : State → State) (before after : List ℕ) : Type 0 where
   pub kept : Kept n m set next before after
-  pub state : stateAt n m set next after ≡ f (stateAt n m set next before)
+  pub state : stateAt first n m set next after ≡ f (stateAt first n m set next before)
   pub layer : Layer (layerAt n next before) → Layer (layerAt n next after)
 
 -- what `join` asks for
@@ -70,10 +74,13 @@ pub record Joinable (n m s set next : ℕ) (work : List ℕ) (v : ℕ) : Type 0 
   pub small : v < n
 
 -- what `touch` asks for
-pub record Touchable (owners : List ℕ) (m s alpha within set next : ℕ) (work : List ℕ) (v : ℕ) : Type 0 where
+pub record Touchable (owners offsets targets : List ℕ) (s alpha within set next : ℕ) (work : List ℕ) (v : ℕ) : Type 0 where
   pub size : s ≡ words (length owners)
-  pub placed : Placed (length owners) m within set work
-  pub room : Room (length owners) m set next work
+  pub edges : SoundEdges (length owners) offsets targets
+  pub placed : Placed (length owners) (length targets) within set work
+  pub room : Room (length owners) (length targets) set next work
   pub layer : Layer (layerAt (length owners) next work)
-  pub safe : Safe (length owners) (setAt (length owners) within work) (ownBy owners alpha) (stateAt (length owners)
-      m set next work) v
+  pub safe :
+      let n = length owners in
+      Safe n (setAt n within work) (ownBy owners alpha)
+      (stateAt (insideCount offsets targets (setAt n within work)) n (length targets) set next work) v

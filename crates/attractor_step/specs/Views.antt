@@ -15,14 +15,15 @@ use Rattle.rules.specs.Counting.{Set}
 use Rattle.rules.specs.Tables.{words}
 use Rattle.theory.specs.Basics.{lt-or-ge}
 use Rattle.sets.specs.After.{Put}
-use Rattle.area.specs.Area.{counters, distances, entries, layers, layerWords, free, setAt}
+use Rattle.area.specs.Area.{counters, distances, entries, layers, layerWords, metAt, setAt}
 use Rattle.area.specs.Lent.{set-alike, slice-alike, part-is, part-length, words-enough}
 use Rattle.area.specs.Lent.{back, back-long, back-front, back-behind, back-part}
-use Rattle.area.specs.Lent.{inserted-long, inserted-rest, inserted-set}
+use Rattle.area.specs.Lent.{inserted-set}
 use Rattle.area.specs.Walked.{Beside}
 use Rattle.layer.specs.Layer.{Layer, inLayer, Addable, Added}
+use Rattle.attractor_counters.specs.Counters.{counterAt, counter-alike, CountedDown}
 use Rattle.attractor_step.specs.State.{State, put, withOne, joined, entered, counted}
-use Rattle.attractor_step.specs.View.{cells, layerAt, stateAt, Placed, Kept, Room, Becomes}
+use Rattle.attractor_step.specs.View.{cells, layerAt, stateAt, Placed, Aside, Kept, Room, Becomes}
 
 -- ---- cells
 
@@ -96,6 +97,15 @@ module _ {place k : ℕ} {before after : List ℕ} (c : Changes place k before a
       slice-alike (layerWords n) base before after (c .long)
       (λ v l. c .rest (base + v) (⊎-elim (λ h. inl (omega arith)) (λ h. inr (omega arith)) apart))
 
+  -- words outside the counters and the set of those met
+  pub changes-counter :
+      (first : ℕ → ℕ) (n m : ℕ) → (counters n m + n ≤ place) ⊎ (place + k ≤ counters n m) →
+      (metAt n m + words n ≤ place) ⊎ (place + k ≤ metAt n m) →
+      counterAt first n m after ≡ counterAt first n m before
+  changes-counter first n m apart met-apart =
+      counter-alike first n m before after (changes-set n (metAt n m) met-apart)
+      (λ v l. c .rest (counters n m + v) (⊎-elim (λ h. inl (omega arith)) (λ h. inr (omega arith)) apart))
+
 pub store-changes : (place x : ℕ) (work : List ℕ) → Changes place 1 work (set work place x)
 store-changes place x work =
     record {
@@ -131,6 +141,7 @@ kept-set n m within base next before after p r k =
       omega (arith, p .within-low),
       ⊎-elim (λ h. inl (omega arith)) (λ h. inr (omega arith)) (p .apart),
       inr (omega (arith, p .within-low, r .next-high)),
+      inr (omega (arith, p .within-low)),
     )))
 
 pub kept-room : {n m base next : ℕ} {before after : List ℕ} → Kept n m base next before after → Room n m base next before →
@@ -157,25 +168,25 @@ pub state-alike :
     s ≡ t
 state-alike p q r e f = λ i. record { members = p i; counter = q i; distance = r i; entry = e i; next = f i }
 
-pub becomes-same : (n m base next : ℕ) (work : List ℕ) → Becomes n m base next (λ s. s) work work
-becomes-same n m base next work = record { kept = kept-none n m base next work; state = refl; layer = λ l. l }
+pub becomes-same : (first : ℕ → ℕ) (n m base next : ℕ) (work : List ℕ) → Becomes first n m base next (λ s. s) work work
+becomes-same first n m base next work = record { kept = kept-none n m base next work; state = refl; layer = λ l. l }
 
 pub becomes-then :
-    {n m base next : ℕ} {f h : State → State} {x y z : List ℕ} →
-    Becomes n m base next f x y →
-    Becomes n m base next h y z →
-    Becomes n m base next (λ s. h (f s)) x z
+    {first : ℕ → ℕ} {n m base next : ℕ} {f h : State → State} {x y z : List ℕ} →
+    Becomes first n m base next f x y →
+    Becomes first n m base next h y z →
+    Becomes first n m base next (λ s. h (f s)) x z
 becomes-then {h = h} a b =
     record { kept = kept-then (a .kept) (b .kept); state = b .state ∙ ap h (a .state); layer = λ l. b .layer (a .layer l) }
 
 pub becomes-as :
-    {n m base next : ℕ} {f : State → State} (h : State → State) {x y : List ℕ} →
-    Becomes n m base next f x y →
-    h (stateAt n m base next x) ≡ f (stateAt n m base next x) →
-    Becomes n m base next h x y
+    {first : ℕ → ℕ} {n m base next : ℕ} {f : State → State} (h : State → State) {x y : List ℕ} →
+    Becomes first n m base next f x y →
+    h (stateAt first n m base next x) ≡ f (stateAt first n m base next x) →
+    Becomes first n m base next h x y
 becomes-as h a e = record { kept = a .kept; state = a .state ∙ sym e; layer = a .layer }
 
-module _ (n m base next : ℕ) (work : List ℕ) (room : Room n m base next work) where
+module _ (first : ℕ → ℕ) (n m base next : ℕ) (work : List ℕ) (room : Room n m base next work) where
   -- a store between the counters and the layers leaves the set, the layer and the rest as they are
   store-kept : (i x : ℕ) → counters n m ≤ i → i < layers n m → Kept n m base next work (set work i x)
   store-kept i x low high =
@@ -195,7 +206,7 @@ module _ (n m base next : ℕ) (work : List ℕ) (room : Room n m base next work
   store-cells b i x apart = changes-cells (store-changes i x work) n b apart
 
   -- an entry is given
-  pub store-entry : (v x : ℕ) → v < n → Becomes n m base next (entered x v) work (set work (entries n m + v) x)
+  pub store-entry : (v x : ℕ) → v < n → Becomes first n m base next (entered x v) work (set work (entries n m + v) x)
   unfolding entered
   store-entry v x l =
       record {
@@ -203,7 +214,7 @@ module _ (n m base next : ℕ) (work : List ℕ) (room : Room n m base next work
         state =
             state-alike
             (store-set (entries n m + v) x (omega arith))
-            (store-cells (counters n m) (entries n m + v) x (inl (omega arith)))
+            (changes-counter (store-changes (entries n m + v) x work) first n m (inl (omega arith)) (inr (omega arith)))
             (store-cells (distances n m) (entries n m + v) x (inl (omega arith)))
             (cells-put n (entries n m) v x work l (omega (arith, room .low, room .high)))
             (ap inLayer (store-layer (entries n m + v) x (omega arith)));
@@ -211,23 +222,35 @@ module _ (n m base next : ℕ) (work : List ℕ) (room : Room n m base next work
       }
 
   -- a counter falls
-  pub store-counter :
-      (v : ℕ) → v < n → Becomes n m base next (counted v) work (set work (counters n m + v) (getD work (counters n m + v) 0 - 1))
+  pub count-becomes :
+      {v left : ℕ} {work' : List ℕ} → CountedDown first n m v work work' left → Becomes first n m base next (counted v) work work'
   unfolding counted
-  store-counter v l =
-      let x = getD work (counters n m + v) 0 - 1 in
+  count-becomes {v} {left} {work'} down =
       record {
-        kept = store-kept (counters n m + v) x (omega arith) (omega arith);
+        kept =
+            record {
+              long = down .long;
+              rest = λ i o. down .rest i (⊎-elim (λ l. inl l) (λ l. let h = l .0 in inr (omega arith, l .3)) o);
+            };
         state =
             state-alike
-            (store-set (counters n m + v) x (omega arith))
-            (cells-put n (counters n m) v x work l (omega (arith, room .low, room .high)) ∙
-            ap (λ (y : ℕ). put v (y - 1) (cells n (counters n m) work)) (sym (cells-at n (counters n m) work v l)))
-            (store-cells (distances n m) (counters n m + v) x (inr (omega arith)))
-            (store-cells (entries n m) (counters n m + v) x (inr (omega arith)))
-            (ap inLayer (store-layer (counters n m + v) x (omega arith)));
-        layer = subst Layer (sym (store-layer (counters n m + v) x (omega arith)));
+            (set-alike n base work work' (down .long)
+            (λ i l. down .rest (base + i) (inr (omega (arith, room .low), inr (omega (arith, room .low))))))
+            (fun-ext (down .counter))
+            (same-cells (distances n m) (omega arith) (omega arith))
+            (same-cells (entries n m) (omega arith) (omega arith))
+            (ap inLayer same-layer);
+        layer = subst Layer (sym same-layer);
       }
+    where
+      same-cells : (b : ℕ) → distances n m ≤ b → b + n ≤ layers n m → cells n b work' ≡ cells n b work
+      same-cells b low high =
+          cells-alike n b work work' (λ i l. down .rest (b + i) (inr (omega arith, inl (omega arith))))
+
+      same-layer : layerAt n next work' ≡ layerAt n next work
+      same-layer =
+          slice-alike (layerWords n) next work work' (down .long)
+          (λ i l. down .rest (next + i) (inr (omega (arith, room .next-low), inl (omega (arith, room .next-high)))))
 
 -- a layer that was lent, with s words and one more
 
@@ -313,13 +336,12 @@ module _ (n m base next : ℕ) (work : List ℕ) (room : Room n m base next work
       new-layer =
           ap (λ (l : List ℕ). layerAt n next l) is-back ∙ back-part next (layerWords n) stored zs layer-fits zs-long
 
-      all-kept : (i : ℕ) → (i < counters n m) ⊎ ((layers n m ≤ i) × Beside (words n) base i × Beside (layerWords n) next i) →
-          getD joining i 0 ≡ getD work i 0
+      all-kept : (i : ℕ) → Aside n m base next i → getD joining i 0 ≡ getD work i 0
       all-kept i (inl l) =
           joining-changes .rest i (inl (omega (arith, room .next-low))) ∙
           stored-changes .rest i (inl (omega arith)) ∙
           wider-changes .rest i (inl (omega (arith, room .low)))
-      all-kept i (inr (low, out, beside)) =
+      all-kept i (inr (low, out, beside, unmet)) =
           joining-changes .rest i beside ∙
           stored-changes .rest i (inr (omega arith)) ∙
           wider-changes .rest i (⊎-elim (λ l. inl l) (λ l. inr (omega arith)) out)
@@ -344,15 +366,21 @@ module _ (n m base next : ℕ) (work : List ℕ) (room : Room n m base next work
           cells-put n (distances n m) v far wider small (omega (arith, room .low, room .high, wider-changes .long)) ∙
           ap (put v far) (changes-cells wider-changes n (distances n m) (inl (omega (arith, room .low))))
 
-      pub state-joined : Becomes n m base next (joined far v) work joining
+      counter-same : (first : ℕ → ℕ) → counterAt first n m joining ≡ counterAt first n m work
+      counter-same first =
+          changes-counter joining-changes first n m (inl (omega (arith, room .next-low))) (inr (room .next-high)) ∙
+          changes-counter stored-changes first n m (inl (omega arith)) (inr (omega arith)) ∙
+          changes-counter wider-changes first n m (inl (omega (arith, room .low))) (inl (omega (arith, room .low)))
+
+      pub state-joined : (first : ℕ → ℕ) → Becomes first n m base next (joined far v) work joining
       unfolding joined
-      state-joined =
+      state-joined first =
           record {
             kept = record { long = joining-changes .long ∙ stored-long; rest = all-kept };
             state =
                 state-alike
                 members-more
-                (cells-same (counters n m) (omega arith) (inl (omega arith)))
+                (counter-same first)
                 distances-more
                 (cells-same (entries n m) (omega arith) (inr (omega arith)))
                 (ap inLayer new-layer ∙ fun-ext (added .set));

@@ -1,8 +1,10 @@
 // One step: a member is taken, and each of its predecessor entries is looked at once, those outside V included.
+use attractor_counters::counters::count_down;
 use layer::marked::add;
+ghost use Prim.Native.Nat.{ℕ};
 ghost use lib.ListN.{length};
 ghost use Rattle.area.specs.Area.{setAt};
-ghost use Rattle.attractor_counters.specs.Counters.{ownBy};
+ghost use Rattle.attractor_counters.specs.Counters.{ownBy, insideCount};
 ghost use Rattle.attractor_step.specs.State.{joined, touched};
 ghost use Rattle.attractor_step.specs.TakeLoop.{Takeable, Took};
 ghost use Rattle.attractor_step.specs.View.{Joinable, Becomes, Touchable};
@@ -10,7 +12,8 @@ ghost use Rattle.attractor_step.specs.View.{Joinable, Becomes, Touchable
 // v comes in at a distance, and into the next layer.
 fn join(n: usize, m: usize, s: usize, work: &mut [u64], set: usize, next: usize, v: usize, far: u64)
     requires { ⌜ Joinable n m s set next (now work) v ⌝ }
-    ensures { λ _. ⌜ Becomes n m set next (joined far v) (now (work .entry)) (now (work .exit)) ⌝ }
+    ensures { λ _.
+        ⌜ ((first : ℕ → ℕ) → Becomes first n m set next (joined far v) (now (work .entry)) (now (work .exit))) ⌝ }
 {
     sets::insert(&mut work[set..set + s], v);
     work[n + 1 + m + n + v] = far;
@@ -20,7 +23,8 @@ fn join(n: usize, m: usize, s: usize, work: &mut [u64], set: usize, next: usize,
 // One look, at an entry v of w; who comes in is so far.
 fn touch(
     owners: &[u8],
-    m: usize,
+    offsets: &[u16],
+    targets: &[u16],
     s: usize,
     alpha: u8,
     work: &mut [u64],
@@ -31,14 +35,18 @@ fn touch(
     far: u64,
     v: usize,
 )
-    requires { ⌜ Touchable (now owners) m s alpha within set next (now work) v ⌝ }
+    requires { ⌜ Touchable (now owners) (now offsets) (now targets) s alpha within set next (now work) v ⌝ }
     ensures { λ _.
-        ⌜ Becomes (length (now (owners .entry))) m set next
+        ⌜ Becomes
+        (insideCount (now (offsets .entry)) (now (targets .entry)) (setAt (length (now (owners .entry))) within
+        (now (work .entry))))
+        (length (now (owners .entry))) (length (now (targets .entry))) set next
         (touched (setAt (length (now (owners .entry))) within (now (work .entry))) (ownBy
         (now (owners .entry)) alpha) w far v)
         (now (work .entry)) (now (work .exit)) ⌝ }
 {
     let n = owners.len();
+    let m = targets.len();
     if !sets::in_difference(&work[within..within + s], &work[set..set + s], v) {
         return;
     }
@@ -47,9 +55,7 @@ fn touch(
         join(n, m, s, work, set, next, v, far);
         return;
     }
-    let left = work[n + 1 + m + v] - 1;
-    work[n + 1 + m + v] = left;
-    if left != 0 {
+    if count_down(offsets, targets, n, s, work, within, v) != 0 {
         return;
     }
     join(n, m, s, work, set, next, v, far);
@@ -58,7 +64,8 @@ fn touch(
 // Takes w: looks at each entry of its row.
 pub fn take(
     owners: &[u8],
-    m: usize,
+    offsets: &[u16],
+    targets: &[u16],
     s: usize,
     alpha: u8,
     work: &mut [u64],
@@ -68,14 +75,29 @@ pub fn take(
     w: usize,
     far: u64,
 )
-    requires { ⌜ Takeable (now owners) m s alpha within set next (now work) w far ⌝ }
-    ensures { λ _. ⌜ Took (now (owners .entry)) m alpha within set next w far (now (work .entry)) (now (work .exit)) ⌝ }
+    requires { ⌜ Takeable (now owners) (now offsets) (now targets) s alpha within set next (now work) w far ⌝ }
+    ensures { λ _.
+        ⌜ Took (now (owners .entry)) (now (offsets .entry)) (now (targets .entry)) alpha within set next w far
+        (now (work .entry)) (now (work .exit)) ⌝ }
 {
     let n = owners.len();
     let first = work[w] as usize;
     let last = work[w + 1] as usize;
     for e in first..last {
         let v = work[n + 1 + e] as usize;
-        touch(owners, m, s, alpha, work, within, set, next, w, far, v);
+        touch(
+            owners,
+            offsets,
+            targets,
+            s,
+            alpha,
+            work,
+            within,
+            set,
+            next,
+            w,
+            far,
+            v,
+        );
     }
 }

@@ -44,7 +44,7 @@ fn run(
     let m = targets.len();
     let s = parity_game::set_words(n);
     let entries = n + 1 + m + n + n;
-    let unsolved = entries + n + 2 * (s + 1);
+    let unsolved = entries + n + 2 * (s + 1) + s;
     solver::prepare(offsets, targets, n, s, work, unsolved);
     let start = begin(priorities, kept, m, s, work);
     let end = solve(owners, priorities, offsets, targets, budget, s, work, start);

@@ -87,7 +87,7 @@ pub fn query(owners: &[u8], offsets: &[u16], targets: &[u16], p: usize, s: usize
     let n = owners.len();
     let m = targets.len();
     let layers = n + 1 + m + n + n + n;
-    let unsolved = layers + 2 * (s + 1);
+    let unsolved = layers + 2 * (s + 1) + s;
     let lower = unsolved + s;
     let held = lower + s;
     let regions = held + 3 * s;

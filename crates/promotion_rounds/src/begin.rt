@@ -38,13 +38,14 @@ pub fn begin(priorities: &[u16], kept: &[u64], m: usize, s: usize, work: &mut [u
 {
     let n = priorities.len();
     let entries = n + 1 + m + n + n;
-    let lower = entries + n + 2 * (s + 1) + s;
+    let lower = entries + n + 2 * (s + 1) + s + s;
     let regions = lower + s + 3 * s;
     sets::clear(work, lower, 4 * s + n + 257);
     write_regions(priorities, work, regions, entries);
     copy_counts(kept, work, regions + n);
+    let highest = kept[257] as usize;
     State {
-        current: Priority(kept[257] as usize),
+        current: Priority(highest),
         unsolved: n,
         rounds: 0,
     }

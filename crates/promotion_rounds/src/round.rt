@@ -36,7 +36,7 @@ pub fn round(
     let n = owners.len();
     let m = targets.len();
     let entries = n + 1 + m + n + n;
-    let unsolved = entries + n + 2 * (s + 1);
+    let unsolved = entries + n + 2 * (s + 1) + s;
     let held = unsolved + s + s;
     let regions = held + 3 * s;
     let p = state.current.0;

@@ -14,9 +14,10 @@ use Rattle.area.specs.Area.{entries, layers, setAt}
 use Rattle.attractor.specs.Attracted.{Listed}
 use Rattle.promotion_tables.specs.Regions.{regionAt, Tallied}
 
--- the sets of s words, behind the attractor's layers of s + 1 words: the unsolved vertices, X, R, what Even and what Odd have won
+-- the sets of s words, behind the attractor's layers of s + 1 words and its set of those met: the unsolved vertices, X, R, what
+-- Even and what Odd have won
 abbrev pub unsolvedAt : ℕ → ℕ → ℕ → ℕ
-unsolvedAt n m s = layers n m + 2 * (s + 1)
+unsolvedAt n m s = layers n m + 2 * (s + 1) + s
 
 abbrev pub lowerAt : ℕ → ℕ → ℕ → ℕ
 lowerAt n m s = unsolvedAt n m s + s

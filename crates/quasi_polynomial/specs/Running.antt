@@ -62,13 +62,13 @@ pub record Opinion (t : Tables) (evens odds : List ℕ) : Type 0 where
 
 -- where the set of all vertices stands, by the words of a set: the first free place
 abbrev pub allAt : Tables → ℕ → ℕ
-allAt t s = layers (vertices t) (edgesIn t) + 2 * (s + 1)
+allAt t s = layers (vertices t) (edgesIn t) + 2 * (s + 1) + s
 
 -- W words have room for the two sets and a level for each height
 levels-fit : (n m : ℕ) → free n m + words n + 2064 * words n ≤ opinionWords n m
 unfolding opinionWords workWords
 levels-fit n m =
-    let wide : 3 * words n ≤ 8 * (n + 2) * words n = mul-le-mul-right (words n) (omega arith) in omega arith
+    let wide : 4 * words n ≤ 8 * (n + 2) * words n = mul-le-mul-right (words n) (omega arith) in omega arith
 
 module _ {t : Tables} {high : ℕ} {even odd w₀ : List ℕ} (given : Runnable t high even odd w₀) where
   abbrev n : ℕ

@@ -44,7 +44,7 @@ fn run(
 {
     let n = owners.len();
     let s = even.len();
-    let all = n + 1 + targets.len() + n + n + n + 2 * (s + 1);
+    let all = n + 1 + targets.len() + n + n + n + 2 * (s + 1) + s;
     let base = all + s;
     solver::prepare(offsets, targets, n, s, work, all);
     sets::copy_with(work, base, all, s);

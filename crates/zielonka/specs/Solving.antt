@@ -26,17 +26,17 @@ use Rattle.attractor.specs.Attracted.{edges-sound}
 use Rattle.solver.specs.Preparing.{Preparable, Prepared}
 use Rattle.solver.specs.Outputs.{wonFrom, Found}
 
--- W words have room for a level for each vertex and one more behind the attractor's layers
+-- W words have room for a level for each vertex and one more behind the attractor's words
 first-room : (n m k : ℕ) → k ≤ n → free n m + 4 * (words n * (k + 1)) ≤ workWords n m
 unfolding workWords
 first-room n m k few =
     let more : k + 1 ≤ n + 1 = omega arith in
     let some-levels = mul-le-mul-left (words n) more in
-    let wide : 4 * (n + 1) + 2 ≤ 8 * (n + 2) = omega arith in
+    let wide : 4 * (n + 1) + 3 ≤ 8 * (n + 2) = omega arith in
     let all-levels = mul-le-mul-right (words n) wide in
     let same : 4 * (n + 1) * words n ≡ 4 * (words n * (n + 1)) =
     mul-assoc 4 (n + 1) (words n) ∙ ap (λ (x : ℕ). 4 * x) (mul-comm (n + 1) (words n)) in
-    let both : (4 * (n + 1) + 2) * words n ≡ 4 * (n + 1) * words n + 2 * words n = add-mul (4 * (n + 1)) 2 (words n) in
+    let both : (4 * (n + 1) + 3) * words n ≡ 4 * (n + 1) * words n + 3 * words n = add-mul (4 * (n + 1)) 3 (words n) in
     omega arith
 
 -- the first level begins where the free words do

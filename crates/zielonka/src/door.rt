@@ -41,7 +41,7 @@ fn run(
     let n = owners.len();
     let s = parity_game::set_words(n);
     let entries = n + 1 + targets.len() + n + n;
-    let base = entries + n + 2 * (s + 1);
+    let base = entries + n + 2 * (s + 1) + s;
     solver::prepare(offsets, targets, n, s, work, base);
     let ran = zielonka_rec(
         owners,

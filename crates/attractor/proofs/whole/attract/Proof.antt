@@ -12,7 +12,7 @@ use Rattle.layer.specs.Laws.{unmarked-empty}
 use Rattle.attractor_step.specs.View.{layerAt}
 use Rattle.area.specs.Area.{layerWords}
 use Rattle.attractor.specs.Attracted.{Attractable}
-use Rattle.attractor.specs.Started.{count-ready, begin-ready, started-same, started-given, started}
+use Rattle.attractor.specs.Started.{clear-ready, begin-ready, started-same, started-given, started}
 use Rattle.attractor.specs.Running.{Running, Going, Same, takenAt, marks-read, layer-fits}
 use Rattle.attractor.specs.Running.{pop-ready, mid, mid-long, next-fits, row-rises, looks-few}
 use Rattle.attractor.specs.Running.{take-ready, taken-grows, going-more, turned}
@@ -26,17 +26,17 @@ Inv-loop owners offsets targets alpha work₀ within set n m s first this₀ nex
 
 abbrev μ-loop : tie.MeasureT-loop
 μ-loop owners offsets targets alpha work₀ within set n m s first this₀ next₀ far₀ looks₀ work this next far looks =
-    length owners - count (length owners) (takenAt (length owners) (length targets) set this next work)
+    length owners - count (length owners) (takenAt (length owners) set this next work)
 
 -- where the function begins
 abbrev at1 : tie.After-set-words Inv-loop μ-loop → tie.Start Inv-loop μ-loop
 at1 c = c .before .before .before .before .before
 
-abbrev counted : tie.After-begin-layers Inv-loop μ-loop → tie.After-initialize-attractor-counters Inv-loop μ-loop
-counted c = c .before .before .before .before
+abbrev cleared : tie.After-begin-layers Inv-loop μ-loop → tie.After-clear Inv-loop μ-loop
+cleared c = c .before .before .before .before
 
 abbrev sized : tie.After-begin-layers Inv-loop μ-loop → tie.After-set-words Inv-loop μ-loop
-sized c = counted c .before .before
+sized c = cleared c .before .before
 
 abbrev start-of : tie.After-begin-layers Inv-loop μ-loop → tie.Start Inv-loop μ-loop
 start-of c = at1 (sized c)
@@ -47,26 +47,26 @@ given :
     let a = start-of c .args in
     Attractable (a .owners .now) (a .offsets .now) (a .targets .now) (a .alpha) (a .within) (a .set) (c .begin-layers .last .0)
 given c =
-    let i = counted c in
+    let i = cleared c in
     let w = sized c in
     let g = at1 w in
     let a = g .args in
     started-given (a .owners .now) (a .offsets .now) (a .targets .now) (a .alpha) (a .within) (a .set) (w .set-words .result)
     (a .work .now)
-    (g .pre) (w .set-words .ensures) _ (i .initialize-attractor-counters .ensures) _ (c .begin-layers .ensures)
+    (g .pre) (w .set-words .ensures) _ (i .clear .ensures) _ (c .begin-layers .ensures)
 
 same :
     (c : tie.After-begin-layers Inv-loop μ-loop) →
     let a = start-of c .args in
     Same (length (a .owners .now)) (length (a .targets .now)) (a .within) (a .set) (a .work .now) (c .begin-layers .last .0)
 same c =
-    let i = counted c in
+    let i = cleared c in
     let w = sized c in
     let g = at1 w in
     let a = g .args in
     started-same (a .owners .now) (a .offsets .now) (a .targets .now) (a .alpha) (a .within) (a .set) (w .set-words .result)
     (a .work .now)
-    (g .pre) (w .set-words .ensures) _ (i .initialize-attractor-counters .ensures) _ (c .begin-layers .ensures)
+    (g .pre) (w .set-words .ensures) _ (i .clear .ensures) _ (c .begin-layers .ensures)
 
 abbrev begun : tie.At-loop Inv-loop μ-loop → tie.After-begin-layers Inv-loop μ-loop
 begun c = c .before .before .before
@@ -185,7 +185,7 @@ going :
     (P .pop .ensures) in
     Going (a .owners .now) (a .offsets .now) (a .targets .now) (a .alpha) (a .within) (a .set) (b .begin-layers .last .0)
     (l .this) (l .next) (l .far)
-    (l .looks + (getD work (P .pop .result + 1) 0 - getD work (P .pop .result) 0)) (c .take .last .1 .1 .1 .1 .0)
+    (l .looks + (getD work (P .pop .result + 1) 0 - getD work (P .pop .result) 0)) (c .take .last .1 .1 .1 .1 .1 .0)
 going c =
     let P = popped c in
     let b = begun (head P) in
@@ -194,7 +194,7 @@ going c =
     going-more (a .owners .now) (a .offsets .now) (a .targets .now) (a .alpha) (a .within) (a .set)
     (b .begin-layers .last .0) (given b) (l .this) (l .next) (l .far) (l .looks) (l .work) (l .inv .going)
     (sized b .set-words .result) (size (head P)) (P .before .before .if1 .taken) (P .pop .result) (P .pop .last .0)
-    (P .pop .ensures) (c .take .last .1 .1 .1 .1 .0) (c .take .ensures)
+    (P .pop .ensures) (c .take .last .1 .1 .1 .1 .1 .0) (c .take .ensures)
 
 grows :
     (c : tie.After-take Inv-loop μ-loop) →
@@ -203,8 +203,8 @@ grows :
     let l = head P .loop in
     let n = length (a .owners .now) in
     let m = length (a .targets .now) in
-    count n (takenAt n m (a .set) (l .this) (l .next) (l .work)) < count n (takenAt n m (a .set) (l .this) (l .next)
-    (c .take .last .1 .1 .1 .1 .0))
+    count n (takenAt n (a .set) (l .this) (l .next) (l .work)) < count n (takenAt n (a .set) (l .this) (l .next)
+    (c .take .last .1 .1 .1 .1 .1 .0))
 grows c =
     let P = popped c in
     let b = begun (head P) in
@@ -213,7 +213,7 @@ grows c =
     taken-grows (a .owners .now) (a .offsets .now) (a .targets .now) (a .alpha) (a .within) (a .set)
     (b .begin-layers .last .0) (given b) (l .this) (l .next) (l .far) (l .looks) (l .work) (l .inv .going)
     (sized b .set-words .result) (size (head P)) (P .before .before .if1 .taken) (P .pop .result) (P .pop .last .0)
-    (P .pop .ensures) (c .take .last .1 .1 .1 .1 .0) (c .take .ensures)
+    (P .pop .ensures) (c .take .last .1 .1 .1 .1 .1 .0) (c .take .ensures)
 
 set-words-requires : tie.Need-set-words-requires Inv-loop μ-loop
 set-words-requires c κs = search needs
@@ -233,12 +233,20 @@ add-first-4 c = search needs
 add-first-5 : tie.Need-add-first-5 Inv-loop μ-loop
 add-first-5 c = search needs
 
-initialize-attractor-counters-requires :
-    tie.Need-initialize-attractor-counters-requires Inv-loop μ-loop
-initialize-attractor-counters-requires c κs =
+add-clear : tie.Need-add-clear Inv-loop μ-loop
+add-clear c = search needs
+
+mul-clear : tie.Need-mul-clear Inv-loop μ-loop
+mul-clear c = search needs
+
+add-clear-2 : tie.Need-add-clear-2 Inv-loop μ-loop
+add-clear-2 c = search needs
+
+clear-requires : tie.Need-clear-requires Inv-loop μ-loop
+clear-requires c κs =
     let g = at1 (c .before) in
     let a = g .args in
-    count-ready (a .owners .now) (a .offsets .now) (a .targets .now) (a .alpha) (a .within) (a .set)
+    clear-ready (a .owners .now) (a .offsets .now) (a .targets .now) (a .alpha) (a .within) (a .set)
     (c .before .set-words .result) (a .work .now) (g .pre) (c .before .set-words .ensures)
 
 begin-layers-requires : tie.Need-begin-layers-requires Inv-loop μ-loop
@@ -249,7 +257,7 @@ begin-layers-requires c κs =
     let a = g .args in
     begin-ready (a .owners .now) (a .offsets .now) (a .targets .now) (a .alpha) (a .within) (a .set) (w .set-words .result)
     (a .work .now)
-    (g .pre) (w .set-words .ensures) _ (i .initialize-attractor-counters .ensures)
+    (g .pre) (w .set-words .ensures) _ (i .clear .ensures)
 
 add-next : tie.Need-add-next Inv-loop μ-loop
 add-next c =
@@ -278,13 +286,13 @@ add-next-2 c =
 loop-holds : tie.Need-loop-holds Inv-loop μ-loop
 loop-holds c =
     let b = c .before .before in
-    let i = counted b in
+    let i = cleared b in
     let w = sized b in
     let g = at1 w in
     let a = g .args in
     started (a .owners .now) (a .offsets .now) (a .targets .now) (a .alpha) (a .within) (a .set) (w .set-words .result)
     (a .work .now)
-    (g .pre) (w .set-words .ensures) _ (i .initialize-attractor-counters .ensures) _ (b .begin-layers .ensures)
+    (g .pre) (w .set-words .ensures) _ (i .clear .ensures) _ (b .begin-layers .ensures)
 
 add-if1 : tie.Need-add-if1 Inv-loop μ-loop
 add-if1 c = omega (arith, fits (c), size (c), long (c), start-of (begun (c)) .good)
@@ -442,7 +450,7 @@ add-far c =
     omega (
       arith,
       d .loop .inv .deep,
-      count-le (length (a .owners .now)) (takenAt (length (a .owners .now)) (length (a .targets .now)) (a .set) (d .loop .this)
+      count-le (length (a .owners .now)) (takenAt (length (a .owners .now)) (a .set) (d .loop .this)
           (d .loop .next) (d .loop .work)),
       given (begun d) .edges .few-vertices,
     )
@@ -460,9 +468,9 @@ loop-less c =
     ap (count n)
     (turned (a .owners .now) (a .offsets .now) (a .targets .now) (a .alpha) (a .within) (a .set) (b .begin-layers .last .0)
     (given b) (l .this) (l .next) (l .far)
-    _ (e .take .last .1 .1 .1 .1 .0) (going e)
-    (ap (λ (k : ℕ). getD (e .take .last .1 .1 .1 .1 .0) (l .this + k) 0) (sym (size (head P))) ∙ c .if2 .taken)) in
-    omega (arith, grows e, count-le n (takenAt n m (a .set) (l .this) (l .next) (e .take .last .1 .1 .1 .1 .0)))
+    _ (e .take .last .1 .1 .1 .1 .1 .0) (going e)
+    (ap (λ (k : ℕ). getD (e .take .last .1 .1 .1 .1 .1 .0) (l .this + k) 0) (sym (size (head P))) ∙ c .if2 .taken)) in
+    omega (arith, grows e, count-le n (takenAt n (a .set) (l .this) (l .next) (e .take .last .1 .1 .1 .1 .1 .0)))
 
 loop-again : tie.Need-loop-again Inv-loop μ-loop
 loop-again c =
@@ -473,8 +481,8 @@ loop-again c =
     let l = head P .loop in
     running-turn (a .owners .now) (a .offsets .now) (a .targets .now) (a .alpha) (a .within) (a .set) (b .begin-layers .last .0)
     (given b) (l .this) (l .next)
-    (l .far) _ (e .take .last .1 .1 .1 .1 .0) (going e) (omega (arith, grows e, l .inv .deep))
-    (ap (λ (k : ℕ). getD (e .take .last .1 .1 .1 .1 .0) (l .this + k) 0) (sym (size (head P))) ∙ c .if2 .taken)
+    (l .far) _ (e .take .last .1 .1 .1 .1 .1 .0) (going e) (omega (arith, grows e, l .inv .deep))
+    (ap (λ (k : ℕ). getD (e .take .last .1 .1 .1 .1 .1 .0) (l .this + k) 0) (sym (size (head P))) ∙ c .if2 .taken)
 
 loop-less-2 : tie.Need-loop-less-2 Inv-loop μ-loop
 loop-less-2 c =
@@ -486,8 +494,8 @@ loop-less-2 c =
     omega (
       arith,
       grows e,
-      count-le (length (a .owners .now)) (takenAt (length (a .owners .now)) (length (a .targets .now))
-          (a .set) (l .this) (l .next) (e .take .last .1 .1 .1 .1 .0)),
+      count-le (length (a .owners .now)) (takenAt (length (a .owners .now))
+          (a .set) (l .this) (l .next) (e .take .last .1 .1 .1 .1 .1 .0)),
     )
 
 loop-again-2 : tie.Need-loop-again-2 Inv-loop μ-loop
@@ -499,8 +507,8 @@ loop-again-2 c =
     let l = head P .loop in
     running-on (a .owners .now) (a .offsets .now) (a .targets .now) (a .alpha) (a .within) (a .set) (b .begin-layers .last .0)
     (given b) (l .this) (l .next)
-    (l .far) _ (e .take .last .1 .1 .1 .1 .0) (going e) (omega (arith, grows e, l .inv .deep))
-    (λ z. c .if2 .left (ap (λ (k : ℕ). getD (e .take .last .1 .1 .1 .1 .0) (l .this + k) 0) (size (head P)) ∙ z))
+    (l .far) _ (e .take .last .1 .1 .1 .1 .1 .0) (going e) (omega (arith, grows e, l .inv .deep))
+    (λ z. c .if2 .left (ap (λ (k : ℕ). getD (e .take .last .1 .1 .1 .1 .1 .0) (l .this + k) 0) (size (head P)) ∙ z))
 
 same-length : tie.Need-same-length Inv-loop μ-loop
 same-length c = long (c .before .before)
@@ -534,7 +542,10 @@ attract-spec =
     add-first-3
     add-first-4
     add-first-5
-    initialize-attractor-counters-requires
+    add-clear
+    mul-clear
+    add-clear-2
+    clear-requires
     begin-layers-requires
     add-next
     add-next-2

@@ -56,6 +56,9 @@ mul-base c = search needs
 add-base-7 : tie.Need-add-base-7
 add-base-7 c = search needs
 
+add-base-8 : tie.Need-add-base-8
+add-base-8 c = search needs
+
 prepare-requires : tie.Need-prepare-requires
 prepare-requires c κs =
     let g = c .before .before .before .before .before .before .before .before .before .before in
@@ -132,6 +135,7 @@ run-spec =
     add-base-6
     mul-base
     add-base-7
+    add-base-8
     prepare-requires
     add-attract
     attract-requires

@@ -96,7 +96,7 @@ same-length c =
     let a = g .args in
     let i = d .before .before .before .before .insert in
     state-joined (a .n) (a .m) (a .set) (a .next) (a .work .now) (g .pre .room) (a .s) (a .v) (a .far) (i .last .0)
-    (g .pre .size) (g .pre .small) (i .ensures) (d .add .last .0) (d .add .ensures) .kept .long
+    (g .pre .size) (g .pre .small) (i .ensures) (d .add .last .0) (d .add .ensures) (λ u. 0) .kept .long
 
 returns : tie.Need-returns
 returns c =

@@ -7,15 +7,15 @@ use Rattle.attractor_step.proofs.step.take.Statement.{statement}
 use Rattle.attractor_step.proofs.step.take.Tie as tie
 
 abbrev Inv-loop : tie.InvT-loop
-Inv-loop owners m s alpha work₀ within set next w far n first last e₀ work e =
-    Looking owners m alpha within set next w far work₀ e work
+Inv-loop owners offsets targets s alpha work₀ within set next w far n first last e₀ work e =
+    Looking owners offsets targets alpha within set next w far work₀ e work
 
 abbrev μ-loop : tie.MeasureT-loop
-μ-loop owners m s alpha work₀ within set next w far n first last e₀ work e = last - e
+μ-loop owners offsets targets s alpha work₀ within set next w far n first last e₀ work e = last - e
 
 -- where the function begins
 abbrev start-of : tie.At-loop Inv-loop μ-loop → tie.Start Inv-loop μ-loop
-start-of c = c .before .before .before .before .before
+start-of c = c .before .before .before .before .before .before .before
 
 mul-first : tie.Need-mul-first Inv-loop μ-loop
 mul-first c = search needs
@@ -34,9 +34,10 @@ slice-read-last c = search needs
 
 loop-holds : tie.Need-loop-holds Inv-loop μ-loop
 loop-holds c =
-    let g = c .before .before .before .before in
+    let g = c .before .before .before .before .before .before in
     let a = g .args in
-    looking-none (a .owners .now) (a .m) (a .s) (a .alpha) (a .within) (a .set) (a .next) (a .w) (a .far) (a .work .now) (g .pre)
+    looking-none (a .owners .now) (a .offsets .now) (a .targets .now) (a .s) (a .alpha) (a .within) (a .set) (a .next)
+    (a .w) (a .far) (a .work .now) (g .pre)
 
 add-v : tie.Need-add-v Inv-loop μ-loop
 add-v c = search needs
@@ -56,7 +57,8 @@ touch-requires c κs =
     let g = start-of (d .before) in
     let a = g .args in
     let l = d .before .loop in
-    look-ready (a .owners .now) (a .m) (a .s) (a .alpha) (a .within) (a .set) (a .next) (a .w) (a .far) (a .work .now) (g .pre)
+    look-ready (a .owners .now) (a .offsets .now) (a .targets .now) (a .s) (a .alpha) (a .within) (a .set) (a .next)
+    (a .w) (a .far) (a .work .now) (g .pre)
     (l .e) (l .work) (l .inv) (d .loop-test .taken)
 
 add-e : tie.Need-add-e Inv-loop μ-loop
@@ -72,7 +74,8 @@ loop-again c =
     let g = start-of (d .before) in
     let a = g .args in
     let l = d .before .loop in
-    looking-more (a .owners .now) (a .m) (a .s) (a .alpha) (a .within) (a .set) (a .next) (a .w) (a .far) (a .work .now) (g .pre)
+    looking-more (a .owners .now) (a .offsets .now) (a .targets .now) (a .s) (a .alpha) (a .within) (a .set) (a .next)
+    (a .w) (a .far) (a .work .now) (g .pre)
     (l .e) (l .work) (l .inv) (d .loop-test .taken) _ (t .touch .ensures)
 
 same-length : tie.Need-same-length Inv-loop μ-loop
@@ -83,7 +86,8 @@ returns c =
     let g = start-of (c .before) in
     let a = g .args in
     let l = c .before .loop in
-    looking-all (a .owners .now) (a .m) (a .s) (a .alpha) (a .within) (a .set) (a .next) (a .w) (a .far) (a .work .now) (g .pre)
+    looking-all (a .owners .now) (a .offsets .now) (a .targets .now) (a .s) (a .alpha) (a .within) (a .set) (a .next)
+    (a .w) (a .far) (a .work .now) (g .pre)
     (l .e) (l .work) (l .inv) (c .loop-test .left)
 
 pub take-spec : {M : Type 1} → statement M

@@ -1,27 +1,29 @@
 -- `touch` meets its contract: by its tests it does nothing, gives an entry and joins, or counts down and joins at 0.
 use mathlib.Core.Bool.{Bool, true, false, _&&_, not}
 use mathlib.Core.Path.{_≡_, sym, ap₂, _∙_}
-use Prim.Native.Nat.{ℕ, _+_, _-_}
-use native.Mathlib.Omega.{arith}
+use Prim.Native.Nat.{ℕ, _+_}
 use borrow.Author.Needs.{needs}
 use borrow.Author.Tests.{not-true, not-false, eq-eqb, ne-eqb}
-use lib.ListN.{length, getD, set}
+use lib.ListN.{length, set}
 use Rattle.rules.specs.Counting.{Set}
 use Rattle.theory.specs.Basics.{and-left, and-right}
-use Rattle.area.specs.Area.{counters, entries, setAt}
+use Rattle.area.specs.Area.{entries, setAt}
 use Rattle.attractor_step.specs.State.{State, entered, counted, touched}
 use Rattle.attractor_step.specs.State.{touched-passed, touched-entry, touched-last, touched-count}
 use Rattle.attractor_step.specs.View.{stateAt, Becomes}
-use Rattle.attractor_counters.specs.Counters.{ownBy}
-use Rattle.attractor_step.specs.Views.{cells-at, becomes-same, becomes-then, becomes-as, store-entry, store-counter}
+use Rattle.attractor_counters.specs.Counters.{ownBy, insideCount}
+use Rattle.attractor_step.specs.Views.{becomes-same, becomes-then, becomes-as, store-entry, count-becomes}
 use Rattle.area.specs.Lent.{bit-fits, part-set}
 use Rattle.attractor_step.specs.Views.{kept-room}
 use Rattle.attractor_step.proofs.step.touch.Statement.{statement}
 use Rattle.attractor_step.proofs.step.touch.Tie as tie
 
--- the number of vertices, V, the own vertices and the state, where the function begins
+-- the numbers of vertices and edges, V, the own vertices, the counters at first and the state, where the function begins
 abbrev n : tie.Start → ℕ
 n c = length (c .args .owners .now)
+
+abbrev m : tie.Start → ℕ
+m c = length (c .args .targets .now)
 
 abbrev inside : tie.Start → Set
 inside c = setAt (n c) (c .args .within) (c .args .work .now)
@@ -29,17 +31,20 @@ inside c = setAt (n c) (c .args .within) (c .args .work .now)
 abbrev own : tie.Start → Set
 own c = ownBy (c .args .owners .now) (c .args .alpha)
 
+abbrev counts : tie.Start → ℕ → ℕ
+counts c = insideCount (c .args .offsets .now) (c .args .targets .now) (inside c)
+
 abbrev state : tie.Start → State
-state c = stateAt (n c) (c .args .m) (c .args .set) (c .args .next) (c .args .work .now)
+state c = stateAt (counts c) (n c) (m c) (c .args .set) (c .args .next) (c .args .work .now)
 
 abbrev at1 : tie.After-in-difference → tie.Start
-at1 c = c .before .before .before .before .before .before
+at1 c = c .before .before .before .before .before .before .before .before
 
-abbrev at2 : tie.After-shared-slice-known2 → tie.Start
+abbrev at2 : tie.After-shared-slice-known4 → tie.Start
 at2 c = at1 (c .before .before)
 
-abbrev at3 : tie.After-slice-known3 → tie.Start
-at3 c = at2 (c .before .before)
+abbrev at3 : tie.After-count-down → tie.Start
+at3 c = at2 (c .before .before .before)
 
 -- what the first test says
 is-new : (c : tie.After-in-difference) → c .in-difference .result ≡ (inside (at1 c) (at1 c .args .v) && not (state (at1 c)
@@ -55,10 +60,10 @@ new : (c : tie.Else1) → (inside (at1 (c .before)) (at1 (c .before) .args .v) &
     (c .before) .args .v))) ≡ true
 new c = sym (is-new (c .before)) ∙ not-false _ (c .if1 .left)
 
-in2 : (c : tie.After-shared-slice-known2) → inside (at2 c) (at2 c .args .v) ≡ true
+in2 : (c : tie.After-shared-slice-known4) → inside (at2 c) (at2 c .args .v) ≡ true
 in2 c = and-left _ _ (new (c .before))
 
-out2 : (c : tie.After-shared-slice-known2) → state (at2 c) .members (at2 c .args .v) ≡ false
+out2 : (c : tie.After-shared-slice-known4) → state (at2 c) .members (at2 c .args .v) ≡ false
 out2 c = not-true _ (and-right (inside (at2 c) (at2 c .args .v)) _ (new (c .before)))
 
 mine : (c : tie.Then2) → own (at2 (c .before)) (at2 (c .before) .args .v) ≡ true
@@ -71,43 +76,23 @@ theirs c = ne-eqb _ _ (c .if2 .left)
 entry-given :
     (c : tie.Then2) →
     let g = at2 (c .before) in
-    Becomes (n g) (g .args .m) (g .args .set) (g .args .next) (entered (g .args .w) (g .args .v)) (g .args .work .now)
-    (set (g .args .work .now) (entries (n g) (g .args .m) + g .args .v) (g .args .w))
+    Becomes (counts g) (n g) (m g) (g .args .set) (g .args .next) (entered (g .args .w) (g .args .v)) (g .args .work .now)
+    (set (g .args .work .now) (entries (n g) (m g) + g .args .v) (g .args .w))
 entry-given c =
     let g = at2 (c .before) in
-    store-entry (n g) (g .args .m) (g .args .set) (g .args .next) (g .args .work .now) (g .pre .room) (g .args .v) (g .args .w)
-    (g .pre .safe .below)
+    store-entry (counts g) (n g) (m g) (g .args .set) (g .args .next) (g .args .work .now) (g .pre .room)
+    (g .args .v) (g .args .w) (g .pre .safe .below)
 
 -- the counter falls
 count-given :
-    (c : tie.After-slice-known3) →
+    (c : tie.After-count-down) →
     let g = at3 c in
-    let i = counters (n g) (g .args .m) + g .args .v in
-    Becomes (n g) (g .args .m) (g .args .set) (g .args .next) (counted (g .args .v)) (g .args .work .now)
-    (set (g .args .work .now) i (getD (g .args .work .now) i 0 - 1))
+    Becomes (counts g) (n g) (m g) (g .args .set) (g .args .next) (counted (g .args .v)) (g .args .work .now)
+    (c .count-down .last .1 .1 .1 .1 .0)
 count-given c =
     let g = at3 c in
-    store-counter (n g) (g .args .m) (g .args .set) (g .args .next) (g .args .work .now) (g .pre .room) (g .args .v)
-    (g .pre .safe .below)
-
--- the counter as it is read
-counter-is :
-    (c : tie.After-slice-known3) →
-    let g = at3 c in
-    state g .counter (g .args .v) - 1 ≡ 0 →
-    getD (g .args .work .now) (counters (n g) (g .args .m) + g .args .v) 0 - 1 ≡ 0
-counter-is c z =
-    let g = at3 c in
-    omega (arith, cells-at (n g) (counters (n g) (g .args .m)) (g .args .work .now) (g .args .v) (g .pre .safe .below))
-
-is-counter :
-    (c : tie.After-slice-known3) →
-    let g = at3 c in
-    getD (g .args .work .now) (counters (n g) (g .args .m) + g .args .v) 0 - 1 ≡ 0 →
-    state g .counter (g .args .v) - 1 ≡ 0
-is-counter c z =
-    let g = at3 c in
-    omega (arith, cells-at (n g) (counters (n g) (g .args .m)) (g .args .work .now) (g .args .v) (g .pre .safe .below))
+    count-becomes (counts g) (n g) (m g) (g .args .set) (g .args .next) (g .args .work .now) (g .pre .room)
+    (c .count-down .ensures)
 
 add-in-difference : tie.Need-add-in-difference
 add-in-difference c = search needs
@@ -141,7 +126,7 @@ part-in-difference-end-2 c = search needs
 
 in-difference-requires : tie.Need-in-difference-requires
 in-difference-requires c κs =
-    let g = c .before .before .before .before .before in
+    let g = c .before .before .before .before .before .before .before in
     let a = g .args in (
       bit-fits (n g) (a .s) (a .within) (a .v) (a .work .now) (g .pre .size) (g .pre .placed .within-high) (g .pre .safe .below),
       bit-fits (n g) (a .s) (a .set) (a .v) (a .work .now) (g .pre .size) (g .pre .placed .set-high) (g .pre .safe .below),
@@ -155,7 +140,7 @@ returns c =
     let g = at1 (c .before) in
     becomes-as
     (touched (inside g) (own g) (g .args .w) (g .args .far) (g .args .v))
-    (becomes-same (n g) (g .args .m) (g .args .set) (g .args .next) (g .args .work .now))
+    (becomes-same (counts g) (n g) (m g) (g .args .set) (g .args .next) (g .args .work .now))
     (touched-passed (inside g) (own g) (g .args .w) (g .args .far) (g .args .v) (state g) (sym (is-new (c .before)) ∙
     not-true _ (c .if1 .taken)))
 
@@ -194,7 +179,8 @@ join-requires c κs =
     }
 
 same-length-2 : tie.Need-same-length-2
-same-length-2 c = c .before .before .join .ensures .kept .long ∙ entry-given (c .before .before .before .before) .kept .long
+same-length-2 c =
+    c .before .before .join .ensures (λ u. 0) .kept .long ∙ entry-given (c .before .before .before .before) .kept .long
 
 returns-2 : tie.Need-returns-2
 returns-2 c =
@@ -202,66 +188,41 @@ returns-2 c =
     let g = at2 (d .before) in
     becomes-as
     (touched (inside g) (own g) (g .args .w) (g .args .far) (g .args .v))
-    (becomes-then (entry-given d) (c .before .before .join .ensures))
+    (becomes-then (entry-given d) (c .before .before .join .ensures (counts g)))
     (touched-entry (inside g) (own g) (g .args .w) (g .args .far) (g .args .v) (state g) (in2 (d .before)) (out2 (d .before))
     (mine d))
 
-add-left : tie.Need-add-left
-add-left c = search needs
-
-add-left-2 : tie.Need-add-left-2
-add-left-2 c = search needs
-
-add-left-3 : tie.Need-add-left-3
-add-left-3 c = search needs
-
-mul-left : tie.Need-mul-left
-mul-left c = search needs
-
-slice-read-left : tie.Need-slice-read-left
-slice-read-left c = search needs
-
-sub-left : tie.Need-sub-left
-sub-left c =
-    let g = at3 c in
-    omega (
-      arith,
-      g .pre .safe .counts (in2 (c .before .before)) (out2 (c .before .before)) (theirs (c .before)),
-      cells-at (n g) (counters (n g) (g .args .m)) (g .args .work .now) (g .args .v) (g .pre .safe .below),
-    )
-
-add-work-6 : tie.Need-add-work-6
-add-work-6 c = search needs
-
-add-work-7 : tie.Need-add-work-7
-add-work-7 c = search needs
-
-add-work-8 : tie.Need-add-work-8
-add-work-8 c = search needs
-
-mul-work-2 : tie.Need-mul-work-2
-mul-work-2 c = search needs
-
-slice-write-work-2 : tie.Need-slice-write-work-2
-slice-write-work-2 c = search needs
+count-down-requires : tie.Need-count-down-requires
+count-down-requires c κs =
+    let e = c .before in
+    let g = at2 (e .before) in
+    record {
+      size = g .pre .size;
+      edges = g .pre .edges;
+      low = g .pre .placed .within-low;
+      high = g .pre .placed .within-high;
+      small = g .pre .safe .below;
+      some = g .pre .safe .counts (in2 (e .before)) (out2 (e .before)) (theirs e);
+    }
 
 same-length-3 : tie.Need-same-length-3
 same-length-3 c = search needs
 
 returns-3 : tie.Need-returns-3
 returns-3 c =
-    let d = c .before in
+    let d = c .before .before .before in
+    let e = d .before .before in
     let g = at3 d in
     becomes-as
     (touched (inside g) (own g) (g .args .w) (g .args .far) (g .args .v))
     (count-given d)
-    (touched-count (inside g) (own g) (g .args .w) (g .args .far) (g .args .v) (state g) (in2 (d .before .before)) (out2
-    (d .before .before)) (theirs (d .before))
-    (λ z. c .if3 .taken (counter-is d z)))
+    (touched-count (inside g) (own g) (g .args .w) (g .args .far) (g .args .v) (state g) (in2 (e .before)) (out2 (e .before))
+    (theirs e)
+    (λ z. c .if3 .taken (d .count-down .ensures .less ∙ z)))
 
 join-requires-2 : tie.Need-join-requires-2
 join-requires-2 c κs =
-    let d = c .before .before in
+    let d = c .before .before .before .before in
     let g = at3 d in
     record {
       size = g .pre .size;
@@ -271,20 +232,20 @@ join-requires-2 c κs =
     }
 
 same-length-4 : tie.Need-same-length-4
-same-length-4 c = c .before .before .join2 .ensures .kept .long ∙ count-given (c .before .before .before .before .before)
-    .kept .long
+same-length-4 c = search needs
 
 returns-4 : tie.Need-returns-4
 returns-4 c =
-    let e = c .before .before .before .before in
-    let d = e .before in
+    let z = c .before .before .before .before in
+    let d = z .before .before .before in
+    let e = d .before .before in
     let g = at3 d in
     becomes-as
     (touched (inside g) (own g) (g .args .w) (g .args .far) (g .args .v))
-    (becomes-then (count-given d) (c .before .before .join2 .ensures))
-    (touched-last (inside g) (own g) (g .args .w) (g .args .far) (g .args .v) (state g) (in2 (d .before .before)) (out2
-    (d .before .before)) (theirs (d .before))
-    (is-counter d (e .if3 .left)))
+    (becomes-then (count-given d) (c .before .before .join2 .ensures (counts g)))
+    (touched-last (inside g) (own g) (g .args .w) (g .args .far) (g .args .v) (state g) (in2 (e .before)) (out2 (e .before))
+    (theirs e)
+    (sym (d .count-down .ensures .less) ∙ z .if3 .left))
 
 pub touch-spec : {M : Type 1} → statement M
 touch-spec =
@@ -314,17 +275,7 @@ touch-spec =
     join-requires
     same-length-2
     returns-2
-    add-left
-    add-left-2
-    add-left-3
-    mul-left
-    slice-read-left
-    sub-left
-    add-work-6
-    add-work-7
-    add-work-8
-    mul-work-2
-    slice-write-work-2
+    count-down-requires
     same-length-3
     returns-3
     join-requires-2

@@ -98,6 +98,9 @@ mul-unsolved c = omega (arith, few (start-at c), c .set-words .ensures)
 add-unsolved-3 : tie.Need-add-unsolved-3
 add-unsolved-3 c = omega (arith, few (start-at c), c .set-words .ensures)
 
+add-unsolved-4 : tie.Need-add-unsolved-4
+add-unsolved-4 c = omega (arith, few (start-at c), c .set-words .ensures)
+
 prepare-requires : tie.Need-prepare-requires
 prepare-requires c κs =
     let g = c .before .before .before .before .before .before .before .before .before .before .before in
@@ -203,6 +206,7 @@ run-spec =
     add-unsolved-2
     mul-unsolved
     add-unsolved-3
+    add-unsolved-4
     prepare-requires
     begin-requires
     solve-requires

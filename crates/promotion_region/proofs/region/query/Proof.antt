@@ -32,6 +32,9 @@ mul-unsolved c = search needs
 add-unsolved-2 : tie.Need-add-unsolved-2
 add-unsolved-2 c = search needs
 
+add-unsolved-3 : tie.Need-add-unsolved-3
+add-unsolved-3 c = search needs
+
 add-lower : tie.Need-add-lower
 add-lower c = search needs
 
@@ -106,6 +109,7 @@ query-spec =
     add-unsolved
     mul-unsolved
     add-unsolved-2
+    add-unsolved-3
     add-lower
     add-held
     mul-regions

@@ -57,6 +57,9 @@ add-lower-3 c = search needs
 add-lower-4 : tie.Need-add-lower-4
 add-lower-4 c = search needs
 
+add-lower-5 : tie.Need-add-lower-5
+add-lower-5 c = search needs
+
 add-regions : tie.Need-add-regions
 add-regions c = search needs
 
@@ -93,8 +96,8 @@ copy-counts-requires c κs =
     let g = first (cleared p) in
     (g .pre .kept-long, omega (arith, g .pre .room, cleared p .clear .ensures .long, p .write-regions .ensures .long))
 
-shared-slice-read-t22 : tie.Need-shared-slice-read-t22
-shared-slice-read-t22 c = omega (arith, first (cleared (placed (written c))) .pre .kept-long)
+shared-slice-read-highest : tie.Need-shared-slice-read-highest
+shared-slice-read-highest c = omega (arith, first (cleared (placed (written c))) .pre .kept-long)
 
 same-length : tie.Need-same-length
 same-length c = begun (written c) .long
@@ -115,6 +118,7 @@ begin-spec =
     mul-lower
     add-lower-3
     add-lower-4
+    add-lower-5
     add-regions
     mul-regions
     add-regions-2
@@ -125,6 +129,6 @@ begin-spec =
     write-regions-requires
     add-copy-counts
     copy-counts-requires
-    shared-slice-read-t22
+    shared-slice-read-highest
     same-length
     returns)

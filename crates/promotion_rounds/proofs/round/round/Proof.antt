@@ -61,6 +61,9 @@ mul-unsolved c = search needs
 add-unsolved-3 : tie.Need-add-unsolved-3
 add-unsolved-3 c = search needs
 
+add-unsolved-4 : tie.Need-add-unsolved-4
+add-unsolved-4 c = search needs
+
 add-held : tie.Need-add-held
 add-held c = search needs
 
@@ -250,6 +253,7 @@ round-spec =
     add-unsolved-2
     mul-unsolved
     add-unsolved-3
+    add-unsolved-4
     add-held
     add-held-2
     mul-regions

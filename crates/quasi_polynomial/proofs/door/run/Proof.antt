@@ -89,6 +89,9 @@ mul-all c = omega (arith, few (start c))
 add-all-7 : tie.Need-add-all-7
 add-all-7 c = omega (arith, few (start c))
 
+add-all-8 : tie.Need-add-all-8
+add-all-8 c = omega (arith, few (start c))
+
 add-base : tie.Need-add-base
 add-base c = omega (arith, few (start c))
 
@@ -212,6 +215,7 @@ run-spec =
     add-all-6
     mul-all
     add-all-7
+    add-all-8
     add-base
     prepare-requires
     copy-with-requires

@@ -27,7 +27,8 @@ began z = z .before .before .before .before .before .before .before .before .bef
 
 abbrev base : tie.After-set-words → ℕ
 base z =
-    let a = began z .args in layers (length (a .owners .now)) (length (a .targets .now)) + 2 * (z .set-words .result + 1)
+    let a = began z .args in
+    layers (length (a .owners .now)) (length (a .targets .now)) + 2 * (z .set-words .result + 1) + z .set-words .result
 
 first : (z : tie.After-set-words) → let a = began z .args in base z ≡ free (length (a .owners .now)) (length (a .targets .now))
 first z = omega (arith, z .set-words .ensures)
@@ -108,6 +109,9 @@ mul-base c = omega (arith, few (began c), c .set-words .ensures)
 
 add-base-3 : tie.Need-add-base-3
 add-base-3 c = omega (arith, few (began c), c .set-words .ensures)
+
+add-base-4 : tie.Need-add-base-4
+add-base-4 c = omega (arith, few (began c), c .set-words .ensures)
 
 prepare-requires : tie.Need-prepare-requires
 prepare-requires c κs =
@@ -203,6 +207,7 @@ run-spec =
     add-base-2
     mul-base
     add-base-3
+    add-base-4
     prepare-requires
     zielonka-rec-requires
     enum-known-ran
