@@ -47,7 +47,8 @@ loop-less : tie.Need-loop-less Inv-loop μ-loop
 loop-less c = search needs
 
 loop-again : tie.Need-loop-again Inv-loop μ-loop
-loop-again c = copied-more (first (c .before) .pre .1) (c .before .before .loop .inv) (c .before .loop-test .taken)
+loop-again c =
+    copied-more (first (c .before) .pre .1) (c .before .before .loop .inv) (omega (arith, c .before .loop-test .taken))
 
 same-length : tie.Need-same-length Inv-loop μ-loop
 same-length c = c .before .loop .inv .long
