@@ -38,7 +38,7 @@ fn ask(
 {
     match asks {
         Asks::Text => Answer::Answered(0),
-        Asks::Game => parity_game::check_tables(
+        Asks::Game => table_checks::check_tables(
             &owners[0..n],
             &priorities[0..n],
             &offsets[0..n + 1],

@@ -25,7 +25,7 @@ pub extern "C" fn reckonbough_check_tables(
         (answered 0) ⌝ }
 {
     tell(
-        parity_game::check_tables(owners, priorities, offsets, targets),
+        table_checks::check_tables(owners, priorities, offsets, targets),
         place,
         count,
     )

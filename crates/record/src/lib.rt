@@ -66,7 +66,7 @@ fn check_fronts(
         (recordOf n m (now (owners .entry)) (now (priorities .entry)) (now (offsets .entry)) (now (targets .entry)) [])))
         (answered 0) ⌝ }
 {
-    parity_game::check_tables(
+    table_checks::check_tables(
         &owners[0..n],
         &priorities[0..n],
         &offsets[0..n + 1],

@@ -3,7 +3,7 @@ use libc::STDOUT_FILENO;
 
 // Checks the tables, and prints the name, the number given back and its place.
 fn report(name: &[u8], owners: &[u8], priorities: &[u16], offsets: &[u16], targets: &[u16]) {
-    let r = parity_game::check_tables(owners, priorities, offsets, targets);
+    let r = table_checks::check_tables(owners, priorities, offsets, targets);
     io::write_all(STDOUT_FILENO, name);
     io::write_all(STDOUT_FILENO, b" ");
     io::print_decimal(STDOUT_FILENO, r.number());

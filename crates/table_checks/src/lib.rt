@@ -1,0 +1,34 @@
+// Checks 1 to 8 as a plain pass over the tables: loops that are never left early, which become vector code, tell whether
+// all is well. Only where one of them says no do the checks of `parity_game` look for the number and the place.
+mod scan;
+
+use parity_game::Answer;
+use scan::are_well;
+ghost use mathlib.Core.Path.{_≡_};
+ghost use Rattle.rules.specs.Outcome.{outcome, answered};
+ghost use Rattle.rules.specs.Tables.{tableChecks, tablesOf};
+ghost use Rattle.parity_game.specs.Said.{said};
+
+// 1 to 8, for any four slices whatever they hold.
+pub fn check_tables(owners: &[u8], priorities: &[u16], offsets: &[u16], targets: &[u16]) -> Answer
+    ensures { λ r.
+        ⌜ said r
+        ≡ outcome
+        (tableChecks
+        (tablesOf (now (owners .entry)) (now (priorities .entry)) (now (offsets .entry)) (now (targets .entry))))
+        (answered 0) ⌝ }
+{
+    let r = parity_game::check_lengths(
+        owners.len(),
+        priorities.len(),
+        offsets.len(),
+        targets.len(),
+    );
+    if r.number() != 0 {
+        return r;
+    }
+    if are_well(owners, priorities, offsets, targets) {
+        return Answer::Answered(0);
+    }
+    parity_game::check_tables(owners, priorities, offsets, targets)
+}
