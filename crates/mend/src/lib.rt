@@ -30,19 +30,19 @@ fn check_export(owners: &[u8], priorities: &[u16], offsets: &[u16], targets: &[u
 {
     let n = owners.len();
     let m = targets.len();
-    let r = parity_game::check_lengths(n, priorities.len(), offsets.len(), m);
+    let r = refusals::check_lengths(n, priorities.len(), offsets.len(), m);
     if r.number() != 0 {
         return r;
     }
-    let r = parity_game::check_owners(owners);
+    let r = refusals::check_owners(owners);
     if r.number() != 0 {
         return r;
     }
-    let r = parity_game::check_priorities(priorities);
+    let r = refusals::check_priorities(priorities);
     if r.number() != 0 {
         return r;
     }
-    parity_game::check_offsets(offsets, n, m)
+    refusals::check_offsets(offsets, n, m)
 }
 
 // 35: each output and the list have the room that is needed.
@@ -87,8 +87,10 @@ pub fn mend(
     ensures { λ r.
         ⌜ Mends
         (tablesOf (now (owners .entry)) (now (priorities .entry)) (now (offsets .entry)) (now (targets .entry)))
-        (lentOf (now («new_priorities» .entry)) (now («new_offsets» .entry)) (now («new_targets» .entry)) (now (list .entry)))
-        (lentOf (now («new_priorities» .exit)) (now («new_offsets» .exit)) (now («new_targets» .exit)) (now (list .exit)))
+        (lentOf (now («new_priorities» .entry)) (now («new_offsets» .entry)) (now («new_targets» .entry))
+        (now (list .entry)))
+        (lentOf (now («new_priorities» .exit)) (now («new_offsets» .exit)) (now («new_targets» .exit))
+        (now (list .exit)))
         (said r) ⌝ }
 {
     let r = check_export(owners, priorities, offsets, targets);

@@ -27,7 +27,8 @@ pub fn kept_edges(owners: &[u8], offsets: &[u16], targets: &[u16], v: usize) -> 
 // The edges that lead to no vertex.
 pub fn dropped_edges(owners: &[u8], targets: &[u16]) -> usize
     ensures { λ r.
-        ⌜ r ≡ length (droppedUpTo (bare (now (owners .entry)) [] (now (targets .entry))) (length (now (targets .entry)))) ⌝ }
+        ⌜ r
+        ≡ length (droppedUpTo (bare (now (owners .entry)) [] (now (targets .entry))) (length (now (targets .entry)))) ⌝ }
 {
     let n = owners.len();
     let mut dropped = 0;

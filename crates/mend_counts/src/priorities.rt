@@ -15,7 +15,8 @@ fn new_priority(
     targets: &[u16],
     v: usize,
 ) -> u16
-    requires { ⌜ Mendable (tablesOf (now owners) (now priorities) (now offsets) (now targets)) × (v < length (now owners)) ⌝ }
+    requires { ⌜ Mendable (tablesOf (now owners) (now priorities) (now offsets) (now targets)) ×
+        (v < length (now owners)) ⌝ }
     ensures { λ r.
         ⌜ r ≡
         newPriority

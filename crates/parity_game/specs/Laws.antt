@@ -137,6 +137,15 @@ tables-grouped t =
     (then-assoc (check1 (vertices t)) _ (from4 t) ∙
     ap (λ (v : Verdict). check1 (vertices t) then v) (then-assoc (check2 _ _ _) (check3 (edgesIn t)) (from4 t)))
 
+-- the lengths of tables that 1 to 3 pass
+pub lengths-fit :
+    (t : Tables) → lengthChecks t ≡ none →
+    (length (t .priorities) ≡ vertices t) × (length (t .offsets) ≡ vertices t + 1)
+lengths-fit t e =
+    let second = check2 (vertices t) (length (t .priorities)) (length (t .offsets)) in
+    let after = then-none (check1 (vertices t)) (second then check3 (edgesIn t)) e .1 in
+    check2-none (vertices t) _ _ (then-none second (check3 (edgesIn t)) after .0)
+
 pub numbered-lengths : (t : Tables) → Numbered (lengthChecks t)
 numbered-lengths t =
     numbered-then (check1 (vertices t)) _ (numbered-check1 _)

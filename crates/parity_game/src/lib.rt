@@ -1,8 +1,8 @@
-// The tables of a game as lent slices: the tagged numbers of the Rust, the one answer type, and the checks 1 to 10.
-// Every function that takes tables checks them here first, so that no caller has to.
+// The tagged numbers of the Rust, the one answer type, how many words a set and the work area have, and the checks 9
+// and 10. The tables themselves are checked in `refusals` and `table_checks`.
 mod answer;
-mod checks;
 mod player;
+mod sizes;
 
 pub use answer::Answer;
 pub use answer::BAD_ENTRY;
@@ -37,16 +37,11 @@ pub use answer::STRAY_BIT;
 pub use answer::TABLE_LENGTHS;
 pub use answer::TOO_MANY_EDGES;
 pub use answer::TOO_MANY_VERTICES;
-pub use checks::check_lengths;
-pub use checks::check_offsets;
-pub use checks::check_owners;
-pub use checks::check_priorities;
-pub use checks::check_set;
-pub use checks::check_table;
-pub use checks::check_tables;
-pub use checks::check_work;
-pub use checks::set_words;
-pub use checks::work_words;
 pub use player::Player;
 pub use player::Priority;
 pub use player::VertexIndex;
+pub use sizes::check_set;
+pub use sizes::check_table;
+pub use sizes::check_work;
+pub use sizes::set_words;
+pub use sizes::work_words;

@@ -60,7 +60,8 @@ fn end_on(
 fn end_again(state: &[u64], used: usize, work: &mut [u64], n: &mut u64, m: &mut u64) -> Answer
     requires { ⌜ (32 ≤ length (now state)) × (used ≤ length (now work)) ⌝ }
     ensures { λ r.
-        ⌜ Again (now (state .entry)) used (now (work .entry)) (now (work .exit)) (now (n .exit)) (now (m .exit)) (said r) ⌝ }
+        ⌜ Again (now (state .entry)) used (now (work .entry)) (now (work .exit)) (now (n .exit)) (now (m .exit))
+        (said r) ⌝ }
 {
     clear_work(work, used);
     *n = state[3];

@@ -90,7 +90,8 @@ pub fn finish(
     n: &mut u64,
     m: &mut u64,
 ) -> Answer
-    requires { ⌜ Finishable records edges (roomsOf (now owners) (now priorities) (now offsets) (now targets) (now work)) ⌝ }
+    requires { ⌜ Finishable records edges
+        (roomsOf (now owners) (now priorities) (now offsets) (now targets) (now work)) ⌝ }
     ensures { λ r.
         ⌜ Finishes (asksIn asks) records edges
         (roomsOf (now (owners .entry)) (now (priorities .entry)) (now (offsets .entry)) (now (targets .entry))

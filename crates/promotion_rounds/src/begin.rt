@@ -27,8 +27,8 @@ fn copy_counts(kept: &[u64], work: &mut [u64], counts: usize)
     }
 }
 
-// Each vertex has its priority as region and no entry, and nobody has won anything: so the kept numbers are the regions'
-// counts and the first p. The table of predecessors and the set of unsolved vertices stand already.
+// Each vertex has its priority as region and no entry, and nobody has won anything: so the kept numbers are the
+// regions' counts and the first p. The table of predecessors and the set of unsolved vertices stand already.
 pub fn begin(priorities: &[u16], kept: &[u64], m: usize, s: usize, work: &mut [u64]) -> State
     requires { ⌜ Beginnable (now priorities) (now kept) m s (now work) ⌝ }
     ensures { λ r.

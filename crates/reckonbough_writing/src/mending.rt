@@ -21,8 +21,10 @@ pub extern "C" fn reckonbough_mend(
     ensures { λ n.
         ⌜ Mends
         (tablesOf (now (owners .entry)) (now (priorities .entry)) (now (offsets .entry)) (now (targets .entry)))
-        (lentOf (now («new_priorities» .entry)) (now («new_offsets» .entry)) (now («new_targets» .entry)) (now (list .entry)))
-        (lentOf (now («new_priorities» .exit)) (now («new_offsets» .exit)) (now («new_targets» .exit)) (now (list .exit)))
+        (lentOf (now («new_priorities» .entry)) (now («new_offsets» .entry)) (now («new_targets» .entry))
+        (now (list .entry)))
+        (lentOf (now («new_priorities» .exit)) (now («new_offsets» .exit)) (now («new_targets» .exit))
+        (now (list .exit)))
         (told n (now (place .exit)) (now (count .exit))) ⌝ }
 {
     tell(

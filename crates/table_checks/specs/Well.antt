@@ -8,11 +8,11 @@ use native.Mathlib.Omega.{arith}
 use borrow.Author.Count.{below-more}
 use borrow.Author.Tests.{le-ltb, lt-leb, eq-eqb, ne-eqb}
 use lib.Dec.{eqb, ltb, leb}
-use lib.ListN.{length, getD}
+use lib.ListN.{getD}
 use Rattle.rules.specs.Outcome.{Verdict, none, _then_}
 use Rattle.rules.specs.Tables.{Tables, vertices, edgesIn, degree, tableChecks}
-use Rattle.rules.specs.Tables.{check1, check2, check3, check4, check5, check6, check7, check8}
-use Rattle.parity_game.specs.Laws.{lengthChecks, from4, tables-grouped, then-none, check2-none}
+use Rattle.rules.specs.Tables.{check4, check5, check6, check7, check8}
+use Rattle.parity_game.specs.Laws.{lengthChecks, from4, tables-grouped}
 use Rattle.parity_game.specs.Search.{none-found}
 
 -- of the first k numbers none is above `most`
@@ -69,15 +69,6 @@ well-passes t w =
 -- what a test that says no tells of tables: nothing
 pub never : {A : Type 0} → false ≡ true → A
 never e = absurd (true≢false (sym e))
-
--- the lengths of tables that 1 to 3 pass
-pub lengths-fit :
-    (t : Tables) → lengthChecks t ≡ none →
-    (length (t .priorities) ≡ vertices t) × (length (t .offsets) ≡ vertices t + 1)
-lengths-fit t e =
-    let second = check2 (vertices t) (length (t .priorities)) (length (t .offsets)) in
-    let after = then-none (check1 (vertices t)) (second then check3 (edgesIn t)) e .1 in
-    check2-none (vertices t) _ _ (then-none second (check3 (edgesIn t)) after .0)
 
 -- tables that pass 1 to 3 and 4 to 8 pass all
 pub both-pass : (t : Tables) → lengthChecks t ≡ none → from4 t ≡ none → tableChecks t ≡ none

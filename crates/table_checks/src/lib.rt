@@ -1,5 +1,6 @@
-// Checks 1 to 8 as a plain pass over the tables: loops that are never left early, which become vector code, tell whether
-// all is well. Only where one of them says no do the checks of `parity_game` look for the number and the place.
+// The tables of a game as lent slices, checked before anything else is done with them: 1 to 8, for any four slices.
+// Loops that are never left early, which become vector code, tell whether all is well; only where one of them says no
+// do the checks of `refusals` look for the number and the place.
 mod scan;
 
 use parity_game::Answer;
@@ -18,17 +19,12 @@ pub fn check_tables(owners: &[u8], priorities: &[u16], offsets: &[u16], targets:
         (tablesOf (now (owners .entry)) (now (priorities .entry)) (now (offsets .entry)) (now (targets .entry))))
         (answered 0) ⌝ }
 {
-    let r = parity_game::check_lengths(
-        owners.len(),
-        priorities.len(),
-        offsets.len(),
-        targets.len(),
-    );
+    let r = refusals::check_lengths(owners.len(), priorities.len(), offsets.len(), targets.len());
     if r.number() != 0 {
         return r;
     }
     if are_well(owners, priorities, offsets, targets) {
         return Answer::Answered(0);
     }
-    parity_game::check_tables(owners, priorities, offsets, targets)
+    refusals::first_refusal(owners, priorities, offsets, targets)
 }

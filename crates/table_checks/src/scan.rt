@@ -53,7 +53,8 @@ pub fn are_well(owners: &[u8], priorities: &[u16], offsets: &[u16], targets: &[u
     requires { ⌜ (length (now priorities) ≡ length (now owners)) × (length (now offsets) ≡ length (now owners) + 1) ⌝ }
     ensures { λ r.
         ⌜ (r ≡ true →
-        Well (tablesOf (now (owners .entry)) (now (priorities .entry)) (now (offsets .entry)) (now (targets .entry)))) ⌝ }
+        Well
+        (tablesOf (now (owners .entry)) (now (priorities .entry)) (now (offsets .entry)) (now (targets .entry)))) ⌝ }
 {
     let n = owners.len();
     if 1 < highest_byte(owners) {

@@ -7,10 +7,14 @@ returns : tie.Need-returns
 returns c = rw (le-leb (c .before .args .size) (c .before .args .entry) (c .if1 .taken))
 
 returns-2 : tie.Need-returns-2
-returns-2 c = rw (lt-leb (c .before .before .args .size) (c .before .before .args .entry) (c .before .if1 .left), le-leb (c .before .before .args .limit) (c .before .before .args .value) (c .if2 .taken))
+returns-2 c =
+    let args = c .before .before .args in
+    rw (lt-leb (args .size) (args .entry) (c .before .if1 .left), le-leb (args .limit) (args .value) (c .if2 .taken))
 
 returns-3 : tie.Need-returns-3
-returns-3 c = rw (lt-leb (c .before .before .args .size) (c .before .before .args .entry) (c .before .if1 .left), lt-leb (c .before .before .args .limit) (c .before .before .args .value) (c .if2 .left))
+returns-3 c =
+    let args = c .before .before .args in
+    rw (lt-leb (args .size) (args .entry) (c .before .if1 .left), lt-leb (args .limit) (args .value) (c .if2 .left))
 
 pub check-own-spec : {M : Type 1} → statement M
 check-own-spec = tie.close (tie.spec returns returns-2 returns-3)

@@ -58,7 +58,8 @@ part-check-kept-end c = omega (arith, room c .priority-room)
 
 check-kept-requires : tie.Need-check-kept-requires
 check-kept-requires c κs =
-    let r = lent (c .before .before .before .before .before .before .before .before .before) in rw (part-front (r .n) (r .priorities)) (countable r (tables-ok (c .before)))
+    let r = lent (c .before .before .before .before .before .before .before .before .before) in
+    rw (part-front (r .n) (r .priorities)) (countable r (tables-ok (c .before)))
 
 returns-2 : tie.Need-returns-2
 unfolding recordChecks

@@ -1,12 +1,12 @@
 -- `check_tables` meets its contract: tables whose lengths fit and that are well pass all checks, and of others the checks
--- of `parity_game` say it.
+-- of `refusals` say it.
 use mathlib.Core.Path.{_≡_, sym, _∙_, ap}
 use borrow.Author.Needs.{needs}
 use Rattle.rules.specs.Outcome.{Verdict, none, outcome, answered}
 use Rattle.rules.specs.Tables.{Tables, tableChecks, tablesOf}
-use Rattle.parity_game.specs.Laws.{lengthChecks, from4, tables-grouped, numbered-lengths}
+use Rattle.parity_game.specs.Laws.{lengthChecks, from4, tables-grouped, numbered-lengths, lengths-fit}
 use Rattle.parity_game.proofs.Matched.{went-on, stopped}
-use Rattle.table_checks.specs.Well.{lengths-fit, well-passes, both-pass}
+use Rattle.table_checks.specs.Well.{well-passes, both-pass}
 use Rattle.table_checks.proofs.check_tables.Statement.{statement}
 use Rattle.table_checks.proofs.check_tables.Tie as tie
 
@@ -43,8 +43,8 @@ returns-2 c =
     let t = lent (at .before .before) in
     ap (λ (v : Verdict). outcome v (answered 0)) (sym (both-pass t (lengths-pass at) (well-passes t (c .before .are-well .ensures (c .if2 .taken)))))
 
-check-tables-requires : tie.Need-check-tables-requires
-check-tables-requires c κs = search needs
+first-refusal-requires : tie.Need-first-refusal-requires
+first-refusal-requires c κs = search needs
 
 returns-3 : tie.Need-returns-3
 returns-3 c = search needs
@@ -58,5 +58,5 @@ check-tables-spec =
     returns
     are-well-requires
     returns-2
-    check-tables-requires
+    first-refusal-requires
     returns-3)

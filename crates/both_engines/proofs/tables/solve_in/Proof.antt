@@ -86,7 +86,9 @@ again c =
     }
 
 solve-priority-promotion-requires : tie.Need-solve-priority-promotion-requires
-solve-priority-promotion-requires c κs = let at = c .before .before .before .before .before .before .before .before .before .before .before .before .before .before in at .pre .counted
+solve-priority-promotion-requires c κs =
+    let at = c .before .before .before .before .before .before .before .before .before .before .before .before .before .before in
+    at .pre .counted
 
 solve-zielonka-requires : tie.Need-solve-zielonka-requires
 solve-zielonka-requires c κs =

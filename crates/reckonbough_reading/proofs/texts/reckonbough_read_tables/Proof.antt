@@ -26,7 +26,8 @@ same-length-5 c = search needs
 
 returns : tie.Need-returns
 returns c =
-    let called = c .before .before .before .before .before .before .before .before .before .before .before .before .before in rw (← c .tell .ensures) (called .read-tables .ensures)
+    let called = c .before .before .before .before .before .before .before .before .before .before .before .before .before in
+    rw (← c .tell .ensures) (called .read-tables .ensures)
 
 pub reckonbough-read-tables-spec : {M : Type 1} → statement M
 reckonbough-read-tables-spec =

@@ -1,0 +1,9 @@
+// The checks 1 to 8 one after another, for the number and the place of the first that applies. The doors call
+// `table_checks`, which comes here only for tables that a plain pass does not find well.
+mod checks;
+
+pub use checks::check_lengths;
+pub use checks::check_offsets;
+pub use checks::check_owners;
+pub use checks::check_priorities;
+pub use checks::first_refusal;
