@@ -1,10 +1,9 @@
--- Plain words that the other files use: some, all and how many of the numbers below n or of a list, the lowest one,
--- and a set whose members are worked out once.
+-- Plain words that the other files use: some, all and how many of the numbers below n or of a list, the lowest one, and what a
+-- set or a function is below n.
 use mathlib.Core.Bool.{Bool, true, false, _&&_, _||_, not, cond}
 use mathlib.Core.List.{List, [], _∷_}
 use Prim.Native.Nat.{ℕ, zero, suc, _+_, max}
-use lib.Dec.{eqb}
-use lib.ListN.{getD}
+use lib.Dec.{eqb, ltb}
 
 -- a set of vertices: which numbers it holds
 abbrev pub Set : Type 0
@@ -61,15 +60,13 @@ unfoldable pub listed : {A : Type 0} → ℕ → (ℕ → A) → List A
 listed zero f = []
 listed (suc n) f = f 0 ∷ listed n (λ k. f (suc k))
 
--- the members of S below n, each worked out once: the same set where S has no member at n or above
+-- the members of S below n
 unfoldable pub within : ℕ → Set → Set
-unfolding listed
-within n S = let written = listed n S in λ v. getD written v false
+within n S v = ltb v n && S v
 
--- the numbers that f gives below n, each worked out once, and `otherwise` at n and above
+-- what f gives below n, and `otherwise` at n and above
 unfoldable pub noted : ℕ → ℕ → (ℕ → ℕ) → ℕ → ℕ
-unfolding listed
-noted otherwise n f = let written = listed n f in λ v. getD written v otherwise
+noted otherwise n f v = cond (ltb v n) (f v) otherwise
 
 -- the greatest number that f gives to a member of S below n, or 0 where there is none
 unfoldable pub greatest : ℕ → Set → (ℕ → ℕ) → ℕ

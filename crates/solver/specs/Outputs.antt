@@ -8,13 +8,12 @@ use native.Mathlib.Omega.{arith}
 use lib.Dec.{eqb, eqb·suc-zero}
 use lib.ListN.{length, getD, take, drop}
 use lib.Seq.{getD-take, getD-drop}
-use Rattle.rules.specs.Counting.{Set, listed, noted}
+use Rattle.rules.specs.Counting.{Set, listed}
 use Rattle.rules.specs.Game.{Player, Even, Odd, playerOf}
 use Rattle.rules.specs.Tables.{Tables, gameOf, vertices, edgesIn, words, Accepted}
 use Rattle.rules.specs.Winning.{WinningSets, WinningEntries}
 use Rattle.rules.specs.Words.{setOf, Holds, noEntry, entry}
-use Rattle.theory.specs.Basics.{not-true-is-false, length-listed}
-use Rattle.theory.specs.PromotionBasics.{noted-below}
+use Rattle.theory.specs.Basics.{not-true-is-false, length-listed, getD-listed}
 use Rattle.theory.specs.Tables.{accepted-sound, accepted-total}
 use Rattle.theory.specs.Zielonka.{determinacy}
 use Rattle.sets.specs.Laws.{other-bit}
@@ -173,12 +172,13 @@ module _ {t : Tables} {won : Player → Set} {choice : ℕ → ℕ} {s at : ℕ}
 
   -- such an entry is a vertex
   own-small : (v : ℕ) → v < n → won (gameOf t .owner v) v ≡ true → entryAt n (edgesIn t) w v < n
-  unfolding gameOf noted
+  unfolding gameOf
   own-small v l p =
-      let same : listed n own ≡ listed n choice = own-chosen (listed n own) (length-listed n own) (noted-below noEntry n own) in
+      let held : (u : ℕ) → u < n → entry (listed n own) u ≡ own u = λ u j. getD-listed n own u noEntry j in
+      let same : listed n own ≡ listed n choice = own-chosen (listed n own) (length-listed n own) held in
       let is : entry (listed n choice) v ≡ entryAt n (edgesIn t) w v =
       ap (λ (xs : List ℕ). entry xs v) (sym same) ∙
-      noted-below noEntry n own v l ∙
+      held v l ∙
       ap (λ (b : Bool). cond b (entryAt n (edgesIn t) w v) noEntry) p in
       let edge = found .wins .given (gameOf t .owner v) v l p refl in
       let small = accepted-total t (found .accepted) .ends v (entry (listed n choice) v) edge in

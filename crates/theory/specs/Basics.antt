@@ -8,9 +8,9 @@ use Prim.Native.Nat.{ℕ, zero, suc, _+_, _≤_, _<_, zero-le, suc-le-suc}
 use native.Mathlib.Nat.{not-suc-le-zero, le-of-suc-le-suc, eq-or-lt-of-le, le-refl, le-step, lt-irrefl, eq-zero-or-pos}
 use native.Mathlib.Nat.{add-zero, add-suc, add-assoc, add-le-add, add-lt-add-of-lt-of-le, le-of-lt, le-of-eq, le-antisymm, not-le-of-lt}
 use native.Mathlib.Omega.{arith}
-use borrow.Author.Tests.{eqb-true, eqb-false, eq-eqb, ltb-true, ltb-false, not-true}
+use borrow.Author.Tests.{eqb-true, eqb-false, eq-eqb, ltb-true, ltb-false, lt-ltb, le-ltb, not-true}
 use lib.Dec.{eqb, ltb}
-use lib.ListN.{getD, length, List·getD-eq-default}
+use lib.ListN.{getD, length}
 use Rattle.rules.specs.Counting.{Set, some, every, count, someOf, everyOf, times, lowest, listed, within, without, union}
 use Rattle.rules.specs.Game.{Player, Even, Odd, opponent, same}
 
@@ -509,11 +509,11 @@ listed-is {A} (suc n) f d (x ∷ xs) e agree =
 -- a set worked out below n is the set below n, and has no member at n or above
 pub within-below : (n : ℕ) (S : Set) (v : ℕ) → v < n → within n S v ≡ S v
 unfolding within
-within-below n S v l = getD-listed n S v false l
+within-below n S v l = rw (lt-ltb v n l)
 
 pub within-above : (n : ℕ) (S : Set) (v : ℕ) → n ≤ v → within n S v ≡ false
 unfolding within
-within-above n S v l = List·getD-eq-default (listed n S) false (rw length-listed l)
+within-above n S v l = rw (le-ltb v n l)
 
 pub within-member : (n : ℕ) (S : Set) (v : ℕ) → within n S v ≡ true → (v < n) × (S v ≡ true)
 within-member n S v p =

@@ -1,18 +1,17 @@
--- Plain laws that the rounds of priority promotion need: numbers worked out once, and the vertices of a region or of regions up to
--- one.
+-- Plain laws that the rounds of priority promotion need: what a function is below n, and the vertices of a region or of regions
+-- up to one.
 use mathlib.Core.Bool.{true, false, _&&_}
 use mathlib.Core.Logic.{_⊎_, inl, inr, ⊎-elim}
 use mathlib.Core.Path.{_≡_, refl, fun-ext, subst₂}
 use Prim.Native.Nat.{ℕ, zero, suc, _≤_, _<_}
 use native.Mathlib.Nat.{le-refl, le-step}
-use borrow.Author.Tests.{eqb-true, eqb-false, eq-eqb, leb-true, le-leb}
+use borrow.Author.Tests.{eqb-true, eqb-false, eq-eqb, leb-true, le-leb, lt-ltb, le-ltb}
 use lib.Dec.{eqb, leb}
-use lib.ListN.{List·getD-eq-default}
-use Rattle.rules.specs.Counting.{Set, lowest, listed, noted}
+use Rattle.rules.specs.Counting.{Set, lowest, noted}
 use Rattle.rules.specs.Game.{Player, Game}
 use Rattle.rules.specs.Attractor.{Closed}
 use Rattle.theory.specs.Basics.{bool-cases, clash, and-intro, and-left, and-right, some-cong}
-use Rattle.theory.specs.Basics.{not-true-is-false, length-listed, getD-listed}
+use Rattle.theory.specs.Basics.{not-true-is-false}
 
 -- two numbers are equal or not
 pub equal-cases : (m n : ℕ) → (m ≡ n) ⊎ (m ≡ n → ⊥)
@@ -29,14 +28,13 @@ lowest-cong (suc n) S T agree =
       agree n (le-refl (suc n)),
     )
 
--- numbers worked out below n are the numbers below n, and the other one at n and above
 pub noted-below : (d n : ℕ) (f : ℕ → ℕ) (v : ℕ) → v < n → noted d n f v ≡ f v
 unfolding noted
-noted-below d n f v l = getD-listed n f v d l
+noted-below d n f v l = rw (lt-ltb v n l)
 
 pub noted-above : (d n : ℕ) (f : ℕ → ℕ) (v : ℕ) → n ≤ v → noted d n f v ≡ d
 unfolding noted
-noted-above d n f v l = List·getD-eq-default (listed n f) d (rw (length-listed n f) l)
+noted-above d n f v l = rw (le-ltb v n l)
 
 -- regions
 
