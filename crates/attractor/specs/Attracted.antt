@@ -12,10 +12,10 @@ use lib.ListN.{length, getD, take, drop, List·getD-eq-default}
 use Rattle.rules.specs.Counting.{Set, times}
 use Rattle.rules.specs.Game.{Player, playerOf, same}
 use Rattle.rules.specs.Tables.{Tables, gameOf, vertices, edgesIn, words, targetsOf, Accepted, tablesOf}
-use Rattle.rules.specs.Words.{Holds}
 use Rattle.rules.specs.Attractor.{attractor, looksOf}
 use Rattle.rules.specs.Distance.{distance, attractorEntry}
 use Rattle.theory.specs.Basics.{member-place, lt-or-ge}
+use Rattle.theory.specs.Bits.{Bits}
 use Rattle.parity_game.specs.Laws.{accepted-sound, never-falls}
 use Rattle.predecessors.specs.Table.{start, row, SoundEdges, Predecessors}
 use Rattle.area.specs.Area.{free, wordsAt, setAt, entryAt, distanceAt}
@@ -69,7 +69,7 @@ Pulled t a within set before v =
 -- what an attractor for player a leaves
 pub record Attracted (t : Tables) (a : Player) (within set : ℕ) (before after : List ℕ) (looks : ℕ) : Type 0 where
   pub long : length after ≡ length before
-  pub holds : Holds (vertices t) (result t a within set before) (wordsAt (vertices t) set after)
+  pub holds : Bits (vertices t) (result t a within set before) (wordsAt (vertices t) set after)
   pub met : looks ≡ looksOf (gameOf t) (result t a within set before)
   -- whoever was drawn in has its distance, and where it is own the rules' entry; every other entry is as it was
   pub distances :

@@ -13,11 +13,11 @@ use lib.Seq.{getD-take, getD-drop}
 use Rattle.rules.specs.Counting.{Set, count}
 use Rattle.rules.specs.Game.{Player, Game, Edge, playerOf, same}
 use Rattle.rules.specs.Tables.{Tables, gameOf, vertices, edgesIn, words, targetsOf, Accepted, tablesOf}
-use Rattle.rules.specs.Words.{Holds}
 use Rattle.rules.specs.Attractor.{attractor, looksOf, atFirst, TakesOne, Takes, Finished}
 use Rattle.rules.specs.Distance.{distance, attractorEntry}
 use Rattle.theory.specs.Basics.{clash, not-true-is-false, count-le, count-strict}
 use Rattle.theory.specs.Basics.{and-intro, or-left, or-right, same-true, true-same}
+use Rattle.theory.specs.Bits.{Bits}
 use Rattle.theory.specs.Attractor.{Fits, attractor-inside}
 use Rattle.theory.specs.AttractorSteps.{takes-then, steps-members, steps-looks}
 use Rattle.theory.specs.Tables.{accepted-total}
@@ -619,7 +619,7 @@ pub attracted-moved :
 attracted-moved {t} {a} {within} {set} {x} {y} {after} {looks} same c =
     record {
       long = c .long ∙ same .long;
-      holds = subst₂ (λ (V' T : Set). Holds (vertices t) (attractor (gameOf t) a V' T) (wordsAt (vertices t) set after))
+      holds = subst₂ (λ (V' T : Set). Bits (vertices t) (attractor (gameOf t) a V' T) (wordsAt (vertices t) set after))
           (same .inside) (same .target) (c .holds);
       met = subst₂ (λ (V' T : Set). looks ≡ looksOf (gameOf t) (attractor (gameOf t) a V' T)) (same .inside) (same .target)
           (c .met);

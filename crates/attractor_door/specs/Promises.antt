@@ -22,7 +22,7 @@ use Rattle.theory.specs.Distance.{distance-is}
 use Rattle.theory.specs.DistanceEntries.{entries-arrive}
 use Rattle.theory.specs.PromotionBasics.{noted-above}
 use Rattle.parity_game.specs.Laws.{zero-none, accepted-sound}
-use Rattle.sets.specs.Same.{Narrow, holds-same}
+use Rattle.sets.specs.Same.{holds-same}
 use Rattle.attractor_door.specs.Answered.{numbered-checks, checks-passed}
 use Rattle.attractor_door.specs.DoorLaws.{within-below, target-part}
 
@@ -135,15 +135,13 @@ module _ {t : Tables} {a : Player} {V' T : List ℕ} {before after : Lent} {o : 
 
 same-by :
     (v : Verdict) (t : Tables) (a : Player) (V' T : List ℕ) (before after after′ : Lent) →
-    Narrow (after .result) →
-    Narrow (after′ .result) →
     Leaves v t a V' T before after →
     Leaves v t a V' T before after′ →
     after ≡ after′
-same-by (refused k q) t a V' T before after after′ n n′ l l′ = l ∙ sym l′
-same-by none t a V' T before after after′ n n′ l l′ =
+same-by (refused k q) t a V' T before after after′ l l′ = l ∙ sym l′
+same-by none t a V' T before after after′ l l′ =
     lent
-    (holds-same (after .result) (after′ .result) n n′ (l .set) (l′ .set))
+    (holds-same (after .result) (after′ .result) (l .set) (l′ .set))
     (l .strategy ∙ sym (l′ .strategy))
     (l .distances ∙ sym (l′ .distances))
     (l .work ∙ sym (l′ .work))
@@ -158,12 +156,10 @@ same-by none t a V' T before after after′ n n′ l l′ =
 -- **Any two results that meet the contract are the same.**
 pub attractor-one-result :
     {t : Tables} {a : Player} {V' T : List ℕ} {before after after′ : Lent} {o o′ : Outcome} →
-    Narrow (after .result) →
-    Narrow (after′ .result) →
     Attracts t a V' T before after o →
     Attracts t a V' T before after′ o′ →
     (after ≡ after′) × (o ≡ o′)
-attractor-one-result {t} {a} {V'} {T} {before} {after} {after′} n n′ p p′ = (
-  same-by (attractorChecks t V' T before) t a V' T before after after′ n n′ (p .leaves) (p′ .leaves),
+attractor-one-result {t} {a} {V'} {T} {before} {after} {after′} p p′ = (
+  same-by (attractorChecks t V' T before) t a V' T before after after′ (p .leaves) (p′ .leaves),
   p .gives ∙ sym (p′ .gives),
 )

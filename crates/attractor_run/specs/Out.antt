@@ -6,7 +6,7 @@ use Prim.Native.Nat.{ℕ, _+_, _-_, _<_}
 use native.Mathlib.Omega.{arith}
 use lib.ListN.{length, take, drop}
 use Rattle.rules.specs.Counting.{listed}
-use Rattle.rules.specs.Words.{setOf}
+use Rattle.rules.specs.Words.{setOf, Narrow}
 use Rattle.area.specs.Area.{distances, entries}
 use Rattle.area.specs.Lent.{part-is, part-length}
 use Rattle.attractor_outputs.specs.Outputs.{wordOf, drawnIn, chosen, measure, Seen, Enterable, Measurable}
@@ -59,10 +59,11 @@ module _ (owners : List ℕ) (m alpha : ℕ) (target work : List ℕ) (set : ℕ
 
       pub handed :
           (strategy' far' : List ℕ) →
+          Narrow out →
           strategy' ≡ listed n (chosen owners alpha target out (wordOf work (entries n m))) →
           far' ≡ listed (length far) (measure target out (wordOf work (distances n m))) →
           Handed owners m alpha target work set out strategy' far'
-      handed strategy' far' is-strategy is-far =
+      handed strategy' far' narrow is-strategy is-far =
           record {
             result-is = out-is;
             strategy-is =
@@ -71,4 +72,5 @@ module _ (owners : List ℕ) (m alpha : ℕ) (target work : List ℕ) (set : ℕ
                 is-far ∙
                 ap (λ (k : ℕ). listed k (measure target out (wordOf work (distances n m)))) (given .distances-size) ∙
                 ap (λ (x : List ℕ). listed n (measure target x (wordOf work (distances n m)))) out-is;
+            narrow = narrow;
           }

@@ -12,10 +12,11 @@ use Rattle.rules.specs.Counting.{Set, listed}
 use Rattle.rules.specs.Distance.{distance, attractorEntry}
 use Rattle.rules.specs.Game.{Player, Game, playerOf, same}
 use Rattle.rules.specs.Tables.{Tables, gameOf, vertices, edgesIn, words, Accepted, tablesOf}
-use Rattle.rules.specs.Words.{setOf, Holds, noEntry}
+use Rattle.rules.specs.Words.{setOf, noEntry}
 use Rattle.theory.specs.Attractor.{Fits, attractor-below}
 use Rattle.theory.specs.Basics.{clash, bool-cases, and-left, and-right, not-true-is-false, same-true, true-same}
 use Rattle.theory.specs.Basics.{length-listed, getD-listed, listed-is}
+use Rattle.theory.specs.Bits.{Bits, narrow-holds}
 use Rattle.theory.specs.Distance.{distance-target, distance-outside, distance-low, entry-nearest, entry-none, nearest-sinks}
 use Rattle.predecessors.specs.Table.{SoundEdges}
 use Rattle.area.specs.Area.{layers, setAt, wordsAt, entryAt, distanceAt}
@@ -32,7 +33,7 @@ listed-alike n f h agree =
 
 -- what an attractor gives, by the sets alone
 record Drawn (t : Tables) (a : Player) (V' T : Set) (out : List ℕ) (looks : ℕ) (far entry : ℕ → ℕ) : Type 0 where
-  holds : Holds (vertices t) (attractor (gameOf t) a V' T) out
+  holds : Bits (vertices t) (attractor (gameOf t) a V' T) out
   met : looks ≡ looksOf (gameOf t) (attractor (gameOf t) a V' T)
   distances : (v : ℕ) → attractor (gameOf t) a V' T v ≡ true → T v ≡ false → far v ≡ distance (gameOf t) a V' T v
   entered :
@@ -268,10 +269,11 @@ module _ (owners offsets targets : List ℕ) (alpha : ℕ) (within target result
           ran result' strategy' distances' handed priorities ok =
               record {
                 set =
-                    subst
-                    (λ (l : List ℕ). Holds n (S priorities ok) l)
+                    narrow-holds (handed .narrow)
+                    (subst
+                    (λ (l : List ℕ). Bits n (S priorities ok) l)
                     (sym (handed .result-is ∙ out-is))
-                    (drawn priorities ok .holds);
+                    (drawn priorities ok .holds));
                 entries = handed .strategy-is ∙ listed-alike n _ _ (entry-right priorities ok);
                 far = handed .distances-is ∙ listed-alike n _ _ (distance-right priorities ok);
                 met = drawn priorities ok .met;

@@ -10,7 +10,7 @@ use Rattle.rules.specs.Counting.{listed}
 use Rattle.rules.specs.Distance.{distance, attractorEntry}
 use Rattle.rules.specs.Game.{Player}
 use Rattle.rules.specs.Tables.{Tables, gameOf, vertices, words, Accepted, tablesOf}
-use Rattle.rules.specs.Words.{setOf, Holds}
+use Rattle.rules.specs.Words.{setOf, Narrow, Holds}
 use Rattle.predecessors.specs.Table.{SoundEdges}
 use Rattle.area.specs.Area.{layers, free, wordsAt, entryAt, distanceAt}
 use Rattle.attractor.specs.Attracted.{Listed}
@@ -65,6 +65,7 @@ pub record Handed (owners : List ℕ) (m alpha : ℕ) (target work : List ℕ) (
       strategy ≡ listed (length owners) (chosen owners alpha target (found target work set) (entryAt (length owners) m work))
   pub distances-is :
       distances ≡ listed (length owners) (measure target (found target work set) (distanceAt (length owners) m work))
+  pub narrow : Narrow result
 
 -- what `run` asks for: tables that some priorities make accepted, sets and outputs of the right sizes, and room
 pub record Runnable (owners offsets targets : List ℕ) (alpha : ℕ) (within target result strategy distances work : List ℕ)

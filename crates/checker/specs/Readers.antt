@@ -14,7 +14,7 @@ use Rattle.rules.specs.Tables.{Tables, gameOf}
 use Rattle.rules.specs.Checker.{check21, check22, check23, check24, certificateChecks, Checks}
 use Rattle.rules.specs.Counting.{Set}
 use Rattle.rules.specs.Winning.{WinningSets, WinningEntries}
-use Rattle.rules.specs.Words.{Holds}
+use Rattle.theory.specs.Bits.{Bits}
 use Rattle.theory.specs.Checker.{Certified, accepted-certificate-yes, winning-gets-yes}
 use Rattle.theory.specs.NothingChosen.{Unchosen, no-strategy-tells, no-strategy-given}
 use Rattle.theory.specs.Tables.{accepted-total}
@@ -59,8 +59,8 @@ module _ (t : Tables) (even odd strategy before after : List ℕ) (o : Outcome) 
       (won : Player → Set) →
       WinningSets (gameOf t) won →
       ((v : ℕ) → v < gameOf t .size → (won Even v ≡ true) ⊎ (won Odd v ≡ true)) →
-      Holds (gameOf t .size) (won Even) even →
-      Holds (gameOf t .size) (won Odd) odd →
+      Bits (gameOf t .size) (won Even) even →
+      Bits (gameOf t .size) (won Odd) odd →
       WinningEntries (gameOf t) won strategy →
       o ≡ answered 0
   right-gets-yes r won sets cover even-held odd-held entries =

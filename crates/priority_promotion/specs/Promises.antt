@@ -25,7 +25,7 @@ use Rattle.theory.specs.Tables.{accepted-total}
 use Rattle.theory.specs.Zielonka.{zielonka-wins}
 use Rattle.solver.specs.Promises.{setFor, gotBy, answer, answered-accepted, answered-within, answered-count, answered-holds}
 use Rattle.solver.specs.Promises.{answered-winning}
-use Rattle.sets.specs.Same.{Narrow, holds-same}
+use Rattle.sets.specs.Same.{holds-same}
 use Rattle.solver.specs.Promises.{answered-one, answered-certified, answered-entries, answers-within, holds-alike}
 use Rattle.solver.specs.Promises.{one-result}
 use Rattle.promotion_rounds.specs.Shown.{Shows}
@@ -117,12 +117,10 @@ answered-gets-yes p e = answered-certified p e (rules-sets p e) (rules-entries p
 -- **Any two results that meet the contract are the same, the strategy too,**
 pub promotion-one-result :
     {budget : ℕ} {t : Tables} {before after after′ : Lent} {o o′ : Outcome} →
-    ((c : Player) → Narrow (setFor after c)) →
-    ((c : Player) → Narrow (setFor after′ c)) →
     Promise budget t before after o →
     Promise budget t before after′ o′ →
     (o ≡ o′) × (after ≡ after′)
-promotion-one-result n n′ p p′ = one-result n n′ p p′
+promotion-one-result p p′ = one-result p p′
 
 -- **any two answers count the same rounds, whatever the budgets,**
 pub answers-count-the-same :
@@ -168,12 +166,10 @@ pub same-words-as-zielonka :
     o .number ≡ 0 →
     o′ .number ≡ 0 →
     (c : Player) →
-    Narrow (setFor after c) →
-    Narrow (setFor after′ c) →
     setFor after c ≡ setFor after′ c
 unfolding gameOf
-same-words-as-zielonka {t = t} {after = after} {after′ = after′} p z e e′ c n n′ =
-    holds-same (setFor after c) (setFor after′ c) n n′
+same-words-as-zielonka {t = t} {after = after} {after′ = after′} p z e e′ c =
+    holds-same (setFor after c) (setFor after′ c)
     (holds-alike
     (λ v l. sym (answered-holds p e c .bits v l) ∙ answered-as-zielonka p e c v l)
     (answered-holds p e c))

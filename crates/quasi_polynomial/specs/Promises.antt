@@ -19,7 +19,7 @@ use Rattle.theory.specs.Basics.{bool-ext}
 use Rattle.theory.specs.Tables.{accepted-total}
 use Rattle.theory.specs.Zielonka.{determinacy, zielonka-wins}
 use Rattle.parity_game.specs.Laws.{zero-none}
-use Rattle.sets.specs.Same.{Narrow, holds-same}
+use Rattle.sets.specs.Same.{holds-same}
 use Rattle.quasi_polynomial.specs.Checks.{numbered-checks, checks-passed}
 
 -- the words of a player's set, and the set that a player got
@@ -40,20 +40,19 @@ winning-same {won = won} {won′ = won′} w w′ c v l =
 -- so words that hold them are the same words
 words-same :
     (t : Tables) (won won′ : Player → Set) (c : Player) {xs ys : List ℕ} →
-    Narrow xs →
-    Narrow ys →
     WinningSets (gameOf t) won →
     WinningSets (gameOf t) won′ →
     Holds (vertices t) (won c) xs →
     Holds (vertices t) (won′ c) ys →
     xs ≡ ys
 unfolding gameOf
-words-same t won won′ c {xs} {ys} n n′ w w′ h h′ =
-    holds-same xs ys n n′ h
+words-same t won won′ c {xs} {ys} w w′ h h′ =
+    holds-same xs ys h
     (record {
       long = h′ .long;
       bits = λ v l. h′ .bits v l ∙ sym (winning-same {won = won} {won′ = won′} w w′ c v l);
       clear = h′ .clear;
+      narrow = h′ .narrow;
     })
 
 answer-holds :
@@ -115,27 +114,23 @@ module _ {t : Tables} {before after : LentSets} {o : Outcome} (p : GivesOpinion 
       (won : Player → Set) →
       WinningSets (gameOf t) won →
       (c : Player) (xs : List ℕ) →
-      Narrow xs →
-      Narrow (setFor after c) →
       Holds (vertices t) (won c) xs →
       xs ≡ setFor after c
-  answered-agrees e won w c xs n n′ h =
-      words-same t won (answer e .won) c n n′ w (answer e .wins) h (answer-holds (answer e) c)
+  answered-agrees e won w c xs h =
+      words-same t won (answer e .won) c w (answer e .wins) h (answer-holds (answer e) c)
 
 -- ---- two results that meet the contract
 
 same-by :
     (v : Verdict) (t : Tables) (before after after′ : LentSets) →
-    ((c : Player) → Narrow (setFor after c)) →
-    ((c : Player) → Narrow (setFor after′ c)) →
     OpinionLeaves v t before after →
     OpinionLeaves v t before after′ →
     after ≡ after′
-same-by (refused k q) t before after after′ n n′ l l′ = l ∙ sym l′
-same-by none t before after after′ n n′ l l′ =
+same-by (refused k q) t before after after′ l l′ = l ∙ sym l′
+same-by none t before after after′ l l′ =
     let same : (c : Player) → setFor after c ≡ setFor after′ c =
     λ c.
-    words-same t (l .won) (l′ .won) c (n c) (n′ c) (l .wins) (l′ .wins) (answer-holds l c) (answer-holds l′ c) in
+    words-same t (l .won) (l′ .won) c (l .wins) (l′ .wins) (answer-holds l c) (answer-holds l′ c) in
     let even : after .even ≡ after′ .even = same Even in
     let odd : after .odd ≡ after′ .odd = same Odd in
     let work : after .work ≡ after′ .work = l .work ∙ sym (l′ .work) in
@@ -146,12 +141,10 @@ same-by none t before after after′ n n′ l l′ =
 -- **Any two results that meet the contract are the same.**
 pub opinion-one-result :
     {t : Tables} {before after after′ : LentSets} {o o′ : Outcome} →
-    ((c : Player) → Narrow (setFor after c)) →
-    ((c : Player) → Narrow (setFor after′ c)) →
     GivesOpinion t before after o →
     GivesOpinion t before after′ o′ →
     (after ≡ after′) × (o ≡ o′)
-opinion-one-result {t} {before} {after} {after′} n n′ p p′ = (
-  same-by (opinionChecks t before) t before after after′ n n′ (p .leaves) (p′ .leaves),
+opinion-one-result {t} {before} {after} {after′} p p′ = (
+  same-by (opinionChecks t before) t before after after′ (p .leaves) (p′ .leaves),
   p .gives ∙ sym (p′ .gives),
 )

@@ -14,10 +14,11 @@ use Rattle.rules.specs.Outcome.{Outcome, Verdict, none, refused, outcome, answe
 use Rattle.rules.specs.SecondOpinion.{LentSets, opinionWords, opinionChecks, OpinionAnswered, OpinionLeaves, GivesOpinion}
 use Rattle.rules.specs.Tables.{Tables, gameOf, vertices, edgesIn, words, workWords, Accepted}
 use Rattle.rules.specs.Winning.{WinningSets}
-use Rattle.rules.specs.Words.{Holds, setOf, bit}
+use Rattle.rules.specs.Words.{Narrow, Holds, setOf, bit}
 use Rattle.rules.specs.Zielonka.{wonBy}
 use Rattle.theory.specs.AttractorComplement.{TotalIn}
 use Rattle.theory.specs.Basics.{not-true-is-false, and-left}
+use Rattle.theory.specs.Bits.{Bits, narrow-holds}
 use Rattle.theory.specs.Tables.{accepted-total}
 use Rattle.theory.specs.Zielonka.{everywhere-below, everywhere-total}
 use Rattle.kept_numbers.specs.Reading.{Counted, kept-bounds, kept-small}
@@ -174,38 +175,44 @@ module _ {t : Tables} {high : ℕ} {even odd w₀ : List ℕ} (given : Runnable 
               ((v : ℕ) → setAt (vertices t) at w₄ v ≡ S v) →
               ((v : ℕ) → S v ≡ true → v < vertices t) →
               set ≡ take ((at + length even) - at) (drop at w₄) →
+              Narrow set →
               Holds (vertices t) S set
           unfolding setOf
-          holds at S set room same below is =
-              rw (is, part-is at (length even) w₄, size)
-              (record {
-                long = part-length at (words (vertices t)) w₄ (omega (arith, size));
-                bits = λ v l. same v;
-                clear = λ v l. bare v (same v ∙ not-true-is-false (S v) (λ p. let less = below v p in omega arith));
-              })
+          holds at S set room same below is narrow =
+              narrow-holds narrow (rw (is, part-is at (length even) w₄, size) as-bits)
             where
               bare : (v : ℕ) → setAt (vertices t) at w₄ v ≡ false → bit (wordsAt (vertices t) at w₄) v ≡ 0
               bare v e = other-bit (wordsAt (vertices t) at w₄) v e
+
+              as-bits : Bits (vertices t) S (wordsAt (vertices t) at w₄)
+              as-bits =
+                  record {
+                    long = part-length at (words (vertices t)) w₄ (omega (arith, size));
+                    bits = λ v l. same v;
+                    clear = λ v l. bare v (same v ∙ not-true-is-false (S v) (λ p. let less = below v p in omega arith));
+                  }
 
           -- **What is copied out are the winning sets.**
           pub run-opinion :
               (even′ odd′ : List ℕ) →
               even′ ≡ take ((allAt t (length even) + length even + length even) - (allAt t (length even) + length even)) (drop (allAt t (length even) + length even) w₄) →
               odd′ ≡ take ((allAt t (length even) + length even) - allAt t (length even)) (drop (allAt t (length even)) w₄) →
+              Narrow even′ →
+              Narrow odd′ →
               Opinion t even′ odd′
           unfolding gameOf
-          run-opinion even′ odd′ e o =
+          run-opinion even′ odd′ e o even-narrow odd-narrow =
               record {
                 won = wonBy Even R (without (everywhere (gameOf t)) R);
                 wins = opinion-wins (gameOf t) (accepted-total t (given .accepted)) R parts;
                 even =
                     holds (allAt t (length even) + length even) R even′ (omega (arith, fits, run-long)) evens
                     (λ v p. everywhere-below (gameOf t) v (parts .inside v p))
-                    e;
+                    e even-narrow;
                 odd =
                     holds (allAt t (length even)) (without (everywhere (gameOf t)) R) odd′ (omega (arith, fits, run-long)) odds
                     (λ v p. everywhere-below (gameOf t) v (and-left (everywhere (gameOf t) v) _ p))
-                    o;
+                    o odd-narrow;
               }
 
 -- ---- the public solver

@@ -19,11 +19,16 @@ bit xs v = digit (getD xs (v / 64) 0) (v % 64)
 unfoldable pub setOf : List ℕ → Set
 setOf xs v = eqb (bit xs v) 1
 
--- the words xs are an answered set S: s words, and every bit says whether S holds its vertex, at n and above zero
+-- each word is one of 64 bits
+abbrev pub Narrow : List ℕ → Type 0
+Narrow xs = (i : ℕ) → getD xs i 0 < 2 ^ 64
+
+-- the words xs are an answered set S: s words of 64 bits, and every bit says whether S holds its vertex, at n and above zero
 pub record Holds (n : ℕ) (S : Set) (xs : List ℕ) : Type 0 where
   pub long : length xs ≡ words n
   pub bits : (v : ℕ) → v < n → setOf xs v ≡ S v
   pub clear : (v : ℕ) → n ≤ v → bit xs v ≡ 0
+  pub narrow : Narrow xs
 
 -- the entry for none
 abbrev pub noEntry : ℕ

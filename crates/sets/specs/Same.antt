@@ -1,9 +1,9 @@
--- Words of 64 bits that hold one set are equal.
+-- Words that hold one set are equal.
 use mathlib.Core.Bool.{Bool, cond}
 use mathlib.Core.List.{List}
 use mathlib.Core.Logic.{⊎-elim}
 use mathlib.Core.Path.{_≡_, sym, ap, _∙_}
-use Prim.Native.Nat.{ℕ, _+_, _*_, _^_, _<_}
+use Prim.Native.Nat.{ℕ, _+_, _*_}
 use lib.ListN.{getD}
 use lib.Seq.{ext-getD}
 use Rattle.rules.specs.Counting.{Set}
@@ -13,22 +13,12 @@ use Rattle.sets.specs.Digits.{digits-tell}
 use Rattle.sets.specs.Laws.{bit-of-set}
 use Rattle.sets.specs.Whole.{bit-at}
 
--- words of 64 bits
-abbrev pub Narrow : List ℕ → Type 0
-Narrow xs = (i : ℕ) → getD xs i 0 < 2 ^ 64
-
--- words that hold one set are equal
-pub holds-same :
-    {n : ℕ} {S : Set} (xs ys : List ℕ) →
-    Narrow xs →
-    Narrow ys →
-    Holds n S xs →
-    Holds n S ys →
-    xs ≡ ys
-holds-same {n} {S} xs ys small small′ h h′ =
+-- they have the same bits, and each word is one of 64 bits
+pub holds-same : {n : ℕ} {S : Set} (xs ys : List ℕ) → Holds n S xs → Holds n S ys → xs ≡ ys
+holds-same {n} {S} xs ys h h′ =
     ext-getD 0 xs ys (h .long ∙ sym (h′ .long))
     (λ i l.
-    digits-tell 64 (getD xs i 0) (getD ys i 0) (small i) (small′ i)
+    digits-tell 64 (getD xs i 0) (getD ys i 0) (h .narrow i) (h′ .narrow i)
     (λ k m. sym (bit-at xs i k m) ∙ bits (64 * i + k) ∙ bit-at ys i k m))
   where
     bits : (v : ℕ) → bit xs v ≡ bit ys v

@@ -17,7 +17,7 @@ use Rattle.theory.specs.Solitaire.{accepted-one-owner, solitaire-wins, wins-sol
 use Rattle.theory.specs.Tables.{accepted-total}
 use Rattle.theory.specs.Zielonka.{zielonka-wins}
 use Rattle.parity_game.specs.Laws.{zero-none}
-use Rattle.sets.specs.Same.{Narrow, holds-same}
+use Rattle.sets.specs.Same.{holds-same}
 use Rattle.solitaire_game.specs.Checks.{numbered-checks, Passed, checks-passed}
 
 module _ {t : Tables} {before after : LentSet} {o : Outcome} (p : SolvesSolitaire t before after o) where
@@ -78,26 +78,22 @@ module _ {t : Tables} {before after : LentSet} {o : Outcome} (p : SolvesSolitair
 
 same-by :
     (v : Verdict) (t : Tables) (before after after′ : LentSet) →
-    Narrow (after .set) →
-    Narrow (after′ .set) →
     SolitaireLeaves v t before after →
     SolitaireLeaves v t before after′ →
     after ≡ after′
-same-by (refused k q) t before after after′ n n′ l l′ = l ∙ sym l′
-same-by none t before after after′ n n′ l l′ =
+same-by (refused k q) t before after after′ l l′ = l ∙ sym l′
+same-by none t before after after′ l l′ =
     ap₂ (λ (s w : List ℕ). record { set = s; work = w })
-    (holds-same (after .set) (after′ .set) n n′ (l .set) (l′ .set))
+    (holds-same (after .set) (after′ .set) (l .set) (l′ .set))
     (l .work ∙ sym (l′ .work))
 
 -- **Any two results that meet the contract are the same.**
 pub solitaire-one-result :
     {t : Tables} {before after after′ : LentSet} {o o′ : Outcome} →
-    Narrow (after .set) →
-    Narrow (after′ .set) →
     SolvesSolitaire t before after o →
     SolvesSolitaire t before after′ o′ →
     (after ≡ after′) × (o ≡ o′)
-solitaire-one-result {t} {before} {after} {after′} n n′ p p′ = (
-  same-by (solitaireChecks t before) t before after after′ n n′ (p .leaves) (p′ .leaves),
+solitaire-one-result {t} {before} {after} {after′} p p′ = (
+  same-by (solitaireChecks t before) t before after after′ (p .leaves) (p′ .leaves),
   p .gives ∙ sym (p′ .gives),
 )

@@ -14,8 +14,9 @@ use Rattle.rules.specs.Outcome.{Outcome, Verdict, none, refused, outcome, answe
 use Rattle.rules.specs.Solitaire.{LentSet, solitaire, soleOwner, solitaireChecks, check11, SolitaireLeaves, SolvesSolitaire}
 use Rattle.rules.specs.Solver.{cleared}
 use Rattle.rules.specs.Tables.{Tables, gameOf, vertices, edgesIn, words, workWords, Accepted}
-use Rattle.rules.specs.Words.{Holds}
+use Rattle.rules.specs.Words.{Narrow, Holds}
 use Rattle.theory.specs.Basics.{lt-or-ge}
+use Rattle.theory.specs.Bits.{Bits, narrow-holds}
 use Rattle.theory.specs.Solitaire.{accepted-one-owner}
 use Rattle.theory.specs.SolitaireAttractor.{solitaire-attractor}
 use Rattle.theory.specs.Tables.{accepted-total}
@@ -147,14 +148,17 @@ module _ (t : Tables) (set w₀ : List ℕ) (given : Runnable t set w₀) (owner
         pub answer-holds :
             (set′ : List ℕ) →
             set′ ≡ take ((baseOf t + s + s) - (baseOf t + s)) (drop (baseOf t + s) w₃) →
+            Narrow set′ →
             Holds n (solitaire (gameOf t) (soleOwner t)) set′
-        answer-holds set′ e =
-            rw (e, copied)
-            (record {
-              long = drawn .holds .long;
-              bits = λ v l. drawn .holds .bits v l ∙ answer v l;
-              clear = drawn .holds .clear;
-            })
+        answer-holds set′ e narrow = narrow-holds narrow (rw (e, copied) as-bits)
+          where
+            as-bits : Bits n (solitaire (gameOf t) (soleOwner t)) (wordsAt n (baseOf t + s) w₃)
+            as-bits =
+                record {
+                  long = drawn .holds .long;
+                  bits = λ v l. drawn .holds .bits v l ∙ answer v l;
+                  clear = drawn .holds .clear;
+                }
 
 -- ---- the public solver
 

@@ -12,8 +12,9 @@ use Rattle.rules.specs.Counting.{Set, listed}
 use Rattle.rules.specs.Game.{Player, Even, Odd, playerOf}
 use Rattle.rules.specs.Tables.{Tables, gameOf, vertices, edgesIn, words, Accepted}
 use Rattle.rules.specs.Winning.{WinningSets, WinningEntries}
-use Rattle.rules.specs.Words.{setOf, Holds, noEntry, entry}
+use Rattle.rules.specs.Words.{setOf, Narrow, noEntry, entry}
 use Rattle.theory.specs.Basics.{not-true-is-false, length-listed, getD-listed}
+use Rattle.theory.specs.Bits.{Bits, narrow-holds}
 use Rattle.theory.specs.Tables.{accepted-sound, accepted-total}
 use Rattle.theory.specs.Zielonka.{determinacy}
 use Rattle.sets.specs.Laws.{other-bit}
@@ -40,6 +41,8 @@ pub record WroteOut (owners : List ℕ) (s from at : ℕ) (work : List ℕ) (bef
   pub strategy :
       Written owners (take s (drop at work)) (take s (drop (at + s) work)) (take (length owners) (drop from work))
       (before .strategy) (after .strategy)
+  pub even-narrow : Narrow (after .even)
+  pub odd-narrow : Narrow (after .odd)
 
 -- the parts, as the code lends them
 abbrev pub partAt : ℕ → ℕ → List ℕ → List ℕ
@@ -57,12 +60,16 @@ pub wrote-parts :
     even ≡ partAt at s work →
     odd ≡ partAt (at + s) s work →
     Written owners (partAt at s work) (partAt (at + s) s work) (partAt from (length owners) work) (was .strategy) strategy →
+    Narrow even →
+    Narrow odd →
     WroteOut owners s from at work was (record { even = even; odd = odd; strategy = strategy })
-wrote-parts {owners} s from at work was e o w =
+wrote-parts {owners} s from at work was e o w even-narrow odd-narrow =
     record {
       even = e ∙ part-is at s work;
       odd = o ∙ part-is (at + s) s work;
       strategy = rw (part-is at s work, part-is (at + s) s work, part-is from (length owners) work) at w;
+      even-narrow = even-narrow;
+      odd-narrow = odd-narrow;
     }
 
 -- ---- what a solver has found
@@ -121,7 +128,7 @@ module _ {t : Tables} {won : Player → Set} {choice : ℕ → ℕ} {s at : ℕ}
   long : (c : Player) → length (part c) ≡ s
   long c = part-length (wonFrom s at c) s w (fits c)
 
-  holds : (c : Player) → Holds n (won c) (part c)
+  holds : (c : Player) → Bits n (won c) (part c)
   holds c =
       record {
         long = long c ∙ found .size;
@@ -241,7 +248,7 @@ module _ {t : Tables} {won : Player → Set} {choice : ℕ → ℕ} {s at : ℕ}
           record {
             exact = is;
             within = within;
-            even = rw (wrote .even) (holds Even);
-            odd = rw (wrote .odd) (holds Odd);
+            even = narrow-holds (wrote .even-narrow) (rw (wrote .even) (holds Even));
+            odd = narrow-holds (wrote .odd-narrow) (rw (wrote .odd) (holds Odd));
             strategy = own-chosen (after .strategy) strategy-long written-entry;
           }

@@ -17,7 +17,8 @@ use Rattle.rules.specs.Tables.{Tables, gameOf, vertices, tableChecks, Accepted}
 use Rattle.rules.specs.Winning.{WinningSets, WinningEntries}
 use Rattle.rules.specs.Words.{setOf, Holds}
 use Rattle.parity_game.specs.Laws.{then-none, zero-none}
-use Rattle.sets.specs.Same.{Narrow, holds-same}
+use Rattle.sets.specs.Same.{holds-same}
+use Rattle.theory.specs.Bits.{bits-of}
 use Rattle.theory.specs.Checker.{winning-gets-yes}
 use Rattle.theory.specs.Tables.{accepted-total}
 use Rattle.theory.specs.Zielonka.{determinacy}
@@ -123,13 +124,15 @@ answered-certified {t = t} {won = won} {after = after} p e wins choice =
     winning-gets-yes (gameOf t) (accepted-total t (answered-accepted p e)) won wins
     (λ v l.
     ⊎-elim (λ w. inl (wins Even v l .1 w)) (λ w. inr (wins Odd v l .1 w)) (determinacy t (answered-accepted p e) v l .0))
-    (after .even) (after .odd) (after .strategy) (answer p e .even) (answer p e .odd) (answered-entries p e choice)
+    (after .even) (after .odd) (after .strategy) (bits-of (answer p e .even)) (bits-of (answer p e .odd))
+    (answered-entries p e choice)
 
 -- ---- two results that meet the contract
 
 -- a set by its members below n
 pub holds-alike : {n : ℕ} {S T : Set} {xs : List ℕ} → ((v : ℕ) → v < n → S v ≡ T v) → Holds n S xs → Holds n T xs
-holds-alike same h = record { long = h .long; bits = λ v l. h .bits v l ∙ same v l; clear = h .clear }
+holds-alike same h =
+    record { long = h .long; bits = λ v l. h .bits v l ∙ same v l; clear = h .clear; narrow = h .narrow }
 
 -- what is lent, by its lists
 lent-same :
@@ -142,30 +145,26 @@ lent-same a b c d = cc
 
 leaves-one :
     (v : Verdict) (over : Bool) (t : Tables) (won : Player → Set) (entries : ℕ → ℕ) (before after after′ : Lent) →
-    ((c : Player) → Narrow (setFor after c)) →
-    ((c : Player) → Narrow (setFor after′ c)) →
     Leaves v over t won entries before after →
     Leaves v over t won entries before after′ →
     after ≡ after′
-leaves-one (refused k q) over t won entries before after after′ n n′ l l′ = l ∙ sym l′
-leaves-one none true t won entries before after after′ n n′ l l′ =
+leaves-one (refused k q) over t won entries before after after′ l l′ = l ∙ sym l′
+leaves-one none true t won entries before after after′ l l′ =
     lent-same (l .even ∙ sym (l′ .even)) (l .odd ∙ sym (l′ .odd)) (l .strategy ∙ sym (l′ .strategy)) (l .work ∙ sym (l′ .work))
-leaves-one none false t won entries before after after′ n n′ l l′ =
+leaves-one none false t won entries before after after′ l l′ =
     lent-same
-    (holds-same (after .even) (after′ .even) (n Even) (n′ Even) (l .even) (l′ .even))
-    (holds-same (after .odd) (after′ .odd) (n Odd) (n′ Odd) (l .odd) (l′ .odd))
+    (holds-same (after .even) (after′ .even) (l .even) (l′ .even))
+    (holds-same (after .odd) (after′ .odd) (l .odd) (l′ .odd))
     (l .strategy ∙ sym (l′ .strategy))
     (l .work ∙ sym (l′ .work))
 
 -- **Any two results that meet the contract are the same: what is given, and all that is left, the strategy too.**
 pub one-result :
     {budget : ℕ} {t : Tables} {needed : ℕ} {won : Player → Set} {entries : ℕ → ℕ} {before after after′ : Lent} {o o′ : Outcome} →
-    ((c : Player) → Narrow (setFor after c)) →
-    ((c : Player) → Narrow (setFor after′ c)) →
     Solves budget t needed won entries before after o →
     Solves budget t needed won entries before after′ o′ →
     (o ≡ o′) × (after ≡ after′)
-one-result {budget} {t} {needed} {won} {entries} {before} {after} {after′} n n′ p p′ = (
+one-result {budget} {t} {needed} {won} {entries} {before} {after} {after′} p p′ = (
   p .gives ∙ sym (p′ .gives),
-  leaves-one (solverChecks t before) (ltb budget needed) t won entries before after after′ n n′ (p .leaves) (p′ .leaves),
+  leaves-one (solverChecks t before) (ltb budget needed) t won entries before after after′ (p .leaves) (p′ .leaves),
 )

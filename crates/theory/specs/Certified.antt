@@ -11,6 +11,7 @@ use Rattle.rules.specs.Solver.{Lent, Answered}
 use Rattle.rules.specs.Zielonka.{zielonka}
 use Rattle.theory.specs.Tables.{accepted-total, accepted-few}
 use Rattle.theory.specs.Zielonka.{zielonka-wins, zielonka-entries-win, determinacy}
+use Rattle.theory.specs.Bits.{bits-of}
 use Rattle.theory.specs.Checker.{winning-gets-yes}
 
 -- every vertex of accepted tables is in one of Zielonka's sets
@@ -34,5 +35,5 @@ pub zielonka-gets-yes :
 unfolding gameOf
 zielonka-gets-yes t ok before after answer =
     winning-gets-yes (gameOf t) (accepted-total t ok) (zielonka (gameOf t) .won) (zielonka-wins (gameOf t) (accepted-total t ok))
-    (covered t ok) (after .even) (after .odd) (after .strategy) (answer .even) (answer .odd)
+    (covered t ok) (after .even) (after .odd) (after .strategy) (bits-of (answer .even)) (bits-of (answer .odd))
     (rw (answer .strategy) (zielonka-entries-win (gameOf t) (accepted-total t ok) (accepted-few t ok)))

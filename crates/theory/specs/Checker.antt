@@ -15,7 +15,7 @@ use Rattle.rules.specs.Game.{Player, Even, Odd, Game, everywhere, Edge, Total, 
 use Rattle.rules.specs.Outcome.{none, givenAt, _then_}
 use Rattle.rules.specs.Tables.{Tables, words, gameOf, Accepted}
 use Rattle.rules.specs.Winning.{Cycle, here, step, Step, Fixes, WinsBy, WinningSets, WinningEntries}
-use Rattle.rules.specs.Words.{digit, bit, setOf, Holds, entry, noEntry}
+use Rattle.rules.specs.Words.{digit, bit, setOf, entry, noEntry}
 use Rattle.rules.specs.Zielonka.{highestIn}
 use Rattle.rules.specs.Checker.{winnerOf, ownWinner, sameSide, nothingChosen, keptEdges, onCycle}
 use Rattle.rules.specs.Checker.{check21, check22, check23, check24, certificateChecks}
@@ -26,6 +26,7 @@ use Rattle.theory.specs.Walks.{Among, walk-map, walk-among, stays, first
 use Rattle.theory.specs.OneWinner.{not-both-win}
 use Rattle.theory.specs.Dominion.{Dominion, Inside, owner-cases, partition-exact, partition-entries, firstTarget, first-target-edge}
 use Rattle.theory.specs.Tables.{then-none, givenAt-none, accepted-total}
+use Rattle.theory.specs.Bits.{Bits}
 use Rattle.theory.specs.Links.{Linked, on-cycle-test-cycle, cycle-on-cycle-test}
 use Rattle.theory.specs.Solitaire.{edge-test, test-edge, priority-le-highest}
 
@@ -469,8 +470,8 @@ module _ (g : Game) (total : Total g) (even odd strategy : List ℕ) (cert : Cer
 pub record Certified (g : Game) (even odd strategy : List ℕ) : Type 0 where
   pub sets : WinningSets g (claimed even odd)
   pub entries : WinningEntries g (claimed even odd) strategy
-  pub even-held : Holds (g .size) (setOf even) even
-  pub odd-held : Holds (g .size) (setOf odd) odd
+  pub even-held : Bits (g .size) (setOf even) even
+  pub odd-held : Bits (g .size) (setOf odd) odd
 
 -- **Yes is right**: where the checker finds nothing wrong, the sets are the winning sets and the entries a winning choice.
 pub certificate-yes :
@@ -522,8 +523,8 @@ module _
     (sets : WinningSets g won)
     (cover : (v : ℕ) → v < g .size → (won Even v ≡ true) ⊎ (won Odd v ≡ true))
     (even odd strategy : List ℕ)
-    (even-held : Holds (g .size) (won Even) even)
-    (odd-held : Holds (g .size) (won Odd) odd)
+    (even-held : Bits (g .size) (won Even) even)
+    (odd-held : Bits (g .size) (won Odd) odd)
     (entries : WinningEntries g won strategy) where
   -- no vertex is in both sets
   apart : (v : ℕ) → v < g .size → won Even v ≡ true → won Odd v ≡ true → ⊥

@@ -26,6 +26,7 @@ pub mod Zielonka
 pub mod RunEntries
 pub mod Bound
 pub mod Links
+pub mod Bits
 pub mod Solitaire
 pub mod Checker
 pub mod NothingChosen

@@ -7,7 +7,7 @@ use mathlib.Core.Path.{_≡_}
 use Prim.Native.Nat.{ℕ, _≤_, _<_}
 use native.Mathlib.Omega.{arith}
 use Rattle.rules.specs.Budget.{callBound, differentPriorities}
-use Rattle.rules.specs.Game.{Player, Even, Odd, everywhere}
+use Rattle.rules.specs.Game.{Even, Odd, everywhere}
 use Rattle.rules.specs.Outcome.{Outcome, none, answered}
 use Rattle.rules.specs.Solver.{Lent, solverChecks, Solves}
 use Rattle.rules.specs.Tables.{Tables, gameOf, vertices, tableChecks, Accepted}
@@ -17,8 +17,7 @@ use Rattle.parity_game.specs.Laws.{then-none}
 use Rattle.theory.specs.Bound.{zielonka-bound}
 use Rattle.theory.specs.Tables.{accepted-total, accepted-few}
 use Rattle.theory.specs.Zielonka.{zielonka-wins, zielonka-entries-win}
-use Rattle.sets.specs.Same.{Narrow}
-use Rattle.solver.specs.Promises.{setFor, gotBy, answered-accepted, answered-count, answered-winning, answered-one}
+use Rattle.solver.specs.Promises.{gotBy, answered-accepted, answered-count, answered-winning, answered-one}
 use Rattle.solver.specs.Promises.{answers-within, answered-entries, one-result}
 
 -- the contract of `solve_zielonka`
@@ -67,9 +66,7 @@ answered-strategy {t = t} p e =
 -- **Any two results that meet the contract are the same, the strategy too.**
 pub zielonka-one-result :
     {budget : ℕ} {t : Tables} {before after after′ : Lent} {o o′ : Outcome} →
-    ((c : Player) → Narrow (setFor after c)) →
-    ((c : Player) → Narrow (setFor after′ c)) →
     Promise budget t before after o →
     Promise budget t before after′ o′ →
     (o ≡ o′) × (after ≡ after′)
-zielonka-one-result n n′ p p′ = one-result n n′ p p′
+zielonka-one-result p p′ = one-result p p′

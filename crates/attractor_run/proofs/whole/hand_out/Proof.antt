@@ -80,8 +80,8 @@ returns c =
     let a = g .args in
     handed (a .owners .now) (a .m) (a .alpha) (a .target .now) (a .work .now) (a .set) (a .result .now) (a .strategy .now)
     (a .distances .now) (g .pre) (d .copy-from .last .0) (d .copy-from .ensures)
-    (e .write-strategy .last .1 .1 .1 .1 .1 .1 .0) (w .write-distances .last .1 .1 .1 .1 .0) (e .write-strategy .ensures)
-    (w .write-distances .ensures)
+    (e .write-strategy .last .1 .1 .1 .1 .1 .1 .0) (w .write-distances .last .1 .1 .1 .1 .0)
+    (λ i. e .before .before .before .slice-known4 .given i .fits) (e .write-strategy .ensures) (w .write-distances .ensures)
 
 pub hand-out-spec : {M : Type 1} → statement M
 hand-out-spec =

@@ -200,7 +200,9 @@ returns c =
           (e .copy-from .last .0)
           (o .copy-from2 .last .0)
           (e .copy-from .ensures)
-          (o .copy-from2 .ensures),
+          (o .copy-from2 .ensures)
+          (λ i. o .before .before .before .before .slice-known8 .given i .fits)
+          (λ i. c .before .before .before .before .slice-known9 .given i .fits),
     )
 
 pub run-spec : {M : Type 1} → statement M

@@ -184,7 +184,9 @@ returns c =
       answer-holds (tables g) (g .args .set .now) (g .args .work .now) (g .pre .0) (owned m .sole-owner .result) (owned m .sole-owner .ensures)
           (m .mark-good .last .1 .1 .1 .1 .1 .1 .0) (m .mark-good .ensures) (p .place .last .0) (p .place .ensures) (d .attract .result)
           (d .attract .last .1 .1 .1 .1 .0) (attracted d)
-          (c .before .before .before .before .before .before .copy-from .last .0) (c .before .before .before .before .before .before .copy-from .ensures),
+          (c .before .before .before .before .before .before .copy-from .last .0)
+          (c .before .before .before .before .before .before .copy-from .ensures)
+          (λ i. c .before .before .before .before .slice-known6 .given i .fits),
     )
 
 pub run-spec : {M : Type 1} → statement M

@@ -117,6 +117,8 @@ returns c =
     wrote-parts (a .s) (a .from) (a .at) (a .work .now)
     (record { even = a .even .now; odd = a .odd .now; strategy = a .strategy .now })
     (e .copy-from .ensures) (o .copy-from2 .ensures) (w .write-strategy .ensures)
+    (λ i. o .before .before .before .slice-known4 .given i .fits)
+    (λ i. w .before .before .before .before .before .slice-known5 .given i .fits)
 
 pub write-out-spec : {M : Type 1} → statement M
 write-out-spec =
