@@ -43,7 +43,7 @@ fn run(
     let entries = n + 1 + targets.len() + n + n;
     let base = entries + n + 2 * (s + 1) + s;
     solver::prepare(offsets, targets, n, s, work, base);
-    let ran = zielonka_rec(
+    let calls = zielonka_rec(
         owners,
         priorities,
         offsets,
@@ -54,10 +54,10 @@ fn run(
         0,
         budget,
     );
-    let Ran::Needed(calls) = ran else {
+    if calls == 0 {
         sets::clear(work, 0, work.len());
         return Ran::OverBudget;
-    };
+    }
     solver::write_out(owners, s, entries, base + 2 * s, work, even, odd, strategy);
     sets::clear(work, 0, work.len());
     Ran::Needed(calls)

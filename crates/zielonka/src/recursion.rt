@@ -1,5 +1,4 @@
 // One call on the set V at `base`, its sets at its own level, the calls below it one level up.
-use solver::Ran;
 use zielonka_level::attract_highest;
 use zielonka_level::attract_lost;
 use zielonka_level::get_highest_prio;
@@ -10,7 +9,8 @@ use zielonka_level::win_everything;
 ghost use Rattle.zielonka.specs.Ending.{CalledUnder, Ends};
 ghost use Rattle.rules.specs.Tables.{tablesOf};
 
-// No priority in V is above `top`; at most `cap` calls are made in all.
+// No priority in V is above `top`; at most `cap` calls are made in all. It gives the calls made so far, or 0 where the
+// cap does not allow them: a plain number, since an enum would go through memory.
 pub fn zielonka_rec(
     owners: &[u8],
     priorities: &[u16],
@@ -21,7 +21,7 @@ pub fn zielonka_rec(
     top: usize,
     calls: u64,
     cap: u64,
-) -> Ran
+) -> u64
     requires { ⌜ CalledUnder (tablesOf (now owners) (now priorities) (now offsets) (now targets)) base top
         (now work) ⌝ }
     ensures { λ r.
@@ -30,17 +30,17 @@ pub fn zielonka_rec(
         (now (work .entry)) (now (work .exit)) r ⌝ }
 {
     if cap <= calls {
-        return Ran::OverBudget;
+        return 0;
     }
     let s = parity_game::set_words(owners.len());
     if sets::is_empty(&work[base..base + s]) {
         sets::clear(work, base + 2 * s, 2 * s);
-        return Ran::Needed(calls + 1);
+        return calls + 1;
     }
     let p = get_highest_prio(priorities, &work[base..base + s], top).0;
     attract_highest(owners, priorities, offsets, targets, p, s, work, base);
     let up = base + 4 * s;
-    let first = zielonka_rec(
+    let made = zielonka_rec(
         owners,
         priorities,
         offsets,
@@ -51,18 +51,18 @@ pub fn zielonka_rec(
         calls + 1,
         cap,
     );
-    let Ran::Needed(made) = first else {
-        return Ran::OverBudget;
-    };
+    if made == 0 {
+        return 0;
+    }
     if lost_nothing(p, s, work, up) {
         win_everything(owners, priorities, offsets, targets, p, s, work, base);
-        return Ran::Needed(made);
+        return made;
     }
     attract_lost(owners, offsets, targets, p, s, work, base);
-    let second = zielonka_rec(owners, priorities, offsets, targets, work, up, p, made, cap);
-    let Ran::Needed(all) = second else {
-        return Ran::OverBudget;
-    };
+    let all = zielonka_rec(owners, priorities, offsets, targets, work, up, p, made, cap);
+    if all == 0 {
+        return 0;
+    }
     join(p, s, work, base);
-    Ran::Needed(all)
+    all
 }

@@ -1,6 +1,6 @@
 -- `run` meets its contract: the recursion on all vertices is what the rules ask for, and what it found is written out.
 use mathlib.Core.List.{List}
-use mathlib.Core.Path.{_≡_, refl, subst, _∙_}
+use mathlib.Core.Path.{_≡_, refl, _∙_}
 use Prim.Native.Nat.{ℕ, _+_, _*_, _≤_}
 use native.Mathlib.Omega.{arith}
 use lib.ListN.{length}
@@ -9,9 +9,8 @@ use Rattle.rules.specs.Zielonka.{zielonka}
 use Rattle.theory.specs.Tables.{accepted-sound}
 use Rattle.area.specs.Area.{layers, free}
 use Rattle.area.specs.Lent.{words-few}
-use Rattle.zielonka.specs.Ending.{Ends}
+use Rattle.zielonka_level.specs.Level.{Done}
 use Rattle.zielonka.specs.Solving.{run-preparable, run-called, run-over-budget, run-calls, run-found}
-use Rattle.solver.specs.declared.ran.Ran.{Ran}
 use Rattle.solver.specs.Outputs.{Found, found-writable, found-finished}
 use Rattle.sets.specs.Laws.{cleared-all}
 use borrow.Author.Needs.{needs}
@@ -58,20 +57,19 @@ left r = r .zielonka-rec .last .1 .1 .1 .1 .0
 kept-long : (r : tie.After-zielonka-rec) → length (left r) ≡ length (start r .args .work .now)
 kept-long r = r .zielonka-rec .kept .1 .1 .1 .1 .0 ∙ prepared r .prepare .ensures .long
 
--- by what it gave
-abbrev EndsAs : tie.After-zielonka-rec → Ran → Type 0
-EndsAs r =
-    let g = start r in Ends (tables g) (base (sized r)) 0 (g .args .budget) (prepared r .prepare .last .1 .1 .1 .1 .0) (left r)
-
-ends : (r : tie.After-zielonka-rec) {x : Ran} → r .zielonka-rec .result ≡ x → EndsAs r x
-ends r e = subst (EndsAs r) e (r .zielonka-rec .ensures)
-
 -- within the budget it has found what is to be written
-abbrev ended : tie.After-known-told → tie.After-zielonka-rec
-ended d = d .before .before .before .before .before
+abbrev ended : tie.Else1 → tie.After-zielonka-rec
+ended d = d .before .before .before
+
+done :
+    (d : tie.Else1) →
+    let r = ended d in
+    let g = start r in
+    Done (tables g) (base (sized r)) 0 (g .args .budget) (r .zielonka-rec .result) (prepared r .prepare .last .1 .1 .1 .1 .0) (left r)
+done d = ended d .zielonka-rec .ensures .done (omega (arith, d .if1 .left))
 
 found :
-    (d : tie.After-known-told) →
+    (d : tie.Else1) →
     let g = start (ended d) in
     let s = sized (ended d) .set-words .result in
     Found (tables g) (zielonka (gameOf (tables g)) .won) (zielonka (gameOf (tables g)) .entries) s
@@ -81,7 +79,7 @@ found d =
     let r = ended d in
     let g = start r in
     run-found (tables g) (g .pre .0 .accepted) (g .args .work .now) (g .pre .0 .room) (first (sized r)) (prepared r .prepare .ensures)
-    (ends r (d .before .ran .given .1)) (sized r .set-words .ensures)
+    (done d) (sized r .set-words .ensures)
 
 set-words-requires : tie.Need-set-words-requires
 set-words-requires c κs = search needs
@@ -126,12 +124,6 @@ zielonka-rec-requires c κs =
     let g = began z in
     run-called (tables g) (g .pre .0 .accepted) (g .args .work .now) (g .pre .0 .room) (first z) (d .prepare .ensures) (g .pre .1)
 
-enum-known-ran : tie.Need-enum-known-ran
-enum-known-ran c = search needs
-
-enum-told : tie.Need-enum-told
-enum-told c = search needs
-
 clear-requires : tie.Need-clear-requires
 clear-requires c κs = search needs
 
@@ -140,14 +132,14 @@ same-length c = search needs
 
 returns : tie.Need-returns
 returns c =
-    let r = c .before .before .before .before .before .before .before .before in
+    let r = c .before .before .before .before .before .before .before in
     let g = start r in (
       cleared-all (g .args .work .now) (left r) (kept-long r) (c .before .before .clear .ensures),
       record {
         over =
             run-over-budget (tables g) (g .pre .0 .accepted) (g .args .work .now) (g .pre .0 .room) (first (sized r))
             (prepared r .prepare .ensures)
-            (ends r (c .before .before .before .before .enum-told .given .1));
+            (r .zielonka-rec .ensures .over (c .before .before .before .before .if1 .taken));
         same = refl;
       },
     )
@@ -184,14 +176,13 @@ returns-2 c =
     let written = c .before .before .before .before .before .before .before .before .before .before in
     let d = written .before .before .before .before .before in
     let r = ended d in
-    let g = start r in
-    let done = ends r (d .before .ran .given .1) in (
+    let g = start r in (
       cleared-all (g .args .work .now) (left r) (kept-long r) (c .before .before .clear2 .ensures),
       found-finished (found d) (g .pre .0 .strategy-size) (written .write-out .ensures)
           (run-calls (tables g) (g .pre .0 .accepted) (g .args .work .now) (g .pre .0 .room) (first (sized r))
           (prepared r .prepare .ensures)
-          done)
-          (done .within),
+          (done d))
+          (done d .within),
     )
 
 pub run-spec : {M : Type 1} → statement M
@@ -210,8 +201,6 @@ run-spec =
     add-base-4
     prepare-requires
     zielonka-rec-requires
-    enum-known-ran
-    enum-told
     clear-requires
     same-length
     returns

@@ -1,6 +1,6 @@
 -- `zielonka_rec` meets its contract. The measure is the number of members of V. The pieces before a nested call make what it asks
 -- for, on fewer vertices, and the pieces after it make of what it left the run of this call.
-use mathlib.Core.Path.{_≡_, subst}
+use mathlib.Core.Path.{_≡_}
 use mathlib.Core.Bool.{true}
 use mathlib.Core.List.{List}
 use Prim.Native.Nat.{ℕ, _+_, _*_, _≤_, _<_}
@@ -9,9 +9,8 @@ use lib.ListN.{length}
 use Rattle.rules.specs.Counting.{count}
 use Rattle.rules.specs.Tables.{Tables, tablesOf}
 use Rattle.area.specs.Area.{setAt}
-use Rattle.solver.specs.declared.ran.Ran.{Ran}
-use Rattle.zielonka_level.specs.Level.{onLevel}
-use Rattle.zielonka.specs.Ending.{Ends}
+use Rattle.zielonka_level.specs.Level.{onLevel, Done}
+use Rattle.zielonka.specs.Ending.{Ends, ends-over, ends-done}
 use Rattle.zielonka_level.specs.Steps.{over-first}
 use Rattle.zielonka.specs.Calling.{level-fits, highest-given, level-empty, level-some, empty-done}
 use Rattle.zielonka.specs.Calling.{member-ready, member-top}
@@ -96,10 +95,10 @@ module _ (t : ℕ) where
   abbrev after-cut : At lts.After-zielonka-rec → At lts.After-attract-highest
   after-cut c = c .before .before .before .before .before
 
-  abbrev after-first : At lts.After-known-told → At lts.After-zielonka-rec
-  after-first c = c .before .before .before .before .before
+  abbrev after-first : At lts.Else3 → At lts.After-zielonka-rec
+  after-first c = c .before .before .before
 
-  abbrev after-told : At lts.After-attract-lost → At lts.After-known-told
+  abbrev after-told : At lts.After-attract-lost → At lts.Else3
   after-told c = c .before .before .before .before .before
 
   abbrev first-cut : At lts.After-attract-lost → At lts.After-attract-highest
@@ -109,7 +108,7 @@ module _ (t : ℕ) where
   after-second-cut c = c .before .before .before .before
 
   abbrev after-second : At lts.After-join → At lts.After-zielonka-rec2
-  after-second c = c .before .before .before .before .before .before .before
+  after-second c = c .before .before .before .before .before
 
   -- the tables
   abbrev tables : At lts.Start → Tables
@@ -126,8 +125,8 @@ module _ (t : ℕ) where
   top c = after-highest c .get-highest-prio .result .0
 
   -- the calls that were made when the first nested call has ended
-  abbrev made : At lts.After-known-told → ℕ
-  made c = c .before .first .given .0 .0
+  abbrev made : At lts.Else3 → ℕ
+  made c = after-first c .zielonka-rec .result
 
   -- the work area as it was lent, and after the first cut, the first nested call, the second cut and the second nested call
   abbrev work₀ : At lts.After-attract-highest → List ℕ
@@ -175,25 +174,16 @@ module _ (t : ℕ) where
         cut = c .attract-highest .ensures;
       }
 
-  -- the first nested call has ended, by what it gave
-  abbrev FirstEnds : At lts.After-zielonka-rec → Ran → Type 0
-  FirstEnds c =
-      let d = after-cut c in
-      let a = start d .args in
-      Ends (tables (start d)) (a .base + 4 * size d) (a .calls + 1) (a .cap) (work₁ d) (work₂ c)
-
-  first-ends : (c : At lts.After-zielonka-rec) {r : Ran} → c .zielonka-rec .result ≡ r → FirstEnds c r
-  first-ends c e = subst (FirstEnds c) e (c .zielonka-rec .ensures)
-
   -- within the budget
   came :
-      (c : At lts.After-known-told) →
+      (c : At lts.Else3) →
       let d = after-cut (after-first c) in
       let a = start d .args in
       Came (tables (start d)) (size d) (a .base) (top d) (a .calls) (a .cap) (made c)
       (work₀ d) (work₁ d) (work₂ (after-first c))
   came c =
-      let first = after-first c in begun-came (begun (after-cut first)) (first-ends first (c .before .first .given .1))
+      let first = after-first c in
+      begun-came (begun (after-cut first)) (first .zielonka-rec .ensures .done (omega (arith, c .if3 .left)))
 
   -- the second cut is made
   lost :
@@ -205,22 +195,21 @@ module _ (t : ℕ) where
       (work₀ d) (work₁ d) (work₂ (after-first told)) (work₃ c)
   lost c =
       let g = start (first-cut c) in
-      came-lost (came (after-told c)) (c .before .before .before .lost-nothing .ensures) (c .before .before .if3 .left)
+      came-lost (came (after-told c)) (c .before .before .before .lost-nothing .ensures) (c .before .before .if4 .left)
       (c .attract-lost .ensures (g .args .priorities .now) (g .pre .1 .called .accepted))
 
-  -- the second nested call has ended, by what it gave
-  abbrev SecondEnds : At lts.After-zielonka-rec2 → Ran → Type 0
-  SecondEnds c =
-      let l = after-second-cut c in
+  -- the second nested call has ended within the budget
+  second :
+      (c : At lts.Else5) →
+      let e = c .before .before .before in
+      let l = after-second-cut e in
       let d = first-cut l in
       let a = start d .args in
-      Ends (tables (start d)) (a .base + 4 * size d) (made (after-told l)) (a .cap) (work₃ l) (work₄ c)
-
-  second-ends : (c : At lts.After-zielonka-rec2) {r : Ran} → c .zielonka-rec2 .result ≡ r → SecondEnds c r
-  second-ends c e = subst (SecondEnds c) e (c .zielonka-rec2 .ensures)
+      Done (tables (start d)) (a .base + 4 * size d) (made (after-told l)) (a .cap) (e .zielonka-rec2 .result) (work₃ l) (work₄ e)
+  second c = c .before .before .before .zielonka-rec2 .ensures .done (omega (arith, c .if5 .left))
 
   returns : At lts.Need-returns
-  returns c = over-first (c .before .before .before .before .before .before .pre .1 .called) (c .if1 .taken)
+  returns c = ends-over (over-first (c .before .before .before .before .before .before .pre .1 .called) (omega (arith, c .if1 .taken)))
 
   set-words-requires : At lts.Need-set-words-requires
   set-words-requires c κs = search needs
@@ -255,8 +244,8 @@ module _ (t : ℕ) where
   clear-requires : At lts.Need-clear-requires
   clear-requires c κs = omega (arith, fits (after-words (c .before .before)))
 
-  add-t31 : At lts.Need-add-t31
-  add-t31 c = search needs
+  add-result : At lts.Need-add-result
+  add-result c = search needs
 
   same-length : At lts.Need-same-length
   same-length c = search needs
@@ -267,9 +256,10 @@ module _ (t : ℕ) where
       let sized = after-words tested in
       let called = start-of sized .pre .1 .called in
       let s = sized .set-words .ensures in
-      empty-done called s (level-empty called s (tested .is-empty .ensures) (c .before .before .before .before .if2 .taken))
-      (sized .before .if1 .left)
-      (c .before .before .clear .ensures)
+      ends-done (omega arith)
+      (empty-done called s (level-empty called s (tested .is-empty .ensures) (c .before .before .before .before .if2 .taken))
+      (omega (arith, sized .before .if1 .left))
+      (c .before .before .clear .ensures))
 
   add-get-highest-prio : At lts.Need-add-get-highest-prio
   add-get-highest-prio c = search needs
@@ -316,20 +306,14 @@ module _ (t : ℕ) where
       let called = begun-called (begun d) in
       (omega (arith, begun-less (begun d), start d .pre .0), rw (c .one-less .ensures) called)
 
-  enum-known-first : At lts.Need-enum-known-first
-  enum-known-first c = search needs
-
-  enum-told : At lts.Need-enum-told
-  enum-told c = search needs
-
   same-length-2 : At lts.Need-same-length-2
   same-length-2 c = search needs
 
   returns-3 : At lts.Need-returns-3
   returns-3 c =
-      let first = c .before .before .before .before in
+      let first = c .before .before .before in
       let a = start (after-cut first) .args in
-      begun-over (begun (after-cut first)) (a .calls) (a .cap) (first-ends first (c .enum-told .given .1))
+      ends-over (begun-over (begun (after-cut first)) (a .calls) (a .cap) (first .zielonka-rec .ensures .over (c .if3 .taken)))
 
   lost-nothing-requires : At lts.Need-lost-nothing-requires
   lost-nothing-requires c κs = omega (arith, came-ready (came (c .before)) .high)
@@ -343,8 +327,10 @@ module _ (t : ℕ) where
   returns-4 : At lts.Need-returns-4
   returns-4 c =
       let asked = c .before .before .before .before .before in
-      came-all (came (asked .before .before)) (asked .lost-nothing .ensures) (c .before .before .before .before .if3 .taken)
-      (c .before .before .win-everything .ensures)
+      let told = asked .before .before in
+      ends-done (omega (arith, told .if3 .left))
+      (came-all (came told) (asked .lost-nothing .ensures) (c .before .before .before .before .if4 .taken)
+      (c .before .before .win-everything .ensures))
 
   attract-lost-requires : At lts.Need-attract-lost-requires
   attract-lost-requires c κs = came-losable (came (c .before .before .before .before))
@@ -354,35 +340,28 @@ module _ (t : ℕ) where
       let d = c .before .before .before in
       (omega (arith, lost-less (lost d), start (first-cut d) .pre .0), lost-called (lost d))
 
-  enum-known-second : At lts.Need-enum-known-second
-  enum-known-second c = search needs
-
-  enum-told-2 : At lts.Need-enum-told-2
-  enum-told-2 c = search needs
-
   same-length-4 : At lts.Need-same-length-4
   same-length-4 c = search needs
 
   returns-5 : At lts.Need-returns-5
   returns-5 c =
-      let second = c .before .before .before .before in
-      lost-over (lost (after-second-cut second)) (second-ends second (c .enum-told2 .given .1))
+      let e = c .before .before .before in
+      ends-over (lost-over (lost (after-second-cut e)) (e .zielonka-rec2 .ensures .over (c .if5 .taken)))
 
   join-requires : At lts.Need-join-requires
   join-requires c κs =
-      let second = c .before .before .before .before .before .before in
-      lost-high (lost (after-second-cut second)) (second-ends second (c .before .before .second .given .1))
+      let d = c .before in lost-high (lost (after-second-cut (d .before .before .before))) (second d)
 
   same-length-5 : At lts.Need-same-length-5
   same-length-5 c =
       let joined = c .before .before in
-      let second = after-second joined in
-      let cut₂ = after-second-cut second in
+      let e = after-second joined in
+      let cut₂ = after-second-cut e in
       let first = after-first (after-told cut₂) in
       omega (
         arith,
         joined .join .kept .1 .1 .0,
-        second .zielonka-rec2 .kept .1 .1 .1 .1 .0,
+        e .zielonka-rec2 .kept .1 .1 .1 .1 .0,
         cut₂ .attract-lost .kept .1 .1 .1 .1 .1 .0,
         first .zielonka-rec .kept .1 .1 .1 .1 .0,
         after-cut first .attract-highest .kept .1 .1 .1 .1 .1 .1 .0,
@@ -391,10 +370,9 @@ module _ (t : ℕ) where
   returns-6 : At lts.Need-returns-6
   returns-6 c =
       let joined = c .before .before in
-      let second = after-second joined in
-      lost-done (lost (after-second-cut second))
-      (second-ends second (joined .before .before .before .second .given .1))
-      (joined .join .ensures)
+      let d = joined .before .before in
+      ends-done (omega (arith, d .if5 .left))
+      (lost-done (lost (after-second-cut (after-second joined))) (second d) (joined .join .ensures))
 
 pub +zielonka-rec-spec : {M : Type 1} → statement M
 +zielonka-rec-spec = close μ λ t. lts.spec
@@ -413,7 +391,7 @@ pub +zielonka-rec-spec : {M : Type 1} → statement M
     (add-clear t)
     (mul-clear-2 t)
     (clear-requires t)
-    (add-t31 t)
+    (add-result t)
     (same-length t)
     (returns-2 t)
     (add-get-highest-prio t)
@@ -428,8 +406,6 @@ pub +zielonka-rec-spec : {M : Type 1} → statement M
     (one-less-requires t)
     (add-zielonka-rec t)
     (zielonka-rec-requires t)
-    (enum-known-first t)
-    (enum-told t)
     (same-length-2 t)
     (returns-3 t)
     (lost-nothing-requires t)
@@ -438,8 +414,6 @@ pub +zielonka-rec-spec : {M : Type 1} → statement M
     (returns-4 t)
     (attract-lost-requires t)
     (zielonka-rec-requires-2 t)
-    (enum-known-second t)
-    (enum-told-2 t)
     (same-length-4 t)
     (returns-5 t)
     (join-requires t)
