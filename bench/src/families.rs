@@ -1,26 +1,51 @@
-//! The games that are timed. Each family has a game for every n.
+//! The games that are timed.
+
+use std::sync::OnceLock;
 
 use compare::game::Game;
 use compare::generate::{chain, ladder, of_shape, Numbers, Shape};
+use compare::hard::{climb, Solver};
 
-/// A family: its name, and its game of about n vertices.
+use crate::layered;
+
+/// A family with a game for every n: its name, and its game of n vertices.
 pub struct Family {
     pub name: &'static str,
     pub game: fn(usize) -> Game,
 }
 
 /// The families whose cost is drawn against n.
-pub const FAMILIES: [Family; 5] = [
+pub const FAMILIES: [Family; 9] = [
     Family { name: "random dense", game: dense },
     Family { name: "random sparse", game: sparse },
+    Family { name: "few priorities", game: few },
     Family { name: "ladder", game: ladder },
     Family { name: "chain", game: chain },
     Family { name: "near neighbours", game: near },
+    Family { name: "random", game: |n| random(n, n as u64) },
+    Family { name: "hard for Zielonka, padded", game: |n| padded(hard(Solver::Zielonka), n) },
+    Family { name: "hard for promotion, padded", game: |n| padded(hard(Solver::Promotion), n) },
 ];
 
-fn random(n: usize, most_edges: usize, priorities: usize, reach: usize) -> Game {
+/// The games of the tables: those of full size first, then the smaller ones.
+pub fn timed() -> Vec<(&'static str, Game)> {
+    let full = |family: &Family| (family.name, (family.game)(4_096));
+    let mut games: Vec<(&str, Game)> = FAMILIES.iter().filter(|family| family.name != "random").map(full).collect();
+    games.extend([
+        ("near neighbours", near(1_024)),
+        ("random", random(200, 200)),
+        ("random", random(40, 40)),
+        ("hard 44", hard_44()),
+        ("hard 39", hard_39()),
+        ("hard for Zielonka", hard(Solver::Zielonka).clone()),
+        ("hard for promotion", hard(Solver::Promotion).clone()),
+    ]);
+    games
+}
+
+fn shaped(n: usize, most_edges: usize, priorities: usize, reach: usize, seed: u64) -> Game {
     let shape = Shape { n, most_edges, priorities, reach, repeats: usize::MAX, owner: 2 };
-    of_shape(shape, &mut Numbers::new(n as u64))
+    of_shape(shape, &mut Numbers::new(seed))
 }
 
 /// Four edges a vertex, anywhere.
@@ -36,22 +61,57 @@ pub fn dense(n: usize) -> Game {
 
 /// One or two edges a vertex, anywhere.
 pub fn sparse(n: usize) -> Game {
-    random(n, 2, 256, n)
+    shaped(n, 2, 256, n, n as u64)
+}
+
+/// Of each two vertices one has one edge and one has two, anywhere: 3n/2 edges; four priorities. With n itself as the seed a
+/// single attractor would take all 4,096 vertices.
+pub fn few(n: usize) -> Game {
+    let mut numbers = Numbers::new(n as u64 + 1);
+    let mut game = Game::empty();
+    let mut before = 1;
+    for v in 0..n {
+        before = if v % 2 == 0 { numbers.between(1, 2) } else { 3 - before };
+        let targets: Vec<u16> = (0..before).map(|_| numbers.below(n) as u16).collect();
+        game.push(numbers.below(2) as u8, numbers.below(4) as u16, &targets);
+    }
+    game
 }
 
 /// One or two edges a vertex, at most three places away, eight priorities.
 pub fn near(n: usize) -> Game {
-    random(n, 2, 8, 3)
+    shaped(n, 2, 8, 3, n as u64)
 }
 
-/// One or two edges a vertex, anywhere, 64 priorities.
-pub fn few(n: usize) -> Game {
-    random(n, 2, 64, n)
+/// One to four edges a vertex, anywhere, 64 priorities.
+pub fn random(n: usize, seed: u64) -> Game {
+    shaped(n, 4, 64, n, seed)
+}
+
+/// One or two edges a vertex, anywhere, 64 priorities, 100 vertices.
+pub fn hundred() -> Game {
+    shaped(100, 2, 64, 100, 100)
+}
+
+/// 40 vertices, made hard for the solver by small changes.
+pub fn hard(solver: Solver) -> &'static Game {
+    static GAMES: [OnceLock<Game>; 2] = [OnceLock::new(), OnceLock::new()];
+    GAMES[solver as usize].get_or_init(|| climb(solver, 40, 3_000, 10_000, 7).last().expect("the climb has steps"))
+}
+
+/// 11 layers of 4 vertices, climbed to 150 calls.
+fn hard_44() -> Game {
+    layered::climb(11, 4, 150, 7)
+}
+
+/// 13 layers of 3 vertices, climbed to 3,000 calls.
+fn hard_39() -> Game {
+    layered::climb(13, 3, 3_000, 2)
 }
 
 /// The game with vertices added up to n: each leads to itself, with the highest priority, so that the recursion drops them at
 /// once and only the size of the tables stays.
-pub fn padded(game: &Game, n: usize) -> Game {
+fn padded(game: &Game, n: usize) -> Game {
     let mut padded = game.clone();
     for v in game.n()..n {
         padded.push(0, 255, &[v as u16]);

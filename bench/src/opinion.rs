@@ -3,29 +3,33 @@
 use compare::game::Game;
 use compare::reference::{opinion, zielonka};
 
+use crate::{families, milliseconds};
+
 /// The most calls that the literal recursion gets, and the most vertices: plain attractors are slow.
 const LITERAL: u64 = 200_000;
-const SMALL: usize = 512;
+const SMALL: usize = 100;
 
 /// One row a game, as a Markdown table.
-pub fn print(games: &[(&str, Game)]) {
-    println!("\n| family | n | Zielonka's calls | second opinion's | ratio | taken literally | Zielonka ms | second opinion ms |");
+pub fn print() {
+    let mut games = families::timed();
+    games.push(("100 vertices, 64 priorities", families::hundred()));
+    println!("\n## The second opinion\n");
+    println!(
+        "| family | n | Zielonka's calls | second opinion's | ratio | taken literally | Zielonka ms | second opinion ms |"
+    );
     println!("|---|---|---|---|---|---|---|---|");
-    for (name, game) in games {
+    for (name, game) in &games {
         let calls = zielonka::solve(game, u64::MAX).expect("no bound on the calls").calls;
         let ours = opinion::solve(game, u64::MAX).expect("no bound on the calls").calls;
         let literal = match game.n() <= SMALL {
             true => opinion::literal(game, LITERAL).map_or(format!("over {LITERAL}"), |told| told.calls.to_string()),
             false => "-".to_string(),
         };
-        let (first, second) = times(game).map_or(("-".into(), "-".into()), |(first, second)| (told(first), told(second)));
+        let (first, second) = times(game).unzip();
+        let (first, second) = (milliseconds(first), milliseconds(second));
         let ratio = ours as f64 / calls as f64;
         println!("| {name} | {} | {calls} | {ours} | {ratio:.2} | {literal} | {first} | {second} |", game.n());
     }
-}
-
-fn told(ms: f64) -> String {
-    format!("{ms:.3}")
 }
 
 #[cfg(feature = "port")]

@@ -11,6 +11,8 @@ use compare::oracle::{Cap, Outcome, Prepared};
 pub struct Row {
     /// Calls or rounds.
     pub count: u64,
+    /// The entries of predecessor lists that the oracle's attractors were handed.
+    pub looks: u64,
     pub rust_ms: f64,
     pub port: Option<Port>,
 }
@@ -22,6 +24,12 @@ pub struct Port {
     pub zeroing_ms: f64,
 }
 
+impl Port {
+    pub fn net_ms(&self) -> f64 {
+        (self.ms - self.zeroing_ms).max(0.0)
+    }
+}
+
 impl Row {
     pub fn ratio(&self) -> Option<f64> {
         self.port.as_ref().map(|port| port.ms / self.rust_ms)
@@ -29,7 +37,7 @@ impl Row {
 
     /// The ratio without the zeroing that document 01 demands.
     pub fn net_ratio(&self) -> Option<f64> {
-        self.port.as_ref().map(|port| (port.ms - port.zeroing_ms).max(0.0) / self.rust_ms)
+        self.port.as_ref().map(|port| port.net_ms() / self.rust_ms)
     }
 }
 
@@ -41,17 +49,46 @@ pub fn measure(game: &Game, solver: Solver) -> Option<Row> {
     let prepared = Prepared::new(game);
     let mut rust = Times::new();
     let mut port = PortTimes::new(game, solver);
+    in_turns(|| {
+        rust.time(|| solve(&prepared, solver));
+        port.turn();
+    });
+    Some(Row { count: solved.count, looks: solved.looks, rust_ms: rust.ms(), port: port.done() })
+}
+
+/// The Rust's solver on a game that is built already.
+pub fn solve(prepared: &Prepared, solver: Solver) {
+    match solver {
+        Solver::Zielonka => drop(black_box(prepared.zielonka())),
+        Solver::Promotion => drop(black_box(prepared.priority_promotion())),
+    }
+}
+
+/// Turns for 0.6 seconds, four at least: the first may only tell how often short work is repeated.
+pub fn in_turns(mut turn: impl FnMut()) {
     let start = Instant::now();
     let mut turns = 0;
     while turns < 4 || start.elapsed() < Duration::from_millis(600) {
         turns += 1;
-        rust.time(|| match solver {
-            Solver::Zielonka => drop(black_box(prepared.zielonka())),
-            Solver::Promotion => drop(black_box(prepared.priority_promotion())),
-        });
-        port.turn();
+        turn();
     }
-    Some(Row { count: solved.count, rust_ms: rust.ms(), port: port.done() })
+}
+
+/// The port's solver, without a budget.
+#[cfg(feature = "port")]
+pub fn solve_by_port(game: &Game, solver: Solver, lent: &mut compare::port::Lent) {
+    use compare::port;
+    let answer = match solver {
+        Solver::Zielonka => port::zielonka(game, u64::MAX, lent),
+        Solver::Promotion => port::priority_promotion(game, u64::MAX, lent),
+    };
+    assert_eq!(answer.number, 0, "the port refuses a game of the benchmark");
+}
+
+/// What zeroing so many words takes, by a plain fill.
+#[cfg(feature = "port")]
+pub fn zero(work: &mut [u64], words: usize) {
+    black_box(work)[..words].fill(0);
 }
 
 #[cfg(feature = "port")]
@@ -71,17 +108,10 @@ impl<'a> PortTimes<'a> {
     }
 
     fn turn(&mut self) {
-        use compare::port;
         let (game, lent, solver) = (self.game, &mut self.lent, self.solver);
-        self.whole.time(|| {
-            let answer = match solver {
-                Solver::Zielonka => port::zielonka(game, u64::MAX, lent),
-                Solver::Promotion => port::priority_promotion(game, u64::MAX, lent),
-            };
-            assert_eq!(answer.number, 0, "the port refuses a game of the benchmark");
-        });
+        self.whole.time(|| solve_by_port(game, solver, lent));
         let words = compare::reference::tables::work_words(game.n(), game.m());
-        self.zeroing.time(|| black_box(&mut lent.work)[..words].fill(0));
+        self.zeroing.time(|| zero(&mut lent.work, words));
     }
 
     fn done(self) -> Option<Port> {

@@ -1,0 +1,45 @@
+//! What the times are held against. A figure that misses its target or limit is marked `over`; nothing else hangs on it.
+
+use compare::hard::Solver;
+
+/// The most of the Rust's time that the port may take, without zeroing.
+const HALF: f64 = 0.5;
+
+/// The most that the port may take of the time of a C program by the same rules, without zeroing.
+const BESIDE_C: f64 = 1.1;
+
+/// The share of the Rust's time that an unproved C program by the same rules took, without zeroing and with a strategy: by
+/// Zielonka's recursion and by promotion. They were measured apart, on other games of the same sizes and kinds; the padded
+/// one had 32 hard vertices. For the other games half of the Rust's time is the whole target.
+const C_SHARES: [(&str, usize, [f64; 2]); 9] = [
+    ("random dense", 4_096, [0.44, 0.32]),
+    ("random sparse", 4_096, [0.23, 0.11]),
+    ("few priorities", 4_096, [0.47, 0.30]),
+    ("ladder", 4_096, [0.36, 0.25]),
+    ("chain", 4_096, [0.21, 0.16]),
+    ("near neighbours", 1_024, [0.17, 0.09]),
+    ("hard 44", 44, [0.12, 0.17]),
+    ("hard 39", 39, [0.13, 0.09]),
+    ("hard for Zielonka, padded", 4_096, [0.085, 0.20]),
+];
+
+/// The C program's share on the family's game of n vertices.
+pub fn c_share(family: &str, n: usize, solver: Solver) -> Option<f64> {
+    let row = C_SHARES.iter().find(|row| row.0 == family && row.1 == n)?;
+    Some(row.2[solver as usize])
+}
+
+/// The most that the ratio without zeroing may be.
+pub fn at_most(family: &str, n: usize, solver: Solver) -> f64 {
+    c_share(family, n, solver).map_or(HALF, |share| HALF.min(BESIDE_C * share))
+}
+
+#[cfg(feature = "port")]
+/// What a function timed alone has to reach on a game, in millions of edges or of bytes a second, zeroing left out.
+const LIMITS: [(&str, &str, f64); 1] = [("reader", "text", 200.0)];
+
+#[cfg(feature = "port")]
+/// The limit of a function on a game or text; none for what is only there to compare with.
+pub fn at_least(function: &str, on: &str) -> Option<f64> {
+    LIMITS.iter().find(|limit| limit.0 == function && on.starts_with(limit.1)).map(|limit| limit.2)
+}
