@@ -30,19 +30,19 @@ fn check_export(owners: &[u8], priorities: &[u16], offsets: &[u16], targets: &[u
 {
     let n = owners.len();
     let m = targets.len();
-    let r = refusals::check_lengths(n, priorities.len(), offsets.len(), m);
+    let r = checks_in_order::check_lengths(n, priorities.len(), offsets.len(), m);
     if r.number() != 0 {
         return r;
     }
-    let r = refusals::check_owners(owners);
+    let r = checks_in_order::check_owners(owners);
     if r.number() != 0 {
         return r;
     }
-    let r = refusals::check_priorities(priorities);
+    let r = checks_in_order::check_priorities(priorities);
     if r.number() != 0 {
         return r;
     }
-    refusals::check_offsets(offsets, n, m)
+    checks_in_order::check_offsets(offsets, n, m)
 }
 
 // 35: each output and the list have the room that is needed.

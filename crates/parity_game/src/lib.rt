@@ -1,5 +1,5 @@
 // The tagged numbers of the Rust, the one answer type, how many words a set and the work area have, and the checks 9
-// and 10. The tables themselves are checked in `refusals` and `table_checks`.
+// and 10. The tables themselves are checked in `checks_in_order` and `table_checks`.
 mod answer;
 mod player;
 mod sizes;

@@ -1,6 +1,6 @@
 // The tables of a game as lent slices, checked before anything else is done with them: 1 to 8, for any four slices.
 // Loops that are never left early, which become vector code, tell whether all is well; only where one of them says no
-// do the checks of `refusals` look for the number and the place.
+// do the checks of `checks_in_order` look for the number and the place.
 mod scan;
 
 use parity_game::Answer;
@@ -19,12 +19,17 @@ pub fn check_tables(owners: &[u8], priorities: &[u16], offsets: &[u16], targets:
         (tablesOf (now (owners .entry)) (now (priorities .entry)) (now (offsets .entry)) (now (targets .entry))))
         (answered 0) ⌝ }
 {
-    let r = refusals::check_lengths(owners.len(), priorities.len(), offsets.len(), targets.len());
+    let r = checks_in_order::check_lengths(
+        owners.len(),
+        priorities.len(),
+        offsets.len(),
+        targets.len(),
+    );
     if r.number() != 0 {
         return r;
     }
     if are_well(owners, priorities, offsets, targets) {
         return Answer::Answered(0);
     }
-    refusals::first_refusal(owners, priorities, offsets, targets)
+    checks_in_order::first_refusal(owners, priorities, offsets, targets)
 }

@@ -1,5 +1,5 @@
 -- `check_tables` meets its contract: tables whose lengths fit and that are well pass all checks, and of others the checks
--- of `refusals` say it.
+-- of `checks_in_order` say it.
 use mathlib.Core.Path.{_≡_, sym, _∙_, ap}
 use borrow.Author.Needs.{needs}
 use Rattle.rules.specs.Outcome.{Verdict, none, outcome, answered}

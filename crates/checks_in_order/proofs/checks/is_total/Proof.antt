@@ -12,8 +12,8 @@ use lib.Dec.{eqb}
 use Rattle.rules.specs.Outcome.{answered}
 use Rattle.rules.specs.Tables.{check8, degree}
 use Rattle.parity_game.specs.Search.{FailsBelow, outcome-found, outcome-none}
-use Rattle.refusals.proofs.checks.is_total.Statement.{statement}
-use Rattle.refusals.proofs.checks.is_total.Tie as tie
+use Rattle.checks_in_order.proofs.checks.is_total.Statement.{statement}
+use Rattle.checks_in_order.proofs.checks.is_total.Tie as tie
 
 abbrev deadEnd : List ℕ → ℕ → Bool
 deadEnd offsets v = eqb (degree offsets v) 0

@@ -2,8 +2,8 @@
 use borrow.Author.Needs.{needs}
 use borrow.Author.Tests.{eq-eqb, ne-eqb}
 use Rattle.rules.specs.Tables.{check2}
-use Rattle.refusals.proofs.checks.check_counts.Statement.{statement}
-use Rattle.refusals.proofs.checks.check_counts.Tie as tie
+use Rattle.checks_in_order.proofs.checks.check_counts.Statement.{statement}
+use Rattle.checks_in_order.proofs.checks.check_counts.Tie as tie
 
 returns : tie.Need-returns
 unfolding check2

@@ -12,8 +12,8 @@ use lib.ListN.{length, getD}
 use Rattle.rules.specs.Outcome.{answered}
 use Rattle.rules.specs.Tables.{check7}
 use Rattle.parity_game.specs.Search.{FailsBelow, outcome-found, outcome-none}
-use Rattle.refusals.proofs.checks.check_targets.Statement.{statement}
-use Rattle.refusals.proofs.checks.check_targets.Tie as tie
+use Rattle.checks_in_order.proofs.checks.check_targets.Statement.{statement}
+use Rattle.checks_in_order.proofs.checks.check_targets.Tie as tie
 
 abbrev noTarget : ℕ → List ℕ → ℕ → Bool
 noTarget n targets e = leb n (getD targets e 0)

@@ -11,8 +11,8 @@ use Rattle.parity_game.specs.Laws.{passed, lengths-fit, lengthChecks, from4, fr
 use Rattle.parity_game.specs.Laws.{numbered-lengths, numbered-check4, numbered-check5, numbered-check6, numbered-check7}
 use Rattle.parity_game.specs.Said.{said}
 use Rattle.parity_game.proofs.Matched.{went-on, stopped}
-use Rattle.refusals.proofs.checks.first_refusal.Statement.{statement}
-use Rattle.refusals.proofs.checks.first_refusal.Tie as tie
+use Rattle.checks_in_order.proofs.checks.first_refusal.Statement.{statement}
+use Rattle.checks_in_order.proofs.checks.first_refusal.Tie as tie
 
 -- the tables as lent, from the start and from the place past each check
 abbrev tables : tie.Start → Tables

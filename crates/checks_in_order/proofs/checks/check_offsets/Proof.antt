@@ -12,8 +12,8 @@ use lib.ListN.{getD}
 use Rattle.rules.specs.Outcome.{givenAt, none}
 use Rattle.rules.specs.Tables.{check6}
 use Rattle.parity_game.specs.Search.{FailsBelow, found-at, none-found}
-use Rattle.refusals.proofs.checks.check_offsets.Statement.{statement}
-use Rattle.refusals.proofs.checks.check_offsets.Tie as tie
+use Rattle.checks_in_order.proofs.checks.check_offsets.Statement.{statement}
+use Rattle.checks_in_order.proofs.checks.check_offsets.Tie as tie
 
 abbrev falls : List ℕ → ℕ → Bool
 falls offsets i = ltb (getD offsets (i + 1) 0) (getD offsets i 0)

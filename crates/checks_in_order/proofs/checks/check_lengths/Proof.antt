@@ -6,8 +6,8 @@ use Rattle.rules.specs.Outcome.{none, _then_, answered}
 use Rattle.rules.specs.Tables.{check1, check2, check3}
 use Rattle.parity_game.specs.Laws.{outcome-pass, check1-none, numbered-check1, numbered-check2}
 use Rattle.parity_game.proofs.Matched.{went-on, stopped}
-use Rattle.refusals.proofs.checks.check_lengths.Statement.{statement}
-use Rattle.refusals.proofs.checks.check_lengths.Tie as tie
+use Rattle.checks_in_order.proofs.checks.check_lengths.Statement.{statement}
+use Rattle.checks_in_order.proofs.checks.check_lengths.Tie as tie
 
 first-none : (c : tie.Else1) → check1 (c .before .before .before .args .n) ≡ none
 first-none c =

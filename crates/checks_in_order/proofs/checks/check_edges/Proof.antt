@@ -1,8 +1,8 @@
 -- `check_edges` meets its contract: each return goes by the test that led there.
 use borrow.Author.Tests.{lt-ltb, le-ltb}
 use Rattle.rules.specs.Tables.{check3}
-use Rattle.refusals.proofs.checks.check_edges.Statement.{statement}
-use Rattle.refusals.proofs.checks.check_edges.Tie as tie
+use Rattle.checks_in_order.proofs.checks.check_edges.Statement.{statement}
+use Rattle.checks_in_order.proofs.checks.check_edges.Tie as tie
 
 returns : tie.Need-returns
 unfolding check3
