@@ -14,12 +14,12 @@ use Rattle.parity_game.specs.Laws.{then-none, then-assoc, Numbered, numbered-th
 use Rattle.parity_game.specs.Laws.{check9-set, check9-set-none, check9-table, check9-table-none, check10-none}
 use Rattle.area.specs.Area.{free}
 use Rattle.rules.specs.Solver.{cleared}
-use Rattle.rules.specs.Attracts.{Lent, attractorChecks, wanted, Leaves, Attracts}
+use Rattle.rules.specs.Attracts.{LentResult, attractorChecks, wanted, AttractorLeaves, Attracts}
 use Rattle.attractor_run.specs.Work.{Runnable, Ran}
 use Rattle.attractor_door.specs.Door.{sizeChecks, lentChecks, checksBy}
 use Rattle.attractor_door.specs.DoorLaws.{within-below, target-part}
 
-pub numbered-checks : (t : Tables) (V' T : List ℕ) (l : Lent) → Numbered (attractorChecks t V' T l)
+pub numbered-checks : (t : Tables) (V' T : List ℕ) (l : LentResult) → Numbered (attractorChecks t V' T l)
 unfolding check12
 numbered-checks t V' T l =
     numbered-then (tableChecks t) _ (numbered-tables t)
@@ -35,7 +35,7 @@ unfolding Accepted
 accepted-checks t V' T result strategy distances work ok = rw ok
 
 -- a refusal is given as it is, and nothing is written
-leaves-refused : (v : Verdict) (t : Tables) (a : Player) (V' T : List ℕ) (l : Lent) → (v ≡ none → ⊥) → Leaves v t a V' T l l
+leaves-refused : (v : Verdict) (t : Tables) (a : Player) (V' T : List ℕ) (l : LentResult) → (v ≡ none → ⊥) → AttractorLeaves v t a V' T l l
 leaves-refused none t a V' T l h = absurd (h refl)
 leaves-refused (refused k p) t a V' T l h = refl
 
@@ -44,7 +44,7 @@ gives-refused none o q h = absurd (h refl)
 gives-refused (refused k p) o q h = refl
 
 pub attracts-refused :
-    (t : Tables) (a : Player) (V' T : List ℕ) (l : Lent) (o : Outcome) →
+    (t : Tables) (a : Player) (V' T : List ℕ) (l : LentResult) (o : Outcome) →
     o ≡ outcome (attractorChecks t V' T l) (answered 0) →
     (o .number ≡ 0 → ⊥) →
     Attracts t a V' T l l o
@@ -59,7 +59,7 @@ attracts-refused t a V' T l o e h =
 
 -- an answer
 pub attracts-answered :
-    (t : Tables) (a : Player) (V' T : List ℕ) (before after : Lent) (looks : ℕ) →
+    (t : Tables) (a : Player) (V' T : List ℕ) (before after : LentResult) (looks : ℕ) →
     attractorChecks t V' T before ≡ none →
     Ran t a V' T (after .result) (after .strategy) (after .distances) looks →
     after .work ≡ cleared t (before .work) →
@@ -71,7 +71,7 @@ attracts-answered t a V' T before after looks passed ran work =
           ap (λ (v : Verdict). outcome v (answered (looksOf (gameOf t) (wanted t a V' T)))) (sym passed);
       leaves =
           subst
-          (λ (v : Verdict). Leaves v t a V' T before after)
+          (λ (v : Verdict). AttractorLeaves v t a V' T before after)
           (sym passed)
           (record { set = ran .set; strategy = ran .entries; distances = ran .far; work = work });
     }

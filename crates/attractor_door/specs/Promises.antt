@@ -8,7 +8,7 @@ use Prim.Native.Nat.{ℕ, _≤_, _<_}
 use native.Mathlib.Omega.{arith}
 use lib.Dec.{eqb}
 use lib.ListN.{getD, List·getD-eq-default}
-use Rattle.rules.specs.Attracts.{Lent, attractorChecks, wanted, Answers, Leaves, Attracts}
+use Rattle.rules.specs.Attracts.{LentResult, attractorChecks, wanted, AttractorAnswered, AttractorLeaves, Attracts}
 use Rattle.rules.specs.Attractor.{IsAttractor, AttractorEntries, looksOf}
 use Rattle.rules.specs.Counting.{Set, listed}
 use Rattle.rules.specs.Distance.{outside, distance, IsDistance}
@@ -48,8 +48,8 @@ distance-listed g a V' T v =
 
 -- the rule's set is the set of the result
 answers-set :
-    {t : Tables} {a : Player} {V' T : List ℕ} {before after : Lent} →
-    Answers t a V' T before after →
+    {t : Tables} {a : Player} {V' T : List ℕ} {before after : LentResult} →
+    AttractorAnswered t a V' T before after →
     (v : ℕ) →
     wanted t a V' T v ≡ setOf (after .result) v
 unfolding gameOf setOf
@@ -61,7 +61,7 @@ answers-set {t} {a} {V'} {T} {after = after} r v =
     sym (ap (λ (b : ℕ). eqb b 1) (r .set .clear v l)))
     (lt-or-ge v (vertices t))
 
-module _ {t : Tables} {a : Player} {V' T : List ℕ} {before after : Lent} {o : Outcome} (p : Attracts t a V' T before after o) where
+module _ {t : Tables} {a : Player} {V' T : List ℕ} {before after : LentResult} {o : Outcome} (p : Attracts t a V' T before after o) where
   -- an answer was not refused
   pub attractor-passed : o .number ≡ 0 → attractorChecks t V' T before ≡ none
   attractor-passed e =
@@ -71,7 +71,7 @@ module _ {t : Tables} {a : Player} {V' T : List ℕ} {before after : Lent} {o : 
   -- **Past the checks the count is the rule's looks, and the result and the entries are the rule's.**
   pub attractor-answers :
       attractorChecks t V' T before ≡ none →
-      (o ≡ answered (looksOf (gameOf t) (wanted t a V' T))) × Answers t a V' T before after
+      (o ≡ answered (looksOf (gameOf t) (wanted t a V' T))) × AttractorAnswered t a V' T before after
   attractor-answers passed = (
     p .gives ∙ ap (λ (v : Verdict). outcome v (answered (looksOf (gameOf t) (wanted t a V' T)))) passed,
     rw passed at (p .leaves),
@@ -134,9 +134,9 @@ module _ {t : Tables} {a : Player} {V' T : List ℕ} {before after : Lent} {o : 
 -- ---- two results that meet the contract
 
 same-by :
-    (v : Verdict) (t : Tables) (a : Player) (V' T : List ℕ) (before after after′ : Lent) →
-    Leaves v t a V' T before after →
-    Leaves v t a V' T before after′ →
+    (v : Verdict) (t : Tables) (a : Player) (V' T : List ℕ) (before after after′ : LentResult) →
+    AttractorLeaves v t a V' T before after →
+    AttractorLeaves v t a V' T before after′ →
     after ≡ after′
 same-by (refused k q) t a V' T before after after′ l l′ = l ∙ sym l′
 same-by none t a V' T before after after′ l l′ =
@@ -149,13 +149,13 @@ same-by none t a V' T before after after′ l l′ =
     lent :
         {r r′ s s′ d d′ w w′ : List ℕ} →
         r ≡ r′ → s ≡ s′ → d ≡ d′ → w ≡ w′ →
-        _≡_ {A = Lent} (record { result = r; strategy = s; distances = d; work = w })
+        _≡_ {A = LentResult} (record { result = r; strategy = s; distances = d; work = w })
         (record { result = r′; strategy = s′; distances = d′; work = w′ })
     lent e f g h = cc
 
 -- **Any two results that meet the contract are the same.**
 pub attractor-one-result :
-    {t : Tables} {a : Player} {V' T : List ℕ} {before after after′ : Lent} {o o′ : Outcome} →
+    {t : Tables} {a : Player} {V' T : List ℕ} {before after after′ : LentResult} {o o′ : Outcome} →
     Attracts t a V' T before after o →
     Attracts t a V' T before after′ o′ →
     (after ≡ after′) × (o ≡ o′)

@@ -1,7 +1,7 @@
 // The attractor.
 use parity_game::Player;
 use telling::tell;
-ghost use Rattle.rules.specs.Attracts.{Lent, Attracts};
+ghost use Rattle.rules.specs.Attracts.{LentResult, Attracts};
 ghost use Rattle.rules.specs.Game.{playerOf};
 ghost use Rattle.rules.specs.Record.{recordOf, ByRecord};
 ghost use Rattle.telling.specs.Doors.{told};
@@ -26,14 +26,14 @@ pub extern "C" fn reckonbough_attractor(
     count: &mut u64,
 ) -> u64
     ensures { λ number.
-        ⌜ (let before : Lent =
+        ⌜ (let before : LentResult =
         record {
           result = now (result .entry);
           strategy = now (strategy .entry);
           distances = now (distances .entry);
           work = now (work .entry);
         } in
-        let after : Lent =
+        let after : LentResult =
         record {
           result = now (result .exit);
           strategy = now (strategy .exit);

@@ -13,14 +13,14 @@ use Rattle.rules.specs.Attractor.{attractor, looksOf, check12}
 use Rattle.rules.specs.Distance.{distance, attractorEntry}
 
 -- what is lent
-pub record Lent : Type 0 where
+pub record LentResult : Type 0 where
   pub result : List ℕ
   pub strategy : List ℕ
   pub distances : List ℕ
   pub work : List ℕ
 
 -- 1 to 10 and 12
-abbrev pub attractorChecks : Tables → List ℕ → List ℕ → Lent → Verdict
+abbrev pub attractorChecks : Tables → List ℕ → List ℕ → LentResult → Verdict
 attractorChecks t V' T lent =
     tableChecks t then
     check9 (vertices t) (length V' ∷ length T ∷ length (lent .result) ∷ []) (length (lent .strategy) ∷ length (lent .distances) ∷ []) then
@@ -31,17 +31,17 @@ attractorChecks t V' T lent =
 abbrev pub wanted : Tables → Player → List ℕ → List ℕ → Set
 wanted t a V' T = attractor (gameOf t) a (setOf V') (setOf T)
 
-pub record Answers (t : Tables) (a : Player) (V' T : List ℕ) (before after : Lent) : Type 0 where
+pub record AttractorAnswered (t : Tables) (a : Player) (V' T : List ℕ) (before after : LentResult) : Type 0 where
   pub set : Holds (vertices t) (wanted t a V' T) (after .result)
   pub strategy : after .strategy ≡ listed (vertices t) (attractorEntry (gameOf t) a (setOf V') (setOf T))
   pub distances : after .distances ≡ listed (vertices t) (distance (gameOf t) a (setOf V') (setOf T))
   pub work : after .work ≡ cleared t (before .work)
 
 -- by cases on the verdict: a refusal writes nothing
-abbrev pub Leaves : Verdict → Tables → Player → List ℕ → List ℕ → Lent → Lent → Type 0
-Leaves none t a V' T before after = Answers t a V' T before after
-Leaves (refused k p) t a V' T before after = after ≡ before
+abbrev pub AttractorLeaves : Verdict → Tables → Player → List ℕ → List ℕ → LentResult → LentResult → Type 0
+AttractorLeaves none t a V' T before after = AttractorAnswered t a V' T before after
+AttractorLeaves (refused k p) t a V' T before after = after ≡ before
 
-pub record Attracts (t : Tables) (a : Player) (V' T : List ℕ) (before after : Lent) (o : Outcome) : Type 0 where
+pub record Attracts (t : Tables) (a : Player) (V' T : List ℕ) (before after : LentResult) (o : Outcome) : Type 0 where
   pub gives : o ≡ outcome (attractorChecks t V' T before) (answered (looksOf (gameOf t) (wanted t a V' T)))
-  pub leaves : Leaves (attractorChecks t V' T before) t a V' T before after
+  pub leaves : AttractorLeaves (attractorChecks t V' T before) t a V' T before after

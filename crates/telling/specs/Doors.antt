@@ -14,7 +14,7 @@ told number place count = record { number = number; place = place; count = count
 
 -- the attractor, by its player and its outcome
 pub attracts-as :
-    {p player : Player} {t : Tables} {within target : List ℕ} {before after : attractor.Lent} {r o : Outcome} →
+    {p player : Player} {t : Tables} {within target : List ℕ} {before after : attractor.LentResult} {r o : Outcome} →
     p ≡ player →
     r ≡ o →
     Attracts t p within target before after r →

@@ -9,10 +9,10 @@ use Rattle.rules.specs.Tables.{Tables}
 use Rattle.parity_game.specs.Laws.{accepted-sound}
 use Rattle.parity_game.specs.Said.{said, is}
 use Rattle.parity_game.proofs.Matched.{went-on, refusal-not-zero}
-use Rattle.rules.specs.Attracts.{Lent, attractorChecks}
+use Rattle.rules.specs.Attracts.{LentResult, attractorChecks}
 use Rattle.attractor_run.specs.Work.{Ran}
 use Rattle.attractor_door.specs.Answered.{Passed, accepted-checks, numbered-checks, checks-passed, run-ready, attracts-refused, attracts-answered}
-use Rattle.area.specs.Lent.{work-cleared}
+use Rattle.area.specs.LentResult.{work-cleared}
 use Rattle.attractor_door.proofs.door.attractor.Statement.{statement}
 use Rattle.attractor_door.proofs.door.attractor.Tie as tie
 
@@ -26,7 +26,7 @@ tables c =
       targets = c .args .targets .now;
     }
 
-abbrev lent : tie.Start → Lent
+abbrev lent : tie.Start → LentResult
 lent c = record { result = c .args .result .now; strategy = c .args .strategy .now; distances = c .args .distances .now; work = c .args .work .now }
 
 abbrev at1 : tie.After-check-lent → tie.Start

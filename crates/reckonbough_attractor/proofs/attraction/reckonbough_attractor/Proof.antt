@@ -3,7 +3,7 @@
 use mathlib.Core.Path.{_≡_, refl}
 use native.Mathlib.Omega.{arith}
 use borrow.Author.Needs.{needs}
-use Rattle.rules.specs.Attracts.{Lent, Attracts}
+use Rattle.rules.specs.Attracts.{LentResult, Attracts}
 use Rattle.rules.specs.Game.{playerOf}
 use Rattle.rules.specs.Outcome.{Outcome, none}
 use Rattle.rules.specs.Record.{Record, recordOf, recordChecks}
@@ -23,13 +23,13 @@ game c =
     recordOf (c .args .n) (c .args .m) (c .args .owners .now) (c .args .priorities .now) (c .args .offsets .now) (c .args .targets .now)
     (c .args .kept .now)
 
-abbrev lent : tie.Start → Lent
+abbrev lent : tie.Start → LentResult
 lent c =
     let a = c .args in
     record { result = a .result .now; strategy = a .strategy .now; distances = a .distances .now; work = a .work .now }
 
 -- what it does with tables
-abbrev Does : tie.Start → Lent → Outcome → Tables → Type 0
+abbrev Does : tie.Start → LentResult → Outcome → Tables → Type 0
 Does c after o t =
     Attracts t (playerOf (c .args .player)) (c .args .within .now) (c .args .target .now) (lent c) after o
 
@@ -128,7 +128,7 @@ returns-2 c =
     let test = did .before .before .before .before .before .before .before .before .before .before in
     let at = start (test .before) in
     let l = did .attractor .last in
-    let after : Lent =
+    let after : LentResult =
     record {
       result = l .1 .1 .1 .1 .1 .1 .1 .0;
       strategy = l .1 .1 .1 .1 .1 .1 .1 .1 .0;
