@@ -1,5 +1,5 @@
--- What 0 means of the oracle's words: the record passes, each set is the rules' bit by bit, and the count is what the rules need; or
--- two owners differ, and nothing else is wrong. And that the doors' contracts give it.
+-- What 0 means of the oracle's words: the record passes, each set is the rules' bit by bit, and the count is what the rules need;
+-- or two owners differ, and nothing else is wrong. And that the doors' contracts give it.
 use mathlib.Core.Bool.{Bool, true, false, not, _||_}
 use mathlib.Core.List.{List, [], _∷_}
 use mathlib.Core.Path.{_≡_, refl, sym, ap, subst, _∙_}
@@ -12,7 +12,8 @@ use Rattle.rules.specs.Counting.{Set, some, everyOf}
 use Rattle.rules.specs.Game.{Player, Even, Odd, Game}
 use Rattle.rules.specs.Outcome.{Outcome, Verdict, none, refused, given, givenAt, outcome, answered, _then_, Unless}
 use Rattle.rules.specs.Promotion.{roundsNeeded, afterRounds}
-use Rattle.rules.specs.Record.{Record, tablesIn, recordChecks, recordTables, check47, keptCheck, sameList, freshCount, room2, room3, sizeChecks, ByRecord}
+use Rattle.rules.specs.Record.{Record, tablesIn, recordTables, check47, recordChecks, ByRecord}
+use Rattle.rules.specs.Record.{keptCheck, sameList, freshCount, room2, room3, sizeChecks}
 use Rattle.rules.specs.Solitaire.{LentSet, check11, solitaire, soleOwner, solitaireChecks, SolvesSolitaire, SolitaireAnswered}
 use Rattle.rules.specs.Solver.{Lent, Solves}
 use Rattle.rules.specs.Tables.{Tables, gameOf, vertices, edgesIn, words, workWords, tableChecks}

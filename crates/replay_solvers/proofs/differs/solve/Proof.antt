@@ -1,9 +1,10 @@
 -- `solve` meets its contract: what each door promises of an answer.
 use mathlib.Core.Bool.{true, false}
+use Prim.Native.Nat.{ℕ}
 use lib.ListN.{length}
 use Rattle.rules.specs.Record.{Record, recordOf}
 use Rattle.rules.specs.Promotion.{afterRounds, roundsNeeded}
-use Rattle.rules.specs.Tables.{gameOf}
+use Rattle.rules.specs.Tables.{Tables, gameOf}
 use Rattle.rules.specs.Zielonka.{zielonka}
 use Rattle.replay_solvers.specs.Agrees.{budget, door-says, says-of}
 use borrow.Author.Needs.{needs}
@@ -37,8 +38,8 @@ returns c =
     let called = c .before .before .before .before .before .before .before .before in
     let test = called .before .before .before .before .before .before .before in
     let at = test .before .before .before .before .before .before .before .before .before .before in
-    says-of (test .if1 .taken) (door-says true (game at) _ _ _ (λ t. afterRounds (gameOf t) (roundsNeeded (gameOf t) budget) .entries)
-    (called .reckonbough-priority-promotion .ensures) e)
+    let entries : Tables → ℕ → ℕ = λ t. afterRounds (gameOf t) (roundsNeeded (gameOf t) budget) .entries in
+    says-of (test .if1 .taken) (door-says true (game at) _ _ _ entries (called .reckonbough-priority-promotion .ensures) e)
 
 reckonbough-zielonka-requires : tie.Need-reckonbough-zielonka-requires
 reckonbough-zielonka-requires c κs = search needs
@@ -61,7 +62,8 @@ returns-2 c =
     let called = c .before .before .before .before .before .before .before .before in
     let test = called .before .before .before .before .before .before .before in
     let at = test .before .before .before .before .before .before .before .before .before .before in
-    says-of (test .if1 .left) (door-says false (game at) _ _ _ (λ t. zielonka (gameOf t) .entries) (called .reckonbough-zielonka .ensures) e)
+    let entries : Tables → ℕ → ℕ = λ t. zielonka (gameOf t) .entries in
+    says-of (test .if1 .left) (door-says false (game at) _ _ _ entries (called .reckonbough-zielonka .ensures) e)
 
 pub solve-spec : {M : Type 1} → statement M
 solve-spec =

@@ -6,6 +6,10 @@ use borrow.Author.Needs.{needs}
 use Rattle.replay_solvers.proofs.differs.solver_differs.Statement.{statement}
 use Rattle.replay_solvers.proofs.differs.solver_differs.Tie as tie
 
+-- where the solver has run
+abbrev solved : tie.After-differs → tie.After-solve
+solved c = c .before .before .before .before .before .before .before .before .before .before .before .before .before .before
+
 returns : tie.Need-returns
 returns c = λ e. absurd (eqb-false 1 0 refl e)
 
@@ -57,10 +61,10 @@ differs-requires c κs = search needs
 returns-2 : tie.Need-returns-2
 returns-2 c =
     λ e.
-    let solved = c .before .before .before .before .before .before .before .before .before .before .before .before .before .before in
     let (number, same, checked, even, odd) = c .differs .ensures e in
-    says-words (solved .solve .ensures number) (solved .solve .kept .1 .1 .1 .1 .1 .1 .0) (solved .solve .kept .1 .1 .1 .1 .1 .1 .1 .0)
-    even odd (same ∙ c .before .needed .ensures)
+    let gave = solved c .solve in
+    says-words (gave .ensures number) (gave .kept .1 .1 .1 .1 .1 .1 .0) (gave .kept .1 .1 .1 .1 .1 .1 .1 .0) even odd
+    (same ∙ c .before .needed .ensures)
 
 pub solver-differs-spec : {M : Type 1} → statement M
 solver-differs-spec =
