@@ -63,7 +63,8 @@ module _ (t : Tables) where
   gives-6 a b c d f e = rw (a, b, c, d, f, e)
 
   pub gives-7 :
-      {k p : ℕ} → c1 ≡ none → c2 ≡ none → c3 ≡ none → c4 ≡ none → c5 ≡ none → c6 ≡ none → c7 ≡ refused k p → tableChecks t ≡ refused k p
+      {k p : ℕ} → c1 ≡ none → c2 ≡ none → c3 ≡ none → c4 ≡ none → c5 ≡ none → c6 ≡ none → c7 ≡ refused k p →
+      tableChecks t ≡ refused k p
   unfolding tableChecks
   gives-7 a b c d f g e = rw (a, b, c, d, f, g, e)
 

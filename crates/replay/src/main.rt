@@ -1,7 +1,7 @@
 // Replays the fixed list of the oracle's answers, one game a line on standard input (compare/README.md says how it
 // was made): n m owners.. priorities.. offsets.. targets.. winners.. calls rounds solitaire.. Prints how many games
 // there were, and on how many of them each solver differs. A line that is no game counts as a difference.
-mod solvers;
+mod said;
 mod text;
 
 use libc::STDOUT_FILENO;
@@ -35,26 +35,33 @@ fn judge(
         targets,
         &mut kept,
     );
-    let said = solvers::read_said(list, from, n);
-    let zielonka = solvers::solver_differs(
+    let answer = said::read_said(list, from, n);
+    let zielonka = replay_solvers::solver_differs(
         false,
         owners,
         priorities,
         offsets,
         targets,
         &kept,
-        said,
+        answer,
     );
-    let promotion = solvers::solver_differs(
+    let promotion = replay_solvers::solver_differs(
         true,
         owners,
         priorities,
         offsets,
         targets,
         &kept,
-        said,
+        answer,
     );
-    let solitaire = solvers::solitaire_differs(owners, priorities, offsets, targets, &kept, said);
+    let solitaire = replay_solvers::solitaire_differs(
+        owners,
+        priorities,
+        offsets,
+        targets,
+        &kept,
+        answer,
+    );
     Line {
         next: end,
         zielonka: zielonka,

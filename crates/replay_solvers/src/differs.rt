@@ -1,27 +1,13 @@
-// The solvers on one game of at most 12 vertices, held to what the oracle says.
-use crate::text;
+// Each solver's door on one game, and what it gave against the oracle's words.
 use oracle::Said;
-use oracle::differs;
-use oracle::set_differs;
+ghost use mathlib.Core.Bool.{cond};
+ghost use mathlib.Core.List.{_∷_, []};
+ghost use mathlib.Core.Path.{_≡_};
+ghost use lib.ListN.{length};
+ghost use Rattle.rules.specs.Record.{recordOf};
+ghost use Rattle.replay_solvers.specs.Agrees.{Says, SaysSolitaire};
 
-// From what stands after the tables of a game of n vertices.
-pub fn read_said(list: &[u8], from: usize, n: usize) -> Said {
-    let even = text::set(list, from, n, 0);
-    let odd = text::set(list, from, n, 1);
-    let calls = text::number(list, odd.next);
-    let rounds = text::number(list, calls.next);
-    let solitaire = text::set(list, rounds.next, n, 1);
-    Said {
-        even: even.value,
-        odd: odd.value,
-        calls: calls.value,
-        rounds: rounds.value,
-        solitaire: solitaire.value,
-        two_owners: text::is_dash(list, rounds.next),
-    }
-}
-
-// The number that priority promotion gives, or Zielonka, and the count.
+// What priority promotion gives, or Zielonka: the number, and through the last reference the count.
 fn solve(
     promotion: bool,
     owners: &[u8],
@@ -34,12 +20,21 @@ fn solve(
     strategy: &mut [u16],
     work: &mut [u64],
     count: &mut u64,
-) -> u64 {
+) -> u64
+    ensures { λ number.
+        ⌜ (number ≡ 0 →
+        Says promotion
+        (recordOf (length (now (owners .entry))) (length (now (targets .entry))) (now (owners .entry))
+        (now (priorities .entry)) (now (offsets .entry)) (now (targets .entry)) (now (kept .entry)))
+        (now (even .exit)) (now (odd .exit)) (now (count .exit))) ⌝ }
+{
+    let n = owners.len() as u64;
+    let m = targets.len() as u64;
     let mut place = 0;
     if promotion {
         return reckonbough_solvers::promotion::reckonbough_priority_promotion(
-            owners.len() as u64,
-            targets.len() as u64,
+            n,
+            m,
             owners,
             priorities,
             offsets,
@@ -55,8 +50,8 @@ fn solve(
         );
     }
     reckonbough_solvers::recursion::reckonbough_zielonka(
-        owners.len() as u64,
-        targets.len() as u64,
+        n,
+        m,
         owners,
         priorities,
         offsets,
@@ -103,6 +98,14 @@ fn check(
     )
 }
 
+// What the oracle says was needed: rounds, or calls.
+fn needed(promotion: bool, said: Said) -> u64
+    ensures { λ r. ⌜ r ≡ cond promotion (said .rounds) (said .calls) ⌝ }
+{
+    if promotion { said.rounds } else { said.calls }
+}
+
+// 0 where the solver's sets and count are the rules', its answer gets yes, and the oracle says the same of both.
 pub fn solver_differs(
     promotion: bool,
     owners: &[u8],
@@ -111,7 +114,14 @@ pub fn solver_differs(
     targets: &[u16],
     kept: &[u64],
     said: Said,
-) -> u64 {
+) -> u64
+    ensures { λ d.
+        ⌜ (d ≡ 0 →
+        Says promotion
+        (recordOf (length (now (owners .entry))) (length (now (targets .entry))) (now (owners .entry))
+        (now (priorities .entry)) (now (offsets .entry)) (now (targets .entry)) (now (kept .entry)))
+        (said .even ∷ []) (said .odd ∷ []) (cond promotion (said .rounds) (said .calls))) ⌝ }
+{
     let mut even = [0u64; 1];
     let mut odd = [0u64; 1];
     let mut entries = [0u16; 12];
@@ -122,7 +132,7 @@ pub fn solver_differs(
         return 1;
     }
     let strategy: &mut [u16] = &mut entries[0..n];
-    let r = solve(
+    let number = solve(
         promotion,
         owners,
         priorities,
@@ -146,10 +156,11 @@ pub fn solver_differs(
         strategy,
         &mut work,
     );
-    let count = if promotion { said.rounds } else { said.calls };
-    differs(r, made, checked, even[0], odd[0], count, said)
+    let wanted = needed(promotion, said);
+    oracle::differs(number, made, checked, even[0], odd[0], wanted, said)
 }
 
+// 0 where two owners are refused for that, or the set is the rules', and the oracle says the same.
 pub fn solitaire_differs(
     owners: &[u8],
     priorities: &[u16],
@@ -157,14 +168,23 @@ pub fn solitaire_differs(
     targets: &[u16],
     kept: &[u64],
     said: Said,
-) -> u64 {
+) -> u64
+    ensures { λ d.
+        ⌜ (d ≡ 0 →
+        SaysSolitaire (said .«two_owners»)
+        (recordOf (length (now (owners .entry))) (length (now (targets .entry))) (now (owners .entry))
+        (now (priorities .entry)) (now (offsets .entry)) (now (targets .entry)) (now (kept .entry)))
+        (said .solitaire ∷ [])) ⌝ }
+{
+    let n = owners.len() as u64;
+    let m = targets.len() as u64;
     let mut set = [0u64; 1];
     let mut work = [0u64; 600];
     let mut place = 0;
     let mut count = 0;
-    let r = reckonbough_solitaire::solitaire::reckonbough_solitaire(
-        owners.len() as u64,
-        targets.len() as u64,
+    let number = reckonbough_solitaire::solitaire::reckonbough_solitaire(
+        n,
+        m,
         owners,
         priorities,
         offsets,
@@ -175,5 +195,5 @@ pub fn solitaire_differs(
         &mut place,
         &mut count,
     );
-    set_differs(r, set[0], said)
+    oracle::set_differs(number, set[0], said)
 }
