@@ -1,10 +1,11 @@
 -- Priority promotion: the round on regions with the entries that it chooses, and how many rounds are needed.
 use mathlib.Core.Bool.{Bool, true, false, _&&_, not, cond}
-use Prim.Native.Nat.{ℕ, zero, suc}
+use Prim.Native.Nat.{ℕ, zero, suc, _+_, _*_, _^_}
 use lib.Dec.{eqb, ltb, leb}
 use Rattle.rules.specs.Counting.{Set, nobody, union, some, someOf, lowest, greatest, within, noted}
-use Rattle.rules.specs.Game.{Player, Game, parity, same}
+use Rattle.rules.specs.Game.{Player, Game, everywhere, parity, same}
 use Rattle.rules.specs.Attractor.{attractor}
+use Rattle.rules.specs.Budget.{differentPriorities}
 use Rattle.rules.specs.Distance.{attractorEntry, lowestIn}
 use Rattle.rules.specs.Words.{noEntry}
 
@@ -144,6 +145,11 @@ afterRounds g (suc k) = roundOf g (afterRounds g k)
 unfoldable pub allSolved : Game → Regions → Bool
 allSolved g s = not (some (g .size) (unsolved g (s .region)))
 
--- the rounds needed until all are solved, or one more than the budget where they are more than the budget
-unfoldable pub roundsNeeded : Game → ℕ → ℕ
-roundsNeeded g budget = lowest (suc budget) (λ k. allSolved g (afterRounds g k))
+-- the rounds from a state on until all are solved; the search ends after so many
+unfoldable pub roundsFrom : Game → ℕ → Regions → ℕ
+roundsFrom g zero s = 0
+roundsFrom g (suc many) s = elim (allSolved g s) [ true ↦ 0 | false ↦ suc (roundsFrom g many (roundOf g s)) ]
+
+-- the rounds needed until all are solved: n · (n + 2) ^ d are enough for every accepted game
+unfoldable pub roundsNeeded : Game → ℕ
+roundsNeeded g = roundsFrom g (g .size * (g .size + 2) ^ differentPriorities g (everywhere g)) (atStart g)
