@@ -50,6 +50,10 @@ atRegion g s v = unsolved g (s .region) v && eqb (s .region v) (s .current)
 unfoldable pub regionSet : Game → Regions → Set
 regionSet g s = attractor g (parity (s .current)) (upTo g s) (atRegion g s)
 
+-- the regions once R is drawn in: R gets region p
+abbrev pub drawnRegions : Game → Regions → Set → ℕ → ℕ
+drawnRegions g s R = noted solvedRegion (g .size) (λ v. cond (R v) (s .current) (s .region v))
+
 -- the entries once R is drawn in: the attractor's for whom it draws in
 unfoldable pub drawnEntries : Game → Regions → Set → ℕ → ℕ
 drawnEntries g s R =
@@ -63,15 +67,16 @@ closedEntries g s R =
     noted noEntry (g .size)
     (λ v. cond (R v && same (g .owner v) (parity (s .current)) && eqb (now v) noEntry) (lowestIn g R v) (now v))
 
--- an opponent vertex of R has an unsolved successor of region below p, or an own vertex none in R
+-- R has region p: an opponent vertex of R has an unsolved successor of region below p, or an own vertex none in R
 unfoldable pub isOpen : Game → Regions → Set → Bool
 isOpen g s R =
+    let region = drawnRegions g s R in
     some (g .size)
     (λ v.
     R v &&
     cond (same (g .owner v) (parity (s .current)))
     (not (someOf (g .targets v) R))
-    (someOf (g .targets v) (λ w. unsolved g (s .region) w && not (R w) && ltb (s .region w) (s .current))))
+    (someOf (g .targets v) (λ w. unsolved g region w && ltb (region w) (s .current))))
 
 -- w is an unsolved successor, outside R, of an opponent vertex of R
 unfoldable pub wayOut : Game → Regions → Set → Set
@@ -80,10 +85,10 @@ wayOut g s R w =
     not (R w) &&
     some (g .size) (λ v. R v && not (same (g .owner v) (parity (s .current))) && someOf (g .targets v) (eqb w))
 
--- open: R gets region p, and p becomes the highest region present below p; if there is none, p stays
+-- open: p becomes the highest region present below p; if there is none, p stays
 unfoldable pub movedDown : Game → Regions → Set → Regions
 movedDown g s R =
-    let region = noted solvedRegion (g .size) (λ v. cond (R v) (s .current) (s .region v)) in
+    let region = drawnRegions g s R in
     let below : Set = λ v. unsolved g region v && ltb (region v) (s .current) in
     record {
       region = region;
