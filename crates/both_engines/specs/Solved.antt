@@ -154,19 +154,19 @@ line-by false false calls rounds n S zielonkas promotions first second =
 -- **promotion first, then Zielonka over its words: the line is the rule's**
 pub line-solved :
     (budget : ℕ) (t : Tables) (start between after : List ℕ) →
-    Kept (ltb budget (roundsNeeded (gameOf t) budget)) (vertices t)
-    (afterRounds (gameOf t) (roundsNeeded (gameOf t) budget) .won Odd) start between →
+    Kept (ltb budget (roundsNeeded (gameOf t))) (vertices t)
+    (afterRounds (gameOf t) (roundsNeeded (gameOf t)) .won Odd) start between →
     Kept (ltb budget (zielonka (gameOf t) .calls)) (vertices t) (zielonka (gameOf t) .won Odd) between after →
     lineBytes (vertices t) (setOf after) (countedFor budget (zielonka (gameOf t) .calls))
-    (countedFor budget (roundsNeeded (gameOf t) budget)) ≡
+    (countedFor budget (roundsNeeded (gameOf t))) ≡
     solvedLine budget (gameOf t)
 unfolding solvedLine winnersWord gameOf
 line-solved budget t start between after promotion recursion =
-    line-by (ltb budget (zielonka (gameOf t) .calls)) (ltb budget (roundsNeeded (gameOf t) budget)) (zielonka (gameOf t) .calls)
-    (roundsNeeded (gameOf t) budget) (vertices t) (setOf after) (zielonka (gameOf t) .won Odd)
-    (afterRounds (gameOf t) (roundsNeeded (gameOf t) budget) .won Odd)
+    line-by (ltb budget (zielonka (gameOf t) .calls)) (ltb budget (roundsNeeded (gameOf t))) (zielonka (gameOf t) .calls)
+    (roundsNeeded (gameOf t)) (vertices t) (setOf after) (zielonka (gameOf t) .won Odd)
+    (afterRounds (gameOf t) (roundsNeeded (gameOf t)) .won Odd)
     (λ e. winners-same (vertices t) (setOf after) (zielonka (gameOf t) .won Odd) (recursion .told e .bits))
     (λ e e'.
     ap (λ (w : List ℕ). winnerDigits (vertices t) (setOf w)) (recursion .same e) ∙
-    winners-same (vertices t) (setOf between) (afterRounds (gameOf t) (roundsNeeded (gameOf t) budget) .won Odd)
+    winners-same (vertices t) (setOf between) (afterRounds (gameOf t) (roundsNeeded (gameOf t)) .won Odd)
     (promotion .told e' .bits))

@@ -132,7 +132,7 @@ demand-2-promotion budget r before after o u e =
     done r before after o (λ t. Promotion.Promise budget t before after o) u e in (
       Promotion.answered-wins p e,
       Promotion.answered-one-winner p e,
-      choice-wins (played r) (afterRounds (played r) (roundsNeeded (played r) budget) .won) after
+      choice-wins (played r) (afterRounds (played r) (roundsNeeded (played r)) .won) after
           (λ c v l. answered-holds p e c .bits v l)
           (Promotion.answered-strategy p e),
     )

@@ -1,15 +1,15 @@
 -- What a reader may conclude of `solve_priority_promotion`, from its contract alone: whenever it answers, its sets are the winning
 -- sets of demand 2 and Zielonka's, each vertex has one winner, the strategy wins and the count is the rules' rounds; it answers
 -- whenever nothing is refused and the budget is n · (n + 2) ^ d or more; any two results that meet the contract are the same.
-use mathlib.Core.Bool.{Bool, true, false}
+use mathlib.Core.Bool.{true, false}
 use mathlib.Core.List.{List}
-use mathlib.Core.Logic.{_⊎_, ⊎-elim}
-use mathlib.Core.Path.{_≡_, sym, ap, _∙_}
+use mathlib.Core.Logic.{_⊎_}
+use mathlib.Core.Path.{_≡_, sym, _∙_}
 use Prim.Native.Nat.{ℕ, suc, _+_, _*_, _^_, _≤_, _<_}
-use native.Mathlib.Omega.{arith}
+use native.Mathlib.Nat.{le-of-suc-le-suc, le-trans}
 use Rattle.rules.specs.Budget.{differentPriorities}
 use Rattle.rules.specs.Checker.{certificateChecks}
-use Rattle.rules.specs.Counting.{some, lowest, listed}
+use Rattle.rules.specs.Counting.{listed}
 use Rattle.rules.specs.Game.{Player, Even, Odd, everywhere}
 use Rattle.rules.specs.Outcome.{Outcome, none, answered}
 use Rattle.rules.specs.Promotion.{afterRounds, allSolved, roundsNeeded}
@@ -18,12 +18,11 @@ use Rattle.rules.specs.Tables.{Tables, gameOf, vertices, tableChecks, Accepted,
 use Rattle.rules.specs.Winning.{WinningSets, WinningEntries}
 use Rattle.rules.specs.Zielonka.{zielonka}
 use Rattle.parity_game.specs.Laws.{then-none}
-use Rattle.theory.specs.Basics.{bool-cases, lowest-found, lowest-none, lowest-unique}
 use Rattle.theory.specs.PromotionAccepted.{accepted-finishes, accepted-rounds-sets, accepted-rounds-entries}
 use Rattle.theory.specs.PromotionSound.{winning-sets-agree}
 use Rattle.theory.specs.Tables.{accepted-total}
 use Rattle.theory.specs.Zielonka.{zielonka-wins}
-use Rattle.solver.specs.Promises.{setFor, gotBy, answer, answered-accepted, answered-within, answered-count, answered-holds}
+use Rattle.solver.specs.Promises.{setFor, gotBy, answer, answered-accepted, answered-count, answered-holds}
 use Rattle.solver.specs.Promises.{answered-winning}
 use Rattle.sets.specs.Same.{holds-same}
 use Rattle.solver.specs.Promises.{answered-one, answered-certified, answered-entries, answers-within, holds-alike}
@@ -34,8 +33,8 @@ use Rattle.promotion_rounds.specs.Rounds.{RoundDone}
 -- the contract of `solve_priority_promotion`
 abbrev pub Promise : ℕ → Tables → Lent → Lent → Outcome → Type 0
 Promise budget t before after o =
-    Solves budget t (roundsNeeded (gameOf t) budget) (afterRounds (gameOf t) (roundsNeeded (gameOf t) budget) .won)
-    (afterRounds (gameOf t) (roundsNeeded (gameOf t) budget) .entries) before after o
+    Solves budget t (roundsNeeded (gameOf t)) (afterRounds (gameOf t) (roundsNeeded (gameOf t)) .won)
+    (afterRounds (gameOf t) (roundsNeeded (gameOf t)) .entries) before after o
 
 module _ {budget : ℕ} {t : Tables} {before after : Lent} {o : Outcome} (p : Promise budget t before after o) where
   -- **The count is the rounds of the rules: after as many all vertices are solved, and after fewer some are not.**
@@ -43,31 +42,24 @@ module _ {budget : ℕ} {t : Tables} {before after : Lent} {o : Outcome} (p : Pr
       o .number ≡ 0 →
       (allSolved (gameOf t) (afterRounds (gameOf t) (o .count)) ≡ true) ×
       ((k : ℕ) → k < o .count → allSolved (gameOf t) (afterRounds (gameOf t) k) ≡ false)
-  unfolding roundsNeeded
   answered-rounds e =
-      let within = answered-within p e in
-      let found =
-      ⊎-elim
-      (λ (s : some (suc budget) _ ≡ true). lowest-found (suc budget) (λ k. allSolved (gameOf t) (afterRounds (gameOf t) k)) s)
-      (λ s. absurd (let none = lowest-none (suc budget) (λ k. allSolved (gameOf t) (afterRounds (gameOf t) k)) s in omega arith))
-      (bool-cases (some (suc budget) (λ k. allSolved (gameOf t) (afterRounds (gameOf t) k)))) in
-      rw (answered-count p e) (found .passes, found .first)
+      let found = accepted-finishes t (answered-accepted p e) in rw (answered-count p e) (found .passes, found .first)
 
   -- all are solved after the rounds needed
-  solved-then : o .number ≡ 0 → allSolved (gameOf t) (afterRounds (gameOf t) (roundsNeeded (gameOf t) budget)) ≡ true
-  solved-then e = rw (answered-count p e) at (answered-rounds e .0)
+  solved-then : o .number ≡ 0 → allSolved (gameOf t) (afterRounds (gameOf t) (roundsNeeded (gameOf t))) ≡ true
+  solved-then e = accepted-finishes t (answered-accepted p e) .passes
 
   -- the rules' sets at the end
-  rules-sets : o .number ≡ 0 → WinningSets (gameOf t) (afterRounds (gameOf t) (roundsNeeded (gameOf t) budget) .won)
-  rules-sets e = accepted-rounds-sets t (answered-accepted p e) (roundsNeeded (gameOf t) budget) (solved-then e)
+  rules-sets : o .number ≡ 0 → WinningSets (gameOf t) (afterRounds (gameOf t) (roundsNeeded (gameOf t)) .won)
+  rules-sets e = accepted-rounds-sets t (answered-accepted p e) (roundsNeeded (gameOf t)) (solved-then e)
 
   -- and its entries win
   rules-entries :
       o .number ≡ 0 →
-      WinningEntries (gameOf t) (afterRounds (gameOf t) (roundsNeeded (gameOf t) budget) .won)
-      (listed (vertices t) (afterRounds (gameOf t) (roundsNeeded (gameOf t) budget) .entries))
+      WinningEntries (gameOf t) (afterRounds (gameOf t) (roundsNeeded (gameOf t)) .won)
+      (listed (vertices t) (afterRounds (gameOf t) (roundsNeeded (gameOf t)) .entries))
   unfolding gameOf
-  rules-entries e = accepted-rounds-entries t (answered-accepted p e) (roundsNeeded (gameOf t) budget) (solved-then e)
+  rules-entries e = accepted-rounds-entries t (answered-accepted p e) (roundsNeeded (gameOf t)) (solved-then e)
 
   -- **The two sets are exactly the winning sets of demand 2,**
   pub answered-wins : o .number ≡ 0 → WinningSets (gameOf t) (gotBy after)
@@ -93,17 +85,18 @@ module _ {budget : ℕ} {t : Tables} {before after : Lent} {o : Outcome} (p : Pr
   pub answers-within-bound :
       solverChecks t before ≡ none →
       vertices t * (vertices t + 2) ^ differentPriorities (gameOf t) (everywhere (gameOf t)) ≤ budget →
-      o ≡ answered (roundsNeeded (gameOf t) budget)
+      o ≡ answered (roundsNeeded (gameOf t))
   unfolding Accepted gameOf
   answers-within-bound passed enough =
-      answers-within p passed (accepted-finishes t (then-none (tableChecks t) _ passed .0) budget enough .0)
+      let found = accepted-finishes t (then-none (tableChecks t) _ passed .0) in
+      answers-within p passed (le-trans (le-of-suc-le-suc (found .below)) enough)
 
 -- **The strategy wins: it is a winning choice for both players.**
 pub answered-strategy :
     {budget : ℕ} {t : Tables} {before after : Lent} {o : Outcome} →
     Promise budget t before after o →
     o .number ≡ 0 →
-    WinningEntries (gameOf t) (afterRounds (gameOf t) (roundsNeeded (gameOf t) budget) .won) (after .strategy)
+    WinningEntries (gameOf t) (afterRounds (gameOf t) (roundsNeeded (gameOf t)) .won) (after .strategy)
 answered-strategy p e = answered-entries p e (rules-entries p e)
 
 -- **Sets and strategy then get the checker's yes.**
@@ -130,19 +123,7 @@ pub answers-count-the-same :
     o .number ≡ 0 →
     o′ .number ≡ 0 →
     o .count ≡ o′ .count
-answers-count-the-same {t = t} {o = o} {o′ = o′} p p′ e e′ =
-    let (solved, first) = answered-rounds p e in
-    let (solved′, first′) = answered-rounds p′ e′ in
-    sym (once solved first) ∙ other solved′ first′
-  where
-    all : ℕ → Bool
-    all k = allSolved (gameOf t) (afterRounds (gameOf t) k)
-
-    once : all (o .count) ≡ true → ((k : ℕ) → k < o .count → all k ≡ false) → lowest (o .count + o′ .count + 1) all ≡ o .count
-    once s f = lowest-unique (o .count + o′ .count + 1) all (o .count) (record { below = omega arith; passes = s; first = f })
-
-    other : all (o′ .count) ≡ true → ((k : ℕ) → k < o′ .count → all k ≡ false) → lowest (o .count + o′ .count + 1) all ≡ o′ .count
-    other s f = lowest-unique (o .count + o′ .count + 1) all (o′ .count) (record { below = omega arith; passes = s; first = f })
+answers-count-the-same p p′ e e′ = answered-count p e ∙ sym (answered-count p′ e′)
 
 -- **and give the same strategy,**
 pub answers-choose-the-same :
@@ -152,11 +133,7 @@ pub answers-choose-the-same :
     o .number ≡ 0 →
     o′ .number ≡ 0 →
     after .strategy ≡ after′ .strategy
-answers-choose-the-same {t = t} p p′ e e′ =
-    answer p e .strategy ∙
-    ap (λ (k : ℕ). listed (vertices t) (afterRounds (gameOf t) k .entries))
-    (sym (answered-count p e) ∙ answers-count-the-same p p′ e e′ ∙ answered-count p′ e′) ∙
-    sym (answer p′ e′ .strategy)
+answers-choose-the-same p p′ e e′ = answer p e .strategy ∙ sym (answer p′ e′ .strategy)
 
 -- **and the words of the sets are those that Zielonka's solver gives.**
 pub same-words-as-zielonka :

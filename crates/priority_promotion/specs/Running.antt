@@ -21,13 +21,13 @@ use Rattle.promotion_rounds.specs.Beginning.{Beginnable, Begun}
 use Rattle.priority_promotion.specs.Starting.{tables-room, begin-ready, begun-reached}
 use Rattle.promotion_rounds.specs.Solve.{Reached, Ended, none-left, ended-needed, ended-over}
 
--- the sets that the rules' rounds win under a budget
-abbrev pub wonIn : Tables → ℕ → Player → Set
-wonIn t budget = afterRounds (gameOf t) (roundsNeeded (gameOf t) budget) .won
+-- the sets that the rules' rounds win
+abbrev pub wonIn : Tables → Player → Set
+wonIn t = afterRounds (gameOf t) (roundsNeeded (gameOf t)) .won
 
 -- and the entries that they choose
-abbrev pub entriesIn : Tables → ℕ → ℕ → ℕ
-entriesIn t budget = afterRounds (gameOf t) (roundsNeeded (gameOf t) budget) .entries
+abbrev pub entriesIn : Tables → ℕ → ℕ
+entriesIn t = afterRounds (gameOf t) (roundsNeeded (gameOf t)) .entries
 
 module _ (owners priorities offsets targets : List ℕ) (ok : Accepted (tablesOf owners priorities offsets targets)) {s : ℕ}
     (size : s ≡ words (length owners)) (w0 : List ℕ) (room : length w0 ≡ workWords (length owners) (length targets))
@@ -74,12 +74,12 @@ module _ {owners priorities offsets targets : List ℕ} {s budget at many made :
     t = tablesOf owners priorities offsets targets
 
     -- more rounds are needed than the budget
-    pub run-over : 0 < many → budget < roundsNeeded (gameOf (tablesOf owners priorities offsets targets)) budget
-    run-over more = let is = ended-over ended more in omega arith
+    pub run-over : 0 < many → budget < roundsNeeded (gameOf (tablesOf owners priorities offsets targets))
+    run-over = ended-over ended
 
     module _ (all : many ≡ 0) where
       -- the rounds made are those needed
-      pub run-rounds : made ≡ roundsNeeded (gameOf (tablesOf owners priorities offsets targets)) budget
+      pub run-rounds : made ≡ roundsNeeded (gameOf (tablesOf owners priorities offsets targets))
       run-rounds = sym (ended-needed ended all)
 
       solved : allSolved (gameOf t) (afterRounds (gameOf t) made) ≡ true
@@ -93,8 +93,8 @@ module _ {owners priorities offsets targets : List ℕ} {s budget at many made :
 
       -- **What the rounds have found stands in the work area.**
       pub run-found :
-          Found (tablesOf owners priorities offsets targets) (wonIn (tablesOf owners priorities offsets targets) budget)
-          (entriesIn (tablesOf owners priorities offsets targets) budget) s
+          Found (tablesOf owners priorities offsets targets) (wonIn (tablesOf owners priorities offsets targets))
+          (entriesIn (tablesOf owners priorities offsets targets)) s
           (evenAt (length owners) (length targets) s) w3
       unfolding gameOf
       run-found =

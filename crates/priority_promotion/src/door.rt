@@ -33,9 +33,9 @@ fn run(
         ⌜ (let t =
         tablesOf (now (owners .entry)) (now (priorities .entry)) (now (offsets .entry)) (now (targets .entry)) in
         (now (work .exit) ≡ replicate (length (now (work .entry))) 0) ×
-        Runs budget t (roundsNeeded (gameOf t) budget)
-        (afterRounds (gameOf t) (roundsNeeded (gameOf t) budget) .won)
-        (afterRounds (gameOf t) (roundsNeeded (gameOf t) budget) .entries)
+        Runs budget t (roundsNeeded (gameOf t))
+        (afterRounds (gameOf t) (roundsNeeded (gameOf t)) .won)
+        (afterRounds (gameOf t) (roundsNeeded (gameOf t)) .entries)
         (record { even = now (even .entry); odd = now (odd .entry); strategy = now (strategy .entry) })
         (record { even = now (even .exit); odd = now (odd .exit); strategy = now (strategy .exit) })
         r) ⌝ }
@@ -74,9 +74,9 @@ pub fn solve_priority_promotion(
     ensures { λ r.
         ⌜ (let t =
         tablesOf (now (owners .entry)) (now (priorities .entry)) (now (offsets .entry)) (now (targets .entry)) in
-        Solves budget t (roundsNeeded (gameOf t) budget)
-        (afterRounds (gameOf t) (roundsNeeded (gameOf t) budget) .won)
-        (afterRounds (gameOf t) (roundsNeeded (gameOf t) budget) .entries)
+        Solves budget t (roundsNeeded (gameOf t))
+        (afterRounds (gameOf t) (roundsNeeded (gameOf t)) .won)
+        (afterRounds (gameOf t) (roundsNeeded (gameOf t)) .entries)
         (record {
           even = now (even .entry);
           odd = now (odd .entry);

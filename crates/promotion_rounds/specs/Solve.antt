@@ -1,6 +1,7 @@
 -- Rounds one after another until all vertices are solved or the budget is used up, and what that says of the rounds needed.
 use mathlib.Core.Bool.{Bool, true, false, _&&_, not}
 use mathlib.Core.List.{List}
+use mathlib.Core.Logic.{⊎-elim}
 use mathlib.Core.Path.{_≡_, sym, ap, subst, _∙_}
 use Prim.Native.Nat.{ℕ, suc, _+_, _≤_, _<_}
 use native.Mathlib.Decide.{ℕ-discrete}
@@ -12,7 +13,8 @@ use Rattle.rules.specs.Counting.{Set, count}
 use Rattle.rules.specs.Game.{Game}
 use Rattle.rules.specs.Tables.{gameOf, Accepted, tablesOf}
 use Rattle.rules.specs.Promotion.{Regions, unsolved, afterRounds, allSolved, roundsNeeded}
-use Rattle.theory.specs.Basics.{some-intro, false-some, count-zero, count-some, lowest-unique, lowest-none}
+use Rattle.theory.specs.Basics.{clash, lt-or-ge, some-intro, false-some, count-zero, count-some}
+use Rattle.theory.specs.PromotionAccepted.{accepted-finishes, accepted-needed}
 use Rattle.theory.specs.PromotionEntries.{Rounded, rounds}
 use Rattle.area.specs.Area.{setAt}
 use Rattle.promotion_tables.specs.Layout.{unsolvedAt, regionsAt, table-below, entryOf}
@@ -126,31 +128,28 @@ module _ {owners priorities offsets targets : List ℕ} {s : ℕ} where
       {budget at many made : ℕ} {before after : List ℕ} →
       Ended owners priorities offsets targets s budget at many made before after →
       many ≡ 0 →
-      roundsNeeded (gameOf (tablesOf owners priorities offsets targets)) budget ≡ made
-  unfolding roundsNeeded
-  ended-needed {budget} {made = made} e z =
-      lowest-unique (suc budget) _ made
-      (record {
-        below = omega (arith, e .within);
-        passes = none-left (e .reached .shows) z;
-        first = e .reached .unfinished;
-      })
+      roundsNeeded (gameOf (tablesOf owners priorities offsets targets)) ≡ made
+  ended-needed {made = made} e z =
+      accepted-needed (tablesOf owners priorities offsets targets) (e .reached .accepted) made (none-left (e .reached .shows) z)
+      (e .reached .unfinished)
 
   -- **and where some are left, more rounds are needed than the budget**
   pub ended-over :
       {budget at many made : ℕ} {before after : List ℕ} →
       Ended owners priorities offsets targets s budget at many made before after →
       0 < many →
-      roundsNeeded (gameOf (tablesOf owners priorities offsets targets)) budget ≡ suc budget
-  unfolding roundsNeeded
+      budget < roundsNeeded (gameOf (tablesOf owners priorities offsets targets))
   ended-over {budget} {made = made} e more =
-      lowest-none (suc budget) _
-      (false-some (suc budget) (λ k. solvedAfter owners priorities offsets targets k)
-      (λ j l. go j l (ℕ-discrete j made)))
+      let needed = roundsNeeded (gameOf (tablesOf owners priorities offsets targets)) in
+      let done = accepted-finishes (tablesOf owners priorities offsets targets) (e .reached .accepted) .passes in
+      not-le-gt (λ l. clash done (go needed l (ℕ-discrete needed made)))
     where
+      not-le-gt : {j : ℕ} → (j ≤ budget → ⊥) → budget < j
+      not-le-gt {j} h = ⊎-elim (λ l. l) (λ l. absurd (h l)) (lt-or-ge budget j)
+
       go :
           (j : ℕ) →
-          j < suc budget →
+          j ≤ budget →
           Dec (j ≡ made) →
           solvedAfter owners priorities offsets targets j ≡ false
       go j l (yes q) =

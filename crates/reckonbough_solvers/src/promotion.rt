@@ -43,9 +43,9 @@ pub extern "C" fn reckonbough_priority_promotion(
         (now (kept .entry)))
         (told number (now (place .exit)) (now (count .exit))) before after
         (λ t.
-        Solves budget t (roundsNeeded (gameOf t) budget)
-        (afterRounds (gameOf t) (roundsNeeded (gameOf t) budget) .won)
-        (afterRounds (gameOf t) (roundsNeeded (gameOf t) budget) .entries) before after
+        Solves budget t (roundsNeeded (gameOf t))
+        (afterRounds (gameOf t) (roundsNeeded (gameOf t)) .won)
+        (afterRounds (gameOf t) (roundsNeeded (gameOf t)) .entries) before after
         (told number (now (place .exit)) (now (count .exit))))) ⌝ }
 {
     let n = n as usize;

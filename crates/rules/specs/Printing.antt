@@ -77,8 +77,8 @@ countedWord budget needed = cond (ltb budget needed) dash (decimal needed)
 unfoldable pub winnersWord : ℕ → Game → List ℕ
 winnersWord budget g =
     cond (ltb budget (zielonka g .calls))
-    (cond (ltb budget (roundsNeeded g budget)) dash
-    (winnerDigits (g .size) (afterRounds g (roundsNeeded g budget) .won Odd)))
+    (cond (ltb budget (roundsNeeded g)) dash
+    (winnerDigits (g .size) (afterRounds g (roundsNeeded g) .won Odd)))
     (winnerDigits (g .size) (zielonka g .won Odd))
 
 unfoldable pub solvedLine : ℕ → Game → List ℕ
@@ -87,7 +87,7 @@ solvedLine budget g =
     (space ++
     (winnersWord budget g ++
     (space ++
-    (countedWord budget (zielonka g .calls) ++ (space ++ (countedWord budget (roundsNeeded g budget) ++ newline))))))
+    (countedWord budget (zielonka g .calls) ++ (space ++ (countedWord budget (roundsNeeded g) ++ newline))))))
 
 -- what a verdict on the text prints
 abbrev pub lineOf : Verdict → ℕ → List Entry → List ℕ

@@ -1,10 +1,11 @@
 -- Priority promotion: the round on regions with the entries that it chooses, and how many rounds are needed.
 use mathlib.Core.Bool.{Bool, true, false, _&&_, not, cond}
-use Prim.Native.Nat.{ℕ, zero, suc}
+use Prim.Native.Nat.{ℕ, zero, suc, _+_, _*_, _^_}
 use lib.Dec.{eqb, ltb, leb}
 use Rattle.rules.specs.Counting.{Set, nobody, union, some, someOf, lowest, greatest, within, noted}
-use Rattle.rules.specs.Game.{Player, Game, parity, same}
+use Rattle.rules.specs.Game.{Player, Game, everywhere, parity, same}
 use Rattle.rules.specs.Attractor.{attractor}
+use Rattle.rules.specs.Budget.{differentPriorities}
 use Rattle.rules.specs.Distance.{attractorEntry, lowestIn}
 use Rattle.rules.specs.Words.{noEntry}
 
@@ -49,6 +50,10 @@ atRegion g s v = unsolved g (s .region) v && eqb (s .region v) (s .current)
 unfoldable pub regionSet : Game → Regions → Set
 regionSet g s = attractor g (parity (s .current)) (upTo g s) (atRegion g s)
 
+-- the regions once R is drawn in: R gets region p
+abbrev pub drawnRegions : Game → Regions → Set → ℕ → ℕ
+drawnRegions g s R = noted solvedRegion (g .size) (λ v. cond (R v) (s .current) (s .region v))
+
 -- the entries once R is drawn in: the attractor's for whom it draws in
 unfoldable pub drawnEntries : Game → Regions → Set → ℕ → ℕ
 drawnEntries g s R =
@@ -62,15 +67,16 @@ closedEntries g s R =
     noted noEntry (g .size)
     (λ v. cond (R v && same (g .owner v) (parity (s .current)) && eqb (now v) noEntry) (lowestIn g R v) (now v))
 
--- an opponent vertex of R has an unsolved successor of region below p, or an own vertex none in R
+-- R has region p: an opponent vertex of R has an unsolved successor of region below p, or an own vertex none in R
 unfoldable pub isOpen : Game → Regions → Set → Bool
 isOpen g s R =
+    let region = drawnRegions g s R in
     some (g .size)
     (λ v.
     R v &&
     cond (same (g .owner v) (parity (s .current)))
     (not (someOf (g .targets v) R))
-    (someOf (g .targets v) (λ w. unsolved g (s .region) w && not (R w) && ltb (s .region w) (s .current))))
+    (someOf (g .targets v) (λ w. unsolved g region w && ltb (region w) (s .current))))
 
 -- w is an unsolved successor, outside R, of an opponent vertex of R
 unfoldable pub wayOut : Game → Regions → Set → Set
@@ -79,10 +85,10 @@ wayOut g s R w =
     not (R w) &&
     some (g .size) (λ v. R v && not (same (g .owner v) (parity (s .current))) && someOf (g .targets v) (eqb w))
 
--- open: R gets region p, and p becomes the highest region present below p; if there is none, p stays
+-- open: p becomes the highest region present below p; if there is none, p stays
 unfoldable pub movedDown : Game → Regions → Set → Regions
 movedDown g s R =
-    let region = noted solvedRegion (g .size) (λ v. cond (R v) (s .current) (s .region v)) in
+    let region = drawnRegions g s R in
     let below : Set = λ v. unsolved g region v && ltb (region v) (s .current) in
     record {
       region = region;
@@ -144,6 +150,11 @@ afterRounds g (suc k) = roundOf g (afterRounds g k)
 unfoldable pub allSolved : Game → Regions → Bool
 allSolved g s = not (some (g .size) (unsolved g (s .region)))
 
--- the rounds needed until all are solved, or one more than the budget where they are more than the budget
-unfoldable pub roundsNeeded : Game → ℕ → ℕ
-roundsNeeded g budget = lowest (suc budget) (λ k. allSolved g (afterRounds g k))
+-- the rounds from a state on until all are solved; the search ends after so many
+unfoldable pub roundsFrom : Game → ℕ → Regions → ℕ
+roundsFrom g zero s = 0
+roundsFrom g (suc many) s = elim (allSolved g s) [ true ↦ 0 | false ↦ suc (roundsFrom g many (roundOf g s)) ]
+
+-- the rounds needed until all are solved: n · (n + 2) ^ d are enough for every accepted game
+unfoldable pub roundsNeeded : Game → ℕ
+roundsNeeded g = roundsFrom g (g .size * (g .size + 2) ^ differentPriorities g (everywhere g)) (atStart g)

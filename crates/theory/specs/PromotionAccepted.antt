@@ -1,9 +1,10 @@
 -- Priority promotion on accepted tables: it finishes within n · (n + 2) ^ d rounds, p never stays in an open round, and the sets and entries
 -- at the end are right.
-use mathlib.Core.Bool.{true}
+use mathlib.Core.Bool.{true, false}
 use mathlib.Core.List.{List}
 use mathlib.Core.Path.{_≡_}
-use Prim.Native.Nat.{ℕ, _+_, _*_, _^_, _≤_, _<_}
+use Prim.Native.Nat.{ℕ, suc, _+_, _*_, _^_, _≤_, _<_}
+use native.Mathlib.Nat.{le-of-suc-le-suc, le-antisymm, le-trans}
 use borrow.Author.Tests.{le-ltb}
 use lib.ListN.{length}
 use Rattle.rules.specs.Counting.{some, listed}
@@ -14,6 +15,7 @@ use Rattle.rules.specs.Winning.{WinningSets, WinningEntries}
 use Rattle.rules.specs.Outcome.{budgeted, answered}
 use Rattle.rules.specs.Budget.{differentPriorities}
 use Rattle.rules.specs.Promotion.{Regions, regionSet, isOpen, afterRounds, roundOf, allSolved, roundsNeeded}
+use Rattle.theory.specs.Basics.{clash, le-of-not-lt, IsLowest}
 use Rattle.theory.specs.Tables.{accepted-total, accepted-few, accepted-priority}
 use Rattle.theory.specs.PromotionEntries.{Rounded}
 use Rattle.theory.specs.PromotionRounds.{lowerVertices}
@@ -22,7 +24,7 @@ use Rattle.theory.specs.PromotionSound.{promotion-sets, promotion-entrie
 use Rattle.theory.specs.PromotionExists.{rounds-sets}
 use Rattle.theory.specs.PromotionChosen.{promotion-entries-win}
 use Rattle.theory.specs.PromotionSame.{rounded-strategy}
-use Rattle.theory.specs.PromotionBound.{never-stays, budget-enough}
+use Rattle.theory.specs.PromotionBound.{never-stays, needed-lowest}
 
 module _ (t : Tables) (ok : Accepted t) where
   small-priorities : (v : ℕ) → v < gameOf t .size → gameOf t .priority v ≤ 255
@@ -31,21 +33,31 @@ module _ (t : Tables) (ok : Accepted t) where
   few-vertices : gameOf t .size ≤ noEntry
   few-vertices = accepted-few t ok
 
-  -- **A budget of n · (n + 2) ^ d rounds is enough**: the rounds needed are within it, and after them all vertices are solved.
+  -- **The rounds needed are the first after which all vertices are solved, and at most n · (n + 2) ^ d.**
   pub accepted-finishes :
-      (budget : ℕ) →
-      gameOf t .size * (gameOf t .size + 2) ^ differentPriorities (gameOf t) (everywhere (gameOf t)) ≤ budget →
-      (roundsNeeded (gameOf t) budget ≤ budget) ×
-      (allSolved (gameOf t) (afterRounds (gameOf t) (roundsNeeded (gameOf t) budget)) ≡ true)
-  accepted-finishes = budget-enough (gameOf t) (accepted-total t ok) small-priorities
+      IsLowest (suc (gameOf t .size * (gameOf t .size + 2) ^ differentPriorities (gameOf t) (everywhere (gameOf t))))
+      (λ k. allSolved (gameOf t) (afterRounds (gameOf t) k))
+      (roundsNeeded (gameOf t))
+  accepted-finishes = needed-lowest (gameOf t) (accepted-total t ok) small-priorities
+
+  -- there is one such number
+  pub accepted-needed :
+      (k : ℕ) →
+      allSolved (gameOf t) (afterRounds (gameOf t) k) ≡ true →
+      ((j : ℕ) → j < k → allSolved (gameOf t) (afterRounds (gameOf t) j) ≡ false) →
+      roundsNeeded (gameOf t) ≡ k
+  accepted-needed k done first =
+      le-antisymm
+      (le-of-not-lt (λ less. clash done (accepted-finishes .first k less)))
+      (le-of-not-lt (λ less. clash (accepted-finishes .passes) (first (roundsNeeded (gameOf t)) less)))
 
   -- **So 13 is never given at or above that budget.**
   pub accepted-within-budget :
       (budget : ℕ) →
       gameOf t .size * (gameOf t .size + 2) ^ differentPriorities (gameOf t) (everywhere (gameOf t)) ≤ budget →
-      budgeted budget (roundsNeeded (gameOf t) budget) ≡ answered (roundsNeeded (gameOf t) budget)
+      budgeted budget (roundsNeeded (gameOf t)) ≡ answered (roundsNeeded (gameOf t))
   accepted-within-budget budget l =
-      rw (le-ltb budget (roundsNeeded (gameOf t) budget) (accepted-finishes budget l .0))
+      rw (le-ltb budget (roundsNeeded (gameOf t)) (le-trans (le-of-suc-le-suc (accepted-finishes .below)) l))
 
   -- **In an open round some unsolved vertex has a region below p, and p goes down.**
   pub accepted-never-stays :

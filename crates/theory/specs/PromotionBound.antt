@@ -1,20 +1,22 @@
 -- Priority promotion always finishes: for n vertices and d different priorities at most n · (n + 2) ^ d rounds are needed. Between two dominions
 -- the sizes of the regions from p up, the highest first, rise in the lexicographic order; a dominion leaves fewer unsolved.
-use mathlib.Core.Bool.{true, false, _&&_, cond}
+use mathlib.Core.Bool.{Bool, true, false, _&&_, cond}
 use mathlib.Core.Logic.{_⊎_, inl, inr, ⊎-elim}
-use mathlib.Core.Path.{_≡_, refl, sym, ap, fun-ext, _∙_}
+use mathlib.Core.Path.{_≡_, refl, sym, ap, subst, fun-ext, _∙_}
 use Prim.Native.Nat.{ℕ, zero, suc, _+_, _*_, _^_, _≤_, _<_, zero-le}
 use native.Mathlib.Nat.{le-of-suc-le-suc, le-refl, mul-le-mul-right, suc-mul, one-mul}
 use native.Mathlib.Omega.{arith}
 use borrow.Author.Tests.{eqb-true, eq-eqb, le-leb, lt-leb, lt-ltb}
 use lib.Dec.{eqb, leb}
-use Rattle.rules.specs.Counting.{Set, some, count, noted, without}
+use Rattle.rules.specs.Counting.{Set, some, count, noted, without, lowest}
 use Rattle.rules.specs.Game.{Game, Total, everywhere}
 use Rattle.rules.specs.Zielonka.{highestIn}
 use Rattle.rules.specs.Budget.{differentPriorities}
-use Rattle.rules.specs.Promotion.{Regions, solvedRegion, unsolved, atStart, regionSet, isOpen, wayOut, roundOf, afterRounds, allSolved, roundsNeeded}
+use Rattle.rules.specs.Promotion.{Regions, solvedRegion, unsolved, atStart, regionSet, isOpen, wayOut, roundOf, afterRounds}
+use Rattle.rules.specs.Promotion.{allSolved, roundsFrom, roundsNeeded}
 use Rattle.theory.specs.Basics.{bool-cases, clash, and-intro, and-left, and-right, not-true-is-false, lt-or-ge, some-intro, some-elim, count-le}
-use Rattle.theory.specs.Basics.{count-mono, count-strict, count-none, count-pos, without-left, without-right, lowest-found}
+use Rattle.theory.specs.Basics.{count-mono, count-strict, count-none, count-pos, without-left, without-right}
+use Rattle.theory.specs.Basics.{IsLowest, lowest-found}
 use Rattle.theory.specs.Greatest.{greatest-bounds}
 use Rattle.theory.specs.PromotionBasics.{noted-below, atRegion, at-intro, at-in, at-is, at-out}
 use Rattle.theory.specs.PromotionEntries.{remaining, promotedTo, dominionSet}
@@ -398,6 +400,28 @@ module _ (g : Game) (total : Total g) (low : (v : ℕ) → v < g .size → g .pr
       let (j, most, done) = finishes f (suc k) (omega arith) in (j, omega arith, done))
       (solved-or-left (afterRounds g k))
 
+  -- by the number of rounds
+  at-round : (x y : ℕ) (b : Bool) → x ≡ y → allSolved g (afterRounds g x) ≡ b → allSolved g (afterRounds g y) ≡ b
+  at-round x y b e = subst (λ (k : ℕ). allSolved g (afterRounds g k) ≡ b) e
+
+  -- the first of the rounds after k that solves all is found among enough
+  rounds-from :
+      (many k j : ℕ) →
+      j ≤ many →
+      allSolved g (afterRounds g (j + k)) ≡ true →
+      ((i : ℕ) → i < j → allSolved g (afterRounds g (i + k)) ≡ false) →
+      roundsFrom g many (afterRounds g k) ≡ j
+  unfolding roundsFrom afterRounds
+  rounds-from zero k zero l done first = refl
+  rounds-from zero k (suc j) l done first = absurd (omega arith)
+  rounds-from (suc many) k zero l done first =
+      rw (roundsFrom, at-round (0 + k) k true (omega arith) done) refl
+  rounds-from (suc many) k (suc j) l done first =
+      rw (roundsFrom, at-round (0 + k) k false (omega arith) (first 0 (omega arith)))
+      (ap suc
+      (rounds-from many (suc k) j (le-of-suc-le-suc l) (at-round (suc j + k) (j + suc k) true (omega arith) done)
+      (λ i less. at-round (suc i + k) (i + suc k) false (omega arith) (first (suc i) (omega arith)))))
+
   -- **Promotion always finishes: after at most n · (n + 2) ^ d rounds all vertices are solved.**
   pub promotion-finishes :
       (k : ℕ) × (k ≤ g .size * (g .size + 2) ^ differentPriorities g (everywhere g)) × (allSolved g (afterRounds g k) ≡ true)
@@ -406,15 +430,21 @@ module _ (g : Game) (total : Total g) (low : (v : ℕ) → v < g .size → g .pr
       let (k, l, done) = finishes (g .size * bound g) 0 (omega arith) in
       (k, omega arith, done)
 
-  -- **So a budget of that many rounds is enough**: the rounds needed are within it, and then all are solved.
-  pub budget-enough :
-      (budget : ℕ) →
-      g .size * (g .size + 2) ^ differentPriorities g (everywhere g) ≤ budget →
-      (roundsNeeded g budget ≤ budget) × (allSolved g (afterRounds g (roundsNeeded g budget)) ≡ true)
-  unfolding roundsNeeded
-  budget-enough budget l =
+  -- **So the rounds needed are found within that many, and are the first after which all are solved.**
+  pub needed-lowest :
+      IsLowest (suc (g .size * (g .size + 2) ^ differentPriorities g (everywhere g))) (λ k. allSolved g (afterRounds g k))
+      (roundsNeeded g)
+  unfolding roundsNeeded afterRounds
+  needed-lowest =
       let (k, most, done) = promotion-finishes in
+      let limit = suc (g .size * (g .size + 2) ^ differentPriorities g (everywhere g)) in
       let found =
-      lowest-found (suc budget) (λ k. allSolved g (afterRounds g k))
-      (some-intro (suc budget) (λ k. allSolved g (afterRounds g k)) k (omega arith) done) in
-      (le-of-suc-le-suc (found .below), found .passes)
+      lowest-found limit (λ k. allSolved g (afterRounds g k))
+      (some-intro limit (λ k. allSolved g (afterRounds g k)) k (omega arith) done) in
+      let low = lowest limit (λ k. allSolved g (afterRounds g k)) in
+      subst (IsLowest limit (λ k. allSolved g (afterRounds g k)))
+      (sym
+      (rounds-from (g .size * (g .size + 2) ^ differentPriorities g (everywhere g)) 0 low (le-of-suc-le-suc (found .below))
+      (at-round low (low + 0) true (omega arith) (found .passes))
+      (λ i less. at-round i (i + 0) false (omega arith) (found .first i less))))
+      found

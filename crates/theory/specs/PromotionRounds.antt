@@ -11,7 +11,7 @@ use Rattle.rules.specs.Counting.{Set, some, greatest, noted, without, union, wi
 use Rattle.rules.specs.Game.{Game, same}
 use Rattle.rules.specs.Promotion.{Regions, solvedRegion, unsolved, highestRegion, regionSet, isOpen, wayOut, movedDown}
 use Rattle.rules.specs.Promotion.{dominionSolved, promoted}
-use Rattle.rules.specs.Promotion.{roundOf, drawnEntries, closedEntries}
+use Rattle.rules.specs.Promotion.{roundOf, drawnRegions, drawnEntries, closedEntries}
 use Rattle.rules.specs.Distance.{attractorEntry}
 use Rattle.rules.specs.Words.{noEntry}
 use Rattle.theory.specs.Basics.{bool-cases, clash, bool-ext, not-true-is-false, not-false-is-true, lt-or-ge, without-left}
@@ -24,7 +24,7 @@ module _ (g : Game) (s : Regions) where
 
   -- R gets region p
   abbrev pub attractedRegion : ℕ → ℕ
-  attractedRegion = noted solvedRegion (g .size) (λ v. cond (regionSet g s v) (s .current) (s .region v))
+  attractedRegion = drawnRegions g s (regionSet g s)
 
   pub attracted-gained : (v : ℕ) → regionSet g s v ≡ true → attractedRegion v ≡ s .current
   attracted-gained v m =

@@ -4,7 +4,6 @@ use mathlib.Core.Bool.{true, false, _&&_, _||_, not, cond, and-false}
 use mathlib.Core.Logic.{⊎-elim}
 use mathlib.Core.Path.{_≡_, refl, sym, ap₂, fun-ext, subst, subst₂, _∙_}
 use Prim.Native.Nat.{ℕ, zero, suc, _≤_, _<_}
-use native.Mathlib.Nat.{le-refl}
 use native.Mathlib.Omega.{arith}
 use borrow.Author.Tests.{eqb-true, eq-eqb, ne-eqb, ltb-true, ltb-false, lt-ltb, le-ltb, not-true}
 use lib.Dec.{eqb, ltb}
@@ -141,25 +140,21 @@ module _
     solved-high v l out =
         ⊎-elim (λ k. absurd (clash (unsolved-intro g (s .region) v l k) out)) (λ k. k) (lt-or-ge (s .region v) solvedRegion)
 
-    -- an unsolved vertex outside R of a region below p is one with a region below p in the table
+    -- an unsolved vertex of a region below p, once R has p, is one with a region below p in the table
     lower-read :
         (w : ℕ) →
         w < g .size →
-        (remaining g s w && not (regionSet g s w) && ltb (s .region w) (s .current)) ≡ ltb (t w) (s .current)
+        (unsolved g (attractedRegion g s) w && ltb (attractedRegion g s w) (s .current)) ≡ ltb (t w) (s .current)
     lower-read w l =
-        ⊎-elim
-        (λ (m : regionSet g s w ≡ true).
-        rw
-        (region-in g s w m, m, table-gained w m)
-        (sym (le-ltb (s .current) (s .current) (le-refl (s .current)))))
-        (λ (m : regionSet g s w ≡ false).
-        ⊎-elim
-        (λ (i : remaining g s w ≡ true). rw (i, m, table-rest w l m))
-        (λ (i : remaining g s w ≡ false).
-        let high = solved-high w l i in
-        rw (i, table-rest w l m) (sym (le-ltb (s .region w) (s .current) (omega arith))))
-        (bool-cases (remaining g s w)))
-        (bool-cases (regionSet g s w))
+        bool-ext
+        (unsolved g (attractedRegion g s) w && ltb (attractedRegion g s w) (s .current))
+        (ltb (t w) (s .current))
+        (λ p. rw (agrees w l) (and-right (unsolved g (attractedRegion g s) w) _ p))
+        (λ p.
+        let low : attractedRegion g s w < s .current = rw (agrees w l) at (ltb-true (t w) (s .current) p) in
+        and-intro
+        (unsolved-intro g (attractedRegion g s) w l (omega arith))
+        (lt-ltb (attractedRegion g s w) (s .current) low))
 
     -- **open, by the table**
     pub open-read : isOpen g s (regionSet g s) ≡ some (g .size) (openAt g t (s .current))

@@ -5,15 +5,15 @@ use mathlib.Core.Logic.{_⊎_, inl, inr, ⊎-elim}
 use mathlib.Core.List.{Memᴰ·cast}
 use mathlib.Core.Path.{_≡_, refl, sym, _∙_}
 use Prim.Native.Nat.{ℕ, _≤_, _<_}
-use native.Mathlib.Nat.{le-of-eq, eq-or-lt-of-le}
+use native.Mathlib.Nat.{le-of-eq, eq-or-lt-of-le, lt-irrefl}
 use native.Mathlib.Omega.{arith}
 use borrow.Author.Tests.{eqb-true, eq-eqb, ltb-true, lt-ltb, not-true}
 use lib.Dec.{eqb, ltb}
 use Rattle.rules.specs.Counting.{Set, some, someOf}
 use Rattle.rules.specs.Game.{Game, Edge, same}
-use Rattle.rules.specs.Promotion.{Regions, solvedRegion, unsolved, highestRegion, regionSet, isOpen, wayOut}
-use Rattle.theory.specs.Basics.{bool-cases, clash, and-intro, and-left, and-right, not-false-is-true, same-true, true-same}
-use Rattle.theory.specs.Basics.{same-false}
+use Rattle.rules.specs.Promotion.{Regions, solvedRegion, unsolved, highestRegion, regionSet, drawnRegions, isOpen, wayOut}
+use Rattle.theory.specs.Basics.{bool-cases, clash, and-intro, and-left, and-right, not-false-is-true, not-true-is-false}
+use Rattle.theory.specs.Basics.{same-true, true-same, same-false}
 use Rattle.theory.specs.Basics.{false-same, some-intro, some-elim, some-false, lt-or-ge, someOf-intro, someOf-elim}
 use Rattle.theory.specs.Basics.{IsLowest, lowest-found}
 use Rattle.theory.specs.Attractor.{Fits}
@@ -22,7 +22,7 @@ use Rattle.theory.specs.Distance.{nearest, entry-nearest, entry-none}
 use Rattle.rules.specs.Distance.{outside, attractorEntry}
 use Rattle.rules.specs.Words.{noEntry}
 use Rattle.theory.specs.Greatest.{greatest-bounds, greatest-some, greatest-none}
-use Rattle.theory.specs.PromotionBasics.{atRegion, upTo, at-intro, at-in, at-is, up-intro}
+use Rattle.theory.specs.PromotionBasics.{noted-below, atRegion, upTo, at-intro, at-in, at-is, up-intro}
 use Rattle.theory.specs.PromotionBasics.{up-in, up-le}
 use Rattle.theory.specs.PromotionEntries.{mover, remaining, promotedTo, dominionSet}
 
@@ -122,22 +122,39 @@ module _ (g : Game) (s : Regions) where
 
   -- open, and not open
 
-  -- an unsolved vertex outside R of a region below p
-  abbrev lowerOutside : Set
-  lowerOutside w = remaining g s w && not (regionSet g s w) && ltb (s .region w) (s .current)
+  -- the regions once R has region p
+  abbrev drawnTo : ℕ → ℕ
+  drawnTo = drawnRegions g s (regionSet g s)
 
-  lower-outside-in : (w : ℕ) → lowerOutside w ≡ true → remaining g s w ≡ true
-  lower-outside-in w t = and-left (remaining g s w) _ (and-left (remaining g s w && not (regionSet g s w)) _ t)
+  -- an unsolved vertex of a region below p: it is outside R, and has the region that it had
+  abbrev lowerOutside : Set
+  lowerOutside w = unsolved g drawnTo w && ltb (drawnTo w) (s .current)
+
+  lower-place : (w : ℕ) → lowerOutside w ≡ true → w < g .size
+  lower-place w t = unsolved-below g drawnTo w (and-left (unsolved g drawnTo w) _ t)
+
+  lower-drawn : (w : ℕ) → lowerOutside w ≡ true → drawnTo w < s .current
+  lower-drawn w t = ltb-true (drawnTo w) (s .current) (and-right (unsolved g drawnTo w) _ t)
 
   lower-outside-out : (w : ℕ) → lowerOutside w ≡ true → regionSet g s w ≡ false
   lower-outside-out w t =
-      not-true
-      (regionSet g s w)
-      (and-right (remaining g s w) (not (regionSet g s w)) (and-left (remaining g s w && not (regionSet g s w)) _ t))
+      not-true-is-false (regionSet g s w)
+      (λ m.
+      let is : drawnTo w ≡ s .current =
+      noted-below solvedRegion (g .size) _ w (lower-place w t) ∙ rw m in
+      lt-irrefl (s .current) (rw is at (lower-drawn w t)))
+
+  drawn-outside : (w : ℕ) → w < g .size → regionSet g s w ≡ false → drawnTo w ≡ s .region w
+  drawn-outside w l out = noted-below solvedRegion (g .size) _ w l ∙ rw out
+
+  lower-outside-in : (w : ℕ) → lowerOutside w ≡ true → remaining g s w ≡ true
+  lower-outside-in w t =
+      unsolved-intro g (s .region) w (lower-place w t)
+      (rw (drawn-outside w (lower-place w t) (lower-outside-out w t)) at
+      (unsolved-region g drawnTo w (and-left (unsolved g drawnTo w) _ t)))
 
   lower-outside-low : (w : ℕ) → lowerOutside w ≡ true → s .region w < s .current
-  lower-outside-low w t =
-      ltb-true (s .region w) (s .current) (and-right (remaining g s w && not (regionSet g s w)) _ t)
+  lower-outside-low w t = rw (drawn-outside w (lower-place w t) (lower-outside-out w t)) at (lower-drawn w t)
 
   -- v makes R open
   abbrev opensAt : Set
@@ -210,7 +227,11 @@ module _ (g : Game) (s : Regions) where
       ⊎-elim
       (λ is. absurd (region-out w i out is))
       (λ less.
-      let there : lowerOutside w ≡ true = and-intro (and-intro i (rw out refl)) (lt-ltb (s .region w) (s .current) less) in
+      let small = unsolved-below g (s .region) w i in
+      let there : lowerOutside w ≡ true =
+      and-intro
+      (unsolved-intro g drawnTo w small (rw (drawn-outside w small out) (unsolved-region g (s .region) w i)))
+      (rw (drawn-outside w small out) (lt-ltb (s .region w) (s .current) less)) in
       let has = someOf-intro (g .targets v) lowerOutside w e there in
       absurd
       (clash

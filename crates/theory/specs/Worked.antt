@@ -16,7 +16,7 @@ use Rattle.rules.specs.Attractor.{drawn, grown, attractor, indegree, looksOf}
 use Rattle.rules.specs.Zielonka.{withPriority, highestIn, oneCall, callOn, zielonkaOn, zielonka}
 use Rattle.rules.specs.Budget.{choose, chooseUpTo, callBound, differentPriorities}
 use Rattle.rules.specs.Promotion.{atStart, regionSet, isOpen, wayOut, movedDown, dominionSolved, promoted}
-use Rattle.rules.specs.Promotion.{roundOf, afterRounds, allSolved, roundsNeeded}
+use Rattle.rules.specs.Promotion.{roundOf, afterRounds, allSolved, roundsFrom, roundsNeeded}
 use Rattle.rules.specs.Solitaire.{spread, goodPart, solitaire}
 use Rattle.rules.specs.Checker.{check21, check22, check23, onCycle, check24, certificateChecks}
 
@@ -62,8 +62,8 @@ abbrev pub Says : Game → Claim → Type 0
 Says g (winners ws) = listed (g .size) (winnerNumber g) ≡ ws
 Says g (calls k) = zielonka g .calls ≡ k
 Says g (bound k) = callBound (g .size) (differentPriorities g (everywhere g)) ≡ k
-Says g (rounds k) = roundsNeeded g k ≡ k
-Says g (promotions k) = count (roundsNeeded g (g .size + 3)) (promotes g) ≡ k
+Says g (rounds k) = roundsNeeded g ≡ k
+Says g (promotions k) = count (roundsNeeded g) (promotes g) ≡ k
 Says g (looks k) =
     looksOf g
     (attractor g (parity (highestIn g (everywhere g))) (everywhere g) (withPriority g (everywhere g) (highestIn g (everywhere g))))
@@ -223,8 +223,8 @@ unfolding
     workedGames C1 C2 C3 C4 C5 C6 C7 C8 C9 C10 C11 C11-on-C5 winnerNumber promotes some every count someOf everyOf times lowest listed
     within noted greatest edges givenAt gameOf degree targetsOf words digit bit setOf Accepted tableChecks check1 check2 check3 check4
     check5 check6 check7 check8 drawn grown attractor indegree looksOf oneCall callOn zielonkaOn zielonka choose chooseUpTo
-    differentPriorities atStart regionSet isOpen wayOut movedDown dominionSolved promoted roundOf afterRounds allSolved roundsNeeded
-    spread goodPart solitaire check21 check22 check23 onCycle check24 certificateChecks
+    differentPriorities atStart regionSet isOpen wayOut movedDown dominionSolved promoted roundOf afterRounds allSolved roundsFrom
+    roundsNeeded spread goodPart solitaire check21 check22 check23 onCycle check24 certificateChecks
 worked-games = (
   refl,
   (refl, (refl, (refl, tt))),

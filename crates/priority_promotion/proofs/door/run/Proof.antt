@@ -67,7 +67,7 @@ found :
     ended d .solve .result .unsolved ≡ 0 →
     let g = start d in
     let s = sized d .set-words .result in
-    Found (tables g) (wonIn (tables g) (g .args .budget)) (entriesIn (tables g) (g .args .budget)) s
+    Found (tables g) (wonIn (tables g)) (entriesIn (tables g)) s
     (evenAt (length (g .args .owners .now)) (length (g .args .targets .now)) s) (left d)
 found d z = run-found (ended d .solve .ensures) z
 

@@ -33,13 +33,13 @@ lent g =
     record { even = a .even .now; odd = a .odd .now; strategy = a .strategy .now; work = a .work .now }
 
 abbrev rounds : tie.Start → ℕ
-rounds g = roundsNeeded (gameOf (tables g)) (g .args .budget)
+rounds g = roundsNeeded (gameOf (tables g))
 
 abbrev won : tie.Start → Player → Set
-won g = wonIn (tables g) (g .args .budget)
+won g = wonIn (tables g)
 
 abbrev choice : tie.Start → ℕ → ℕ
-choice g = entriesIn (tables g) (g .args .budget)
+choice g = entriesIn (tables g)
 
 abbrev start : tie.After-check-lent → tie.Start
 start c = c .before .before .before .before .before .before .before .before .before .before

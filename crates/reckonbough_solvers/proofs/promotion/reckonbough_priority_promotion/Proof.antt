@@ -29,7 +29,7 @@ lent c =
 -- what it does with tables
 abbrev Does : tie.Start → Lent → Outcome → Tables → Type 0
 Does c after o t =
-    let needed = roundsNeeded (gameOf t) (c .args .budget) in
+    let needed = roundsNeeded (gameOf t) in
     Solves (c .args .budget) t needed (afterRounds (gameOf t) needed .won) (afterRounds (gameOf t) needed .entries) (lent c) after o
 
 -- past the test the record passes
