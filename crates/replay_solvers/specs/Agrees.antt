@@ -35,11 +35,11 @@ played r = gameOf (tablesIn r)
 
 -- the rounds or calls that the rules need, and the sets that they give
 abbrev pub needs : Bool → Game → ℕ
-needs true g = roundsNeeded g budget
+needs true g = roundsNeeded g
 needs false g = zielonka g .calls
 
 abbrev pub won : Bool → Game → Player → Set
-won true g = afterRounds g (roundsNeeded g budget) .won
+won true g = afterRounds g (roundsNeeded g) .won
 won false g = zielonka g .won
 
 pub record Says (promotion : Bool) (r : Record) (even odd : List ℕ) (count : ℕ) : Type 0 where

@@ -6,7 +6,7 @@ use Rattle.rules.specs.Record.{Record, recordOf}
 use Rattle.rules.specs.Promotion.{afterRounds, roundsNeeded}
 use Rattle.rules.specs.Tables.{Tables, gameOf}
 use Rattle.rules.specs.Zielonka.{zielonka}
-use Rattle.replay_solvers.specs.Agrees.{budget, door-says, says-of}
+use Rattle.replay_solvers.specs.Agrees.{door-says, says-of}
 use borrow.Author.Needs.{needs}
 use Rattle.replay_solvers.proofs.differs.solve.Statement.{statement}
 use Rattle.replay_solvers.proofs.differs.solve.Tie as tie
@@ -38,7 +38,7 @@ returns c =
     let called = c .before .before .before .before .before .before .before .before in
     let test = called .before .before .before .before .before .before .before in
     let at = test .before .before .before .before .before .before .before .before .before .before in
-    let entries : Tables → ℕ → ℕ = λ t. afterRounds (gameOf t) (roundsNeeded (gameOf t) budget) .entries in
+    let entries : Tables → ℕ → ℕ = λ t. afterRounds (gameOf t) (roundsNeeded (gameOf t)) .entries in
     says-of (test .if1 .taken) (door-says true (game at) _ _ _ entries (called .reckonbough-priority-promotion .ensures) e)
 
 reckonbough-zielonka-requires : tie.Need-reckonbough-zielonka-requires
