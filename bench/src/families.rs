@@ -8,10 +8,10 @@ use compare::hard::{climb, Solver};
 
 use crate::layered;
 
-/// A family with a game for every n: its name, and its game of n vertices.
+/// A family with games of every size: its name, and its k-th game of n vertices. The tables have the one with k = 0.
 pub struct Family {
     pub name: &'static str,
-    pub game: fn(usize) -> Game,
+    pub game: fn(usize, u64) -> Game,
 }
 
 /// The families whose cost is drawn against n.
@@ -19,22 +19,31 @@ pub const FAMILIES: [Family; 9] = [
     Family { name: "random dense", game: dense },
     Family { name: "random sparse", game: sparse },
     Family { name: "few priorities", game: few },
-    Family { name: "ladder", game: ladder },
-    Family { name: "chain", game: chain },
+    Family { name: "ladder", game: |n, _| ladder(n) },
+    Family { name: "chain", game: |n, _| chain(n) },
     Family { name: "near neighbours", game: near },
-    Family { name: "random", game: |n| random(n, n as u64) },
-    Family { name: "hard for Zielonka, padded", game: |n| padded(hard(Solver::Zielonka), n) },
-    Family { name: "hard for promotion, padded", game: |n| padded(hard(Solver::Promotion), n) },
+    Family { name: "random", game: random },
+    Family { name: "hard for Zielonka, padded", game: |n, _| padded(hard(Solver::Zielonka), n) },
+    Family { name: "hard for promotion, padded", game: |n, _| padded(hard(Solver::Promotion), n) },
 ];
+
+impl Family {
+    /// Different games of n vertices, 4,096 vertices in all; a family with one game for each n has one.
+    pub fn games(&self, n: usize) -> Vec<Game> {
+        let mut games: Vec<Game> = (0..4_096 / n as u64).map(|k| (self.game)(n, k)).collect();
+        games.dedup();
+        games
+    }
+}
 
 /// The games of the tables: those of full size first, then the smaller ones.
 pub fn timed() -> Vec<(&'static str, Game)> {
-    let full = |family: &Family| (family.name, (family.game)(4_096));
+    let full = |family: &Family| (family.name, (family.game)(4_096, 0));
     let mut games: Vec<(&str, Game)> = FAMILIES.iter().filter(|family| family.name != "random").map(full).collect();
     games.extend([
-        ("near neighbours", near(1_024)),
-        ("random", random(200, 200)),
-        ("random", random(40, 40)),
+        ("near neighbours", near(1_024, 0)),
+        ("random", random(200, 0)),
+        ("random", random(40, 0)),
         ("hard 44", hard_44()),
         ("hard 39", hard_39()),
         ("hard for Zielonka", hard(Solver::Zielonka).clone()),
@@ -49,8 +58,8 @@ fn shaped(n: usize, most_edges: usize, priorities: usize, reach: usize, seed: u6
 }
 
 /// Four edges a vertex, anywhere.
-pub fn dense(n: usize) -> Game {
-    let mut numbers = Numbers::new(n as u64);
+pub fn dense(n: usize, k: u64) -> Game {
+    let mut numbers = Numbers::new(n as u64 + k);
     let mut game = Game::empty();
     for _ in 0..n {
         let targets: Vec<u16> = (0..4).map(|_| numbers.below(n) as u16).collect();
@@ -60,14 +69,14 @@ pub fn dense(n: usize) -> Game {
 }
 
 /// One or two edges a vertex, anywhere.
-pub fn sparse(n: usize) -> Game {
-    shaped(n, 2, 256, n, n as u64)
+pub fn sparse(n: usize, k: u64) -> Game {
+    shaped(n, 2, 256, n, n as u64 + k)
 }
 
 /// Of each two vertices one has one edge and one has two, anywhere: 3n/2 edges; four priorities. With n itself as the seed a
 /// single attractor would take all 4,096 vertices.
-pub fn few(n: usize) -> Game {
-    let mut numbers = Numbers::new(n as u64 + 1);
+fn few(n: usize, k: u64) -> Game {
+    let mut numbers = Numbers::new(n as u64 + 1 + k);
     let mut game = Game::empty();
     let mut before = 1;
     for v in 0..n {
@@ -79,13 +88,13 @@ pub fn few(n: usize) -> Game {
 }
 
 /// One or two edges a vertex, at most three places away, eight priorities.
-pub fn near(n: usize) -> Game {
-    shaped(n, 2, 8, 3, n as u64)
+fn near(n: usize, k: u64) -> Game {
+    shaped(n, 2, 8, 3, n as u64 + k)
 }
 
 /// One to four edges a vertex, anywhere, 64 priorities.
-pub fn random(n: usize, seed: u64) -> Game {
-    shaped(n, 4, 64, n, seed)
+pub fn random(n: usize, k: u64) -> Game {
+    shaped(n, 4, 64, n, n as u64 + k)
 }
 
 /// One or two edges a vertex, anywhere, 64 priorities, 100 vertices.
@@ -94,12 +103,13 @@ pub fn hundred() -> Game {
 }
 
 /// 40 vertices, made hard for the solver by small changes.
-pub fn hard(solver: Solver) -> &'static Game {
+fn hard(solver: Solver) -> &'static Game {
     static GAMES: [OnceLock<Game>; 2] = [OnceLock::new(), OnceLock::new()];
     GAMES[solver as usize].get_or_init(|| climb(solver, 40, 3_000, 10_000, 7).last().expect("the climb has steps"))
 }
 
-/// 11 layers of 4 vertices, climbed to 150 calls.
+/// 11 layers of 4 vertices, climbed to 150 calls. The seed, as that of hard 39, is one of twelve tried: its game is among the
+/// nearest, in the Rust's times by both solvers, to the one that the C program's share was measured on.
 fn hard_44() -> Game {
     layered::climb(11, 4, 150, 7)
 }

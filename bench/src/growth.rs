@@ -7,10 +7,9 @@ use crate::plot::{self, Line, Panel};
 use crate::timing::{measure, Row};
 use crate::{figure, SOLVERS};
 
-/// The game of n vertices, measured; its work is its vertices, its edges and the looks that the rules ask of the attractors.
+/// The games of n vertices, measured.
 struct Point {
     n: usize,
-    work: f64,
     row: Row,
 }
 
@@ -39,21 +38,17 @@ pub fn print(path: Option<&String>) {
 
 /// Where the oracle was stopped at the cap there is no point.
 fn points(family: &Family, solver: Solver) -> Vec<Point> {
-    let measured = |n: usize| {
-        let game = (family.game)(n);
-        let row = measure(&game, solver)?;
-        Some(Point { n, work: (game.n() + game.m()) as f64 + row.looks as f64, row })
-    };
+    let measured = |n: usize| Some(Point { n, row: measure(&family.games(n), solver)? });
     (6..=12).filter_map(|power| measured(1 << power)).collect()
 }
 
 /// Nanoseconds for each unit of work, zeroing left out.
 fn print_row(family: &str, solver: Solver, points: &[Point]) {
     let at = |n: usize| points.iter().find(|point| point.n == n);
-    let each = |n: usize| at(n).and_then(|point| Some(point.row.port.as_ref()?.net_ms() * 1e6 / point.work));
+    let each = |n: usize| at(n).and_then(|point| Some(point.row.port.as_ref()?.net_ms() * 1e6 / point.row.work));
     let shown = SHOWN.map(|n| figure(each(n), 2)).join(" | ");
     let growth = each(4_096).zip(each(64)).map(|(last, first)| last / first);
-    let work = figure(at(4_096).map(|point| point.work), 0);
+    let work = figure(at(4_096).map(|point| point.row.work), 0);
     println!("| {family} | {} | {work} | {shown} | {} |", solver.name(), figure(growth, 2));
 }
 

@@ -19,8 +19,9 @@ struct Measured<'a> {
 pub fn print() {
     let games = families::timed();
     let pairs = games.iter().flat_map(|(name, game)| SOLVERS.map(|solver| (*name, game, solver)));
-    let rows: Vec<Measured> =
-        pairs.map(|(name, game, solver)| Measured { name, game, solver, row: measure(game, solver) }).collect();
+    let rows: Vec<Measured> = pairs
+        .map(|(name, game, solver)| Measured { name, game, solver, row: measure(std::slice::from_ref(game), solver) })
+        .collect();
     println!("\n## What a user meets\n");
     println!("| family | n | m | solver | calls or rounds | Rust ms | port ms | ratio |");
     println!("|---|---|---|---|---|---|---|---|");

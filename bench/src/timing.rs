@@ -1,18 +1,19 @@
 //! Milliseconds: of the oracle, of the port, of zeroing W words.
 
 use std::hint::black_box;
-use std::time::{Duration, Instant};
+use std::time::Duration;
 
 use compare::game::Game;
 use compare::hard::Solver;
 use compare::oracle::{Cap, Outcome, Prepared};
+use compare::reference::tables::work_words;
 
-/// What one row of the table says.
+/// What was measured on a game, or on each of several by average.
 pub struct Row {
-    /// Calls or rounds.
+    /// Calls or rounds, of all games.
     pub count: u64,
-    /// The entries of predecessor lists that the oracle's attractors were handed.
-    pub looks: u64,
+    /// The work that the rules ask for: vertices, edges, and the entries of predecessor lists that attractors were handed.
+    pub work: f64,
     pub rust_ms: f64,
     pub port: Option<Port>,
 }
@@ -41,34 +42,49 @@ impl Row {
     }
 }
 
-/// None where the oracle was stopped at the cap. Rust, port and zeroing take turns, so that a change of the machine's pace
-/// meets all three.
-pub fn measure(game: &Game, solver: Solver) -> Option<Row> {
+/// Games of one size, solved one after another. None where the oracle was stopped at the cap. Rust, port and zeroing take turns,
+/// so that a change of the machine's pace meets all three.
+pub fn measure(games: &[Game], solver: Solver) -> Option<Row> {
     let cap = Cap { messages: 10_000_000, time: Duration::from_secs(20) };
-    let Outcome::Answer(solved) = solver.oracle(game, cap) else { return None };
-    let prepared = Prepared::new(game);
+    let (mut count, mut work) = (0, 0);
+    for game in games {
+        let Outcome::Answer(solved) = solver.oracle(game, cap) else { return None };
+        count += solved.count;
+        work += (game.n() + game.m()) as u64 + solved.looks;
+    }
+    let prepared: Vec<Prepared> = games.iter().map(Prepared::new).collect();
     let mut rust = Times::new();
-    let mut port = PortTimes::new(game, solver);
+    let mut port = PortTimes::new(games, solver);
     in_turns(|| {
-        rust.time(|| solve(&prepared, solver));
+        rust.time(|| prepared.iter().for_each(|game| solve(game, solver)));
         port.turn();
     });
-    Some(Row { count: solved.count, looks: solved.looks, rust_ms: rust.ms(), port: port.done() })
+    let each = |all: f64| all / games.len() as f64;
+    Some(Row { count, work: each(work as f64), rust_ms: each(rust.ms()), port: port.done() })
+}
+
+/// The most work words that one of the games needs.
+pub fn most_words(games: &[Game]) -> usize {
+    games.iter().map(words).max().expect("there are games")
+}
+
+fn words(game: &Game) -> usize {
+    work_words(game.n(), game.m())
 }
 
 /// The Rust's solver on a game that is built already.
-pub fn solve(prepared: &Prepared, solver: Solver) {
+fn solve(prepared: &Prepared, solver: Solver) {
     match solver {
         Solver::Zielonka => drop(black_box(prepared.zielonka())),
         Solver::Promotion => drop(black_box(prepared.priority_promotion())),
     }
 }
 
-/// Turns for 0.6 seconds, four at least: the first may only tell how often short work is repeated.
+/// Turns for 0.6 seconds of the thread's own time, four at least: the first may only tell how often short work is repeated.
 pub fn in_turns(mut turn: impl FnMut()) {
-    let start = Instant::now();
+    let start = thread_ms();
     let mut turns = 0;
-    while turns < 4 || start.elapsed() < Duration::from_millis(600) {
+    while turns < 4 || thread_ms() - start < 600.0 {
         turns += 1;
         turn();
     }
@@ -76,7 +92,7 @@ pub fn in_turns(mut turn: impl FnMut()) {
 
 /// The port's solver, without a budget.
 #[cfg(feature = "port")]
-pub fn solve_by_port(game: &Game, solver: Solver, lent: &mut compare::port::Lent) {
+fn solve_by_port(game: &Game, solver: Solver, lent: &mut compare::port::Lent) {
     use compare::port;
     let answer = match solver {
         Solver::Zielonka => port::zielonka(game, u64::MAX, lent),
@@ -91,10 +107,12 @@ pub fn zero(work: &mut [u64], words: usize) {
     black_box(work)[..words].fill(0);
 }
 
+/// The games, the kept numbers of each, and one set of outputs and one work area for all of them.
 #[cfg(feature = "port")]
 struct PortTimes<'a> {
-    game: &'a Game,
+    games: &'a [Game],
     solver: Solver,
+    kept: Vec<Vec<u64>>,
     lent: compare::port::Lent,
     whole: Times,
     zeroing: Times,
@@ -102,20 +120,28 @@ struct PortTimes<'a> {
 
 #[cfg(feature = "port")]
 impl<'a> PortTimes<'a> {
-    fn new(game: &'a Game, solver: Solver) -> Self {
-        let lent = compare::port::Lent::junk(game);
-        PortTimes { game, solver, lent, whole: Times::new(), zeroing: Times::new() }
+    fn new(games: &'a [Game], solver: Solver) -> Self {
+        let kept = games.iter().map(|game| compare::port::fresh(&game.priorities)).collect();
+        let mut lent = compare::port::Lent::junk(&games[0]);
+        lent.work = vec![0; most_words(games)];
+        PortTimes { games, solver, kept, lent, whole: Times::new(), zeroing: Times::new() }
     }
 
     fn turn(&mut self) {
-        let (game, lent, solver) = (self.game, &mut self.lent, self.solver);
-        self.whole.time(|| solve_by_port(game, solver, lent));
-        let words = compare::reference::tables::work_words(game.n(), game.m());
-        self.zeroing.time(|| zero(&mut lent.work, words));
+        let PortTimes { games, solver, kept, lent, whole, zeroing } = self;
+        whole.time(|| {
+            for (game, kept) in games.iter().zip(kept.iter_mut()) {
+                std::mem::swap(&mut lent.kept, kept);
+                solve_by_port(game, *solver, lent);
+                std::mem::swap(&mut lent.kept, kept);
+            }
+        });
+        zeroing.time(|| games.iter().for_each(|game| zero(&mut lent.work, words(game))));
     }
 
     fn done(self) -> Option<Port> {
-        Some(Port { ms: self.whole.ms(), zeroing_ms: self.zeroing.ms() })
+        let each = |all: f64| all / self.games.len() as f64;
+        Some(Port { ms: each(self.whole.ms()), zeroing_ms: each(self.zeroing.ms()) })
     }
 }
 
@@ -124,7 +150,7 @@ struct PortTimes;
 
 #[cfg(not(feature = "port"))]
 impl PortTimes {
-    fn new(_game: &Game, _solver: Solver) -> Self {
+    fn new(_games: &[Game], _solver: Solver) -> Self {
         PortTimes
     }
 
@@ -159,10 +185,10 @@ impl Times {
         }
     }
 
-    /// The time that a quarter of the turns kept below: neither a clock that jumps now and then nor other work tells much.
+    /// The time that a tenth of the turns kept below: neither a clock that jumps now and then nor other work tells much.
     pub fn ms(mut self) -> f64 {
         self.each.sort_by(f64::total_cmp);
-        self.each[self.each.len() / 4]
+        self.each[self.each.len() / 10]
     }
 }
 
