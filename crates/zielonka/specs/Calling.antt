@@ -31,7 +31,7 @@ use Rattle.zielonka_level.specs.Level.{nextLevel, wonPlace, onLevel, wonAt, Cal
 use Rattle.zielonka_level.specs.Steps.{CutBy, AllAt, JoinedAt, stays-on, stays-next, level-stays, cut-over}
 use Rattle.zielonka_level.specs.Steps.{nested-called, first-less, cut-less}
 use Rattle.zielonka_level.specs.Steps.{done-empty, done-all, done-some, over-nested, over-second}
-use Rattle.zielonka_level.specs.Pieces.{Ready, Losable}
+use Rattle.zielonka_level.specs.Pieces.{Ready, Sorted, Losable}
 use Rattle.zielonka_level.specs.PiecesHold.{apart-cleared, apart-stays, apart-entries, ready-stays, won-range}
 
 -- there is room for the level above a call on a set that has a member
@@ -141,6 +141,29 @@ module _ {t : Tables} {base : ℕ} {w₀ : List ℕ} (called : Called t base w�
         (accepted-sound t (called .accepted) .priority-each)))
         (highest-top (gameOf t) (onLevel t base w₀) (called .below) vertex member)
 
+-- a priority that a vertex has is below 256
+top-small :
+    {t : Tables} {base : ℕ} {work : List ℕ} {a : Player} {p : ℕ} →
+    Called t base work →
+    Top (gameOf t) (onLevel t base work) a p →
+    p < 256
+unfolding gameOf
+top-small {t} called top =
+    omega (
+      arith,
+      accepted-sound t (called .accepted) .priority-small (top .vertex) (called .below (top .vertex) (top .member)),
+      top .has,
+    )
+
+-- what the first cut and the last step ask for
+pub ready-sorted :
+    {t : Tables} {s base p : ℕ} {w₀ work : List ℕ} →
+    Called t base w₀ →
+    Top (gameOf t) (onLevel t base w₀) (parity p) p →
+    Ready t s base work →
+    Sorted (t .owners) (t .offsets) (t .targets) p s base work
+ready-sorted {t} called top ready = record { priorities = t .priorities; ready = ready; small = top-small called top }
+
 -- a set with no member among the bits of its words has none
 empty-set :
     (t : Tables) (place : ℕ) (work : List ℕ) →
@@ -227,6 +250,9 @@ module _ {t : Tables} {s base p calls budget made : ℕ} {w₀ w₁ w₂ : List 
 
   pub came-ready : Ready t s base w₂
   came-ready = ready-stays came-stays (c .begun .ready)
+
+  pub came-sorted : Sorted (t .owners) (t .offsets) (t .targets) p s base w₂
+  came-sorted = ready-sorted (c .begun .called) (c .begun .top) came-ready
 
   -- what each player won at the next level lies in V
   came-inside : (a : Player) (v : ℕ) → wonAt t (nextLevel (words (vertices t)) base) w₂ a v ≡ true → onLevel t base w₀ v ≡ true

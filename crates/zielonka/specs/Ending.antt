@@ -23,7 +23,10 @@ pub record Ends (t : Tables) (base calls budget : ℕ) (before after : List ℕ)
   pub done : 0 < given → Done t base calls budget given before after
 
 -- the budget does not allow it
-pub ends-over : {t : Tables} {base calls budget : ℕ} {before after : List ℕ} → Over t base calls budget before → Ends t base calls budget before after 0
+pub ends-over :
+    {t : Tables} {base calls budget : ℕ} {before after : List ℕ} →
+    Over t base calls budget before →
+    Ends t base calls budget before after 0
 ends-over o = record { over = λ e. o; done = λ l. absurd (omega arith) }
 
 -- it has ended

@@ -41,8 +41,10 @@ fn run(
     let n = owners.len();
     let s = parity_game::set_words(n);
     let entries = n + 1 + targets.len() + n + n;
-    let base = entries + n + 2 * (s + 1) + s;
+    let first = entries + n + 2 * (s + 1) + s;
+    let base = first + 256 * s;
     solver::prepare(offsets, targets, n, s, work, base);
+    priority_sets::sort(priorities, s, work, first);
     let calls = zielonka_rec(
         owners,
         priorities,

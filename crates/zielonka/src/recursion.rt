@@ -38,7 +38,7 @@ pub fn zielonka_rec(
         return calls + 1;
     }
     let p = get_highest_prio(priorities, &work[base..base + s], top).0;
-    attract_highest(owners, priorities, offsets, targets, p, s, work, base);
+    attract_highest(owners, offsets, targets, p, s, work, base);
     let up = base + 4 * s;
     let made = zielonka_rec(
         owners,
@@ -55,7 +55,7 @@ pub fn zielonka_rec(
         return 0;
     }
     if lost_nothing(p, s, work, up) {
-        win_everything(owners, priorities, offsets, targets, p, s, work, base);
+        win_everything(owners, offsets, targets, p, s, work, base);
         return made;
     }
     attract_lost(owners, offsets, targets, p, s, work, base);

@@ -1,145 +1,141 @@
--- The walk that gives the vertices of priority p their lowest-numbered successor in V, where p's player owns them: those that it
--- has passed have it.
+-- The walk that gives the vertices of U their lowest-numbered successor in V, where p's player owns them: those that it has
+-- passed have it. U stands behind V.
 use mathlib.Core.Bool.{true}
 use mathlib.Core.List.{List}
 use mathlib.Core.Logic.{inr, ⊎-elim}
 use mathlib.Core.Path.{_≡_, refl, ap, _∙_}
-use Prim.Native.Nat.{ℕ, zero, suc, _+_, _-_, _%_, _≤_, _<_}
+use Prim.Native.Nat.{ℕ, _+_, _-_, _*_, _%_, _≤_, _<_}
 use native.Mathlib.Omega.{arith}
-use borrow.Author.Tests.{eq-eqb, eqb-true}
-use lib.Dec.{eqb}
 use lib.ListN.{length, getD, take, drop, set}
-use Rattle.rules.specs.Game.{parity, playerOf}
-use Rattle.rules.specs.Tables.{Tables, gameOf, vertices, edgesIn, words, Accepted}
-use Rattle.rules.specs.Distance.{lowestIn}
-use Rattle.rules.specs.Zielonka.{withPriority}
+use Rattle.rules.specs.Tables.{words}
 use Rattle.walk.specs.declared.members.Members.{Members}
-use Rattle.theory.specs.AttractorComplement.{TotalIn}
-use Rattle.theory.specs.Basics.{bool-cases, and-left, and-right, and-intro}
-use Rattle.theory.specs.Tables.{Sound, accepted-sound}
-use Rattle.attractor.specs.Attracted.{edges-sound}
+use Rattle.theory.specs.Basics.{bool-cases}
+use Rattle.predecessors.specs.Table.{SoundEdges}
 use Rattle.attractor_counters.specs.Counters.{EdgesOf, edges-of}
 use Rattle.successors.specs.Lowest.{lowestEnd}
-use Rattle.area.specs.Area.{entries, free}
-use Rattle.area.specs.Lent.{part-length}
-use Rattle.area.specs.Walked.{Walkable, Keeps, Turn, Always, Beside, same-turn, store-turn, WalkedTo, Walked, kept-lent}
-use Rattle.zielonka_level.specs.Level.{onLevel, entriesOf}
+use Rattle.area.specs.Area.{entries, free, setAt, wordsAt, entryAt}
+use Rattle.area.specs.Lent.{part-length, words-alike}
+use Rattle.area.specs.Walked.{Walkable, Keeps, Turn, Always, Beside, same-turn, store-turn, WalkedTo, Walked}
+use Rattle.area.specs.Walking.{lent-part}
 
 -- what the walk asks for
-pub record Extends (t : Tables) (s base : ℕ) (work : List ℕ) : Type 0 where
-  pub accepted : Accepted t
-  pub size : s ≡ words (vertices t)
-  pub low : free (vertices t) (edgesIn t) ≤ base
-  pub high : base + words (vertices t) ≤ length work
-  pub below : (v : ℕ) → onLevel t base work v ≡ true → v < vertices t
-  pub total : TotalIn (gameOf t) (onLevel t base work)
+pub record Extends (owners offsets targets : List ℕ) (s base : ℕ) (work : List ℕ) : Type 0 where
+  pub size : s ≡ words (length owners)
+  pub few : length owners ≤ 4096
+  pub edges : SoundEdges (length owners) offsets targets
+  pub low : free (length owners) (length targets) ≤ base
+  pub high : base + 2 * s ≤ length work
+  pub below : (v : ℕ) → setAt (length owners) (base + s) work v ≡ true → v < length owners
 
--- v is a vertex of V of priority p that p's player owns
-abbrev pub Chooses : Tables → ℕ → ℕ → List ℕ → ℕ → Type 0
-Chooses t p base work v =
-    (withPriority (gameOf t) (onLevel t base work) p v ≡ true) × (gameOf t .owner v ≡ parity p)
+-- v is a vertex of U that p's player owns
+abbrev pub Chooses : List ℕ → ℕ → ℕ → ℕ → List ℕ → ℕ → Type 0
+Chooses owners p s base work v = (setAt (length owners) (base + s) work v ≡ true) × (getD owners v 0 ≡ p % 2)
 
 -- a word that is no entry
-abbrev pub Elsewhere : Tables → ℕ → Type 0
-Elsewhere t = Beside (vertices t) (entries (vertices t) (edgesIn t))
+abbrev pub Elsewhere : List ℕ → List ℕ → ℕ → Type 0
+Elsewhere owners targets = Beside (length owners) (entries (length owners) (length targets))
 
 -- every such vertex has its lowest-numbered successor in V as its entry, and every other entry is as it was
-pub record Extended (t : Tables) (p base : ℕ) (before after : List ℕ) : Type 0 where
+pub record Extended (owners offsets targets : List ℕ) (p s base : ℕ) (before after : List ℕ) : Type 0 where
   pub long : length after ≡ length before
-  pub chosen : (v : ℕ) → Chooses t p base before v → entriesOf t after v ≡ lowestIn (gameOf t) (onLevel t base before) v
-  pub kept : (v : ℕ) → v < vertices t → (Chooses t p base before v → ⊥) → entriesOf t after v ≡ entriesOf t before v
-  pub rest : (i : ℕ) → Elsewhere t i → getD after i 0 ≡ getD before i 0
+  pub chosen :
+      (v : ℕ) →
+      Chooses owners p s base before v →
+      entryAt (length owners) (length targets) after v ≡
+      lowestEnd (length owners) offsets targets v (wordsAt (length owners) base before)
+  pub kept :
+      (v : ℕ) →
+      v < length owners →
+      (Chooses owners p s base before v → ⊥) →
+      entryAt (length owners) (length targets) after v ≡ entryAt (length owners) (length targets) before v
+  pub rest : (i : ℕ) → Elsewhere owners targets i → getD after i 0 ≡ getD before i 0
 
 -- the entry of a vertex: its lowest-numbered successor in V if it chooses, else as it was
-pub record Chosen (t : Tables) (p base : ℕ) (before : List ℕ) (v w w' : ℕ) : Type 0 where
-  pub chosen : Chooses t p base before v → w' ≡ lowestIn (gameOf t) (onLevel t base before) v
-  pub kept : (Chooses t p base before v → ⊥) → w' ≡ w
+pub record Chosen (owners offsets targets : List ℕ) (p s base : ℕ) (before : List ℕ) (v w w' : ℕ) : Type 0 where
+  pub chosen :
+      Chooses owners p s base before v →
+      w' ≡ lowestEnd (length owners) offsets targets v (wordsAt (length owners) base before)
+  pub kept : (Chooses owners p s base before v → ⊥) → w' ≡ w
 
 -- the vertices that the walk has passed have their entries
-abbrev pub ExtendingTo : Tables → ℕ → ℕ → List ℕ → Members → List ℕ → Type 0
-ExtendingTo t p base before = WalkedTo (vertices t) base (Elsewhere t) Always (entriesOf t) (Chosen t p base before) before
+abbrev pub ExtendingTo : List ℕ → List ℕ → List ℕ → ℕ → ℕ → ℕ → List ℕ → Members → List ℕ → Type 0
+ExtendingTo owners offsets targets p s base before =
+    WalkedTo (length owners) (base + s) (Elsewhere owners targets) Always (entryAt (length owners) (length targets))
+    (Chosen owners offsets targets p s base before)
+    before
 
 -- one is passed
-abbrev pub Extending : Tables → ℕ → ℕ → List ℕ → ℕ → List ℕ → List ℕ → Type 0
-Extending t p base before = Turn (vertices t) (Elsewhere t) Always (entriesOf t) (Chosen t p base before)
+abbrev pub Extending : List ℕ → List ℕ → List ℕ → ℕ → ℕ → ℕ → List ℕ → ℕ → List ℕ → List ℕ → Type 0
+Extending owners offsets targets p s base before =
+    Turn (length owners) (Elsewhere owners targets) Always (entryAt (length owners) (length targets))
+    (Chosen owners offsets targets p s base before)
 
--- the numbers 0 and 1 stand for different players
-pub player-number : (a b : ℕ) → a ≤ 1 → b ≤ 1 → playerOf a ≡ playerOf b → a ≡ b
-player-number zero zero h k e = refl
-player-number zero (suc b) h k e = let z : _≡_ {A = ℕ} 0 1 = cc in absurd (omega arith)
-player-number (suc a) zero h k e = let z : _≡_ {A = ℕ} 0 1 = cc in absurd (omega arith)
-player-number (suc a) (suc b) h k e = omega arith
+module _ {owners offsets targets : List ℕ} {s base : ℕ} {before : List ℕ}
+    (ready : Extends owners offsets targets s base before)
+  where
+    abbrev n : ℕ
+    n = length owners
 
-module _ {t : Tables} {s base : ℕ} {before : List ℕ} (ready : Extends t s base before) where
-  abbrev n : ℕ
-  n = vertices t
+    abbrev m : ℕ
+    m = length targets
 
-  facts : Sound t
-  facts = accepted-sound t (ready .accepted)
+    pub extend-walkable : Walkable (length owners) s (base + s) (Elsewhere owners targets) before
+    extend-walkable =
+        record {
+          size = ready .size;
+          few = ready .few;
+          high = omega (arith, ready .high, ready .size);
+          below = ready .below;
+          out = λ i low high. inr (omega (arith, ready .low));
+        }
 
-  -- there is a priority for each vertex
-  pub priorities-as-many : length (t .priorities) ≡ vertices t
-  priorities-as-many = facts .priority-each
+    -- the walk is over
+    pub extending-all :
+        {p : ℕ} {work : List ℕ} →
+        Walked (length owners) (base + s) (Elsewhere owners targets) Always (entryAt (length owners) (length targets))
+        (Chosen owners offsets targets p s base before)
+        before work →
+        Extended owners offsets targets p s base before work
+    extending-all w =
+        record {
+          long = w .keeps .long;
+          chosen = λ v u. w .inside v (u .0) .chosen u;
+          kept = λ v l d. ⊎-elim (λ m. w .inside v m .kept d) (w .outside v l) (bool-cases (setAt n (base + s) before v));
+          rest = w .keeps .rest;
+        }
 
-  pub extend-walkable : Walkable (vertices t) s base (Elsewhere t) before
-  extend-walkable =
-      record {
-        size = ready .size;
-        few = facts .few-vertices;
-        high = ready .high;
-        below = ready .below;
-        out = λ i low high. inr (omega (arith, ready .low));
-      }
+    -- V is as it was
+    lent :
+        {work : List ℕ} →
+        Keeps (Elsewhere owners targets) Always before work →
+        take ((base + s) - base) (drop base work) ≡ wordsAt n base before
+    lent {work} kept =
+        lent-part n s base work (ready .size) ∙
+        words-alike n base before work (kept .long) (λ i l. kept .rest (base + i) (inr (omega (arith, ready .low))))
 
-  -- the walk is over
-  pub extending-all :
-      {p : ℕ} {work : List ℕ} →
-      Walked (vertices t) base (Elsewhere t) Always (entriesOf t) (Chosen t p base before) before work →
-      Extended t p base before work
-  extending-all {p} w =
-      record {
-        long = w .keeps .long;
-        chosen = λ v u. w .inside v (and-left (onLevel t base before v) (eqb (gameOf t .priority v) p) (u .0)) .chosen u;
-        kept = λ v l d. ⊎-elim (λ m. w .inside v m .kept d) (w .outside v l) (bool-cases (onLevel t base before v));
-        rest = w .keeps .rest;
-      }
+    module _ {v : ℕ} (member : setAt (length owners) (base + s) before v ≡ true) where
+      -- a vertex of the other player keeps its entry
+      pub other-owner :
+          {p : ℕ} {work : List ℕ} → (getD owners v 0 ≡ p % 2 → ⊥) → Extending owners offsets targets p s base before v work work
+      other-owner d = same-turn tt (record { chosen = λ u. absurd (d (u .1)); kept = λ e. refl })
 
-  module _ {v : ℕ} (member : onLevel t base before v ≡ true) where
-    -- a vertex that does not choose keeps its entry
-    extending-none : {p : ℕ} {work : List ℕ} → (Chooses t p base before v → ⊥) → Extending t p base before v work work
-    extending-none d = same-turn tt (record { chosen = λ u. absurd (d u); kept = λ e. refl })
+      module _ {work : List ℕ} (kept : Keeps (Elsewhere owners targets) Always before work) where
+        -- its edges can be searched
+        pub extend-edges : EdgesOf offsets targets v (take ((base + s) - base) (drop base work))
+        extend-edges =
+            edges-of (ready .edges) (ready .below v member)
+            (ap length (lent kept) ∙ part-length base (words n) before (omega (arith, ready .high, ready .size)))
 
-    pub other-priority : {p : ℕ} {work : List ℕ} → (getD (t .priorities) v 0 ≡ p → ⊥) → Extending t p base before v work work
-    unfolding gameOf
-    other-priority {p} d =
-        extending-none
-        (λ u. d (eqb-true (getD (t .priorities) v 0) p (and-right (onLevel t base before v) (eqb (getD (t .priorities) v 0) p) (u .0))))
-
-    pub other-owner : {p : ℕ} {work : List ℕ} → (getD (t .owners) v 0 ≡ p % 2 → ⊥) → Extending t p base before v work work
-    unfolding gameOf
-    other-owner {p} d =
-        extending-none
-        (λ u. d (player-number (getD (t .owners) v 0) (p % 2) (facts .owner-small v (ready .below v member)) (omega arith) (u .1)))
-
-    module _ {work : List ℕ} (kept : Keeps (Elsewhere t) Always before work) where
-      -- its edges can be searched
-      pub extend-edges : EdgesOf (t .offsets) (t .targets) v (take ((base + s) - base) (drop base work))
-      extend-edges =
-          edges-of (edges-sound t (ready .accepted)) (ready .below v member)
-          (ap length (kept-lent extend-walkable kept) ∙ part-length base (words n) before (ready .high))
-
-      -- it takes its lowest-numbered successor in V
-      pub extending-one :
-          {p : ℕ} →
-          getD (t .priorities) v 0 ≡ p →
-          getD (t .owners) v 0 ≡ p % 2 →
-          {w : ℕ} →
-          w ≡ lowestEnd (vertices t) (t .offsets) (t .targets) v (take ((base + s) - base) (drop base work)) →
-          Extending t p base before v work (set work (entries (vertices t) (edgesIn t) + v) w)
-      unfolding gameOf lowestIn
-      extending-one {p} e o {w} found =
-          store-turn (entries n (edgesIn t)) w (ready .below v member) (omega (arith, kept .long, ready .low, ready .high))
-          (record {
-            chosen = λ u. found ∙ ap (lowestEnd n (t .offsets) (t .targets) v) (kept-lent extend-walkable kept);
-            kept = λ d. absurd (d (and-intro member (eq-eqb (getD (t .priorities) v 0) p e), ap playerOf o));
-          })
+        -- it takes its lowest-numbered successor in V
+        pub extending-one :
+            {p : ℕ} →
+            getD owners v 0 ≡ p % 2 →
+            {w : ℕ} →
+            w ≡ lowestEnd (length owners) offsets targets v (take ((base + s) - base) (drop base work)) →
+            Extending owners offsets targets p s base before v work (set work (entries (length owners) (length targets) + v) w)
+        extending-one o {w} found =
+            store-turn (entries n m) w (ready .below v member) (omega (arith, kept .long, ready .low, ready .high))
+            (record {
+              chosen = λ u. found ∙ ap (lowestEnd n offsets targets v) (lent kept);
+              kept = λ d. absurd (d (member, o));
+            })

@@ -9,6 +9,7 @@ use Rattle.rules.specs.Counting.{Set, count}
 use Rattle.rules.specs.Game.{Player, Even, Odd}
 use Rattle.rules.specs.Tables.{Tables, gameOf, vertices, edgesIn, words, Accepted}
 use Rattle.area.specs.Area.{free, setAt, entryAt}
+use Rattle.priority_sets.specs.Sorting.{SetsOf}
 use Rattle.attractor.specs.Attracted.{Listed}
 use Rattle.theory.specs.AttractorComplement.{TotalIn}
 use Rattle.theory.specs.Run.{Run}
@@ -37,12 +38,18 @@ wonAt t base work c = setAt (vertices t) (wonPlace (words (vertices t)) base c) 
 abbrev pub entriesOf : Tables → List ℕ → ℕ → ℕ
 entriesOf t work v = entryAt (vertices t) (edgesIn t) work v
 
--- what a call asks for: accepted tables with their predecessor table, V total and below n, and a level for each vertex of V and
--- one more
+-- the sets of the priorities stand in the first free words
+abbrev pub SortedIn : Tables → List ℕ → Type 0
+SortedIn t = SetsOf (vertices t) (t .priorities) (vertices t) (free (vertices t) (edgesIn t))
+
+-- what a call asks for: accepted tables with their predecessor table and the sets of their priorities, V total and below n, and a
+-- level for each vertex of V and one more
 pub record Called (t : Tables) (base : ℕ) (work : List ℕ) : Type 0 where
   pub accepted : Accepted t
   pub table : Listed (vertices t) (t .offsets) (t .targets) work
+  pub sorted : SortedIn t work
   pub low : free (vertices t) (edgesIn t) ≤ base
+  pub above : free (vertices t) (edgesIn t) + 256 * words (vertices t) ≤ base
   pub room : base + 4 * (words (vertices t) * (count (vertices t) (onLevel t base work) + 1)) ≤ length work
   pub below : (v : ℕ) → onLevel t base work v ≡ true → v < vertices t
   pub total : TotalIn (gameOf t) (onLevel t base work)

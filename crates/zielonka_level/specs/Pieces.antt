@@ -2,7 +2,7 @@
 use mathlib.Core.Bool.{true}
 use mathlib.Core.List.{List}
 use mathlib.Core.Path.{_≡_}
-use Prim.Native.Nat.{ℕ, _+_, _*_, _≤_}
+use Prim.Native.Nat.{ℕ, _+_, _*_, _≤_, _<_}
 use lib.ListN.{length}
 use Rattle.rules.specs.Game.{opponent, parity}
 use Rattle.rules.specs.Tables.{Tables, vertices, words, tablesOf}
@@ -13,6 +13,12 @@ pub record Ready (t : Tables) (s base : ℕ) (work : List ℕ) : Type 0 where
   pub called : Called t base work
   pub size : s ≡ words (vertices t)
   pub high : base + 8 * s ≤ length work
+
+-- the sets of some priorities stand in the work area, and p is below 256
+pub record Sorted (owners offsets targets : List ℕ) (p s base : ℕ) (work : List ℕ) : Type 0 where
+  pub priorities : List ℕ
+  pub ready : Ready (tablesOf owners priorities offsets targets) s base work
+  pub small : p < 256
 
 -- a set to draw to stands in the attractor's place, for tables with any priorities
 pub record Cuttable (owners offsets targets : List ℕ) (alpha s base : ℕ) (work : List ℕ) : Type 0 where

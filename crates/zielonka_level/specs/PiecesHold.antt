@@ -5,7 +5,8 @@ use mathlib.Core.Logic.{_⊎_, inl, inr}
 use mathlib.Core.Path.{_≡_, refl, sym, ap, ap₂, subst, fun-ext, _∙_}
 use Prim.Native.Nat.{ℕ, zero, suc, _+_, _-_, _*_, _%_, _≤_, _<_, max}
 use native.Mathlib.Omega.{arith}
-use lib.Dec.{eqb}
+use borrow.Author.Tests.{lt-ltb}
+use lib.Dec.{eqb, ltb}
 use lib.ListN.{length, getD, take, drop}
 use Rattle.rules.specs.Counting.{Set, without, some}
 use Rattle.rules.specs.Game.{Player, Even, Odd, opponent, parity, playerOf}
@@ -24,10 +25,12 @@ use Rattle.theory.specs.Tables.{accepted-sound, accepted-few}
 use Rattle.area.specs.Area.{entries, free, wordsAt, setAt}
 use Rattle.attractor.specs.Attracted.{Attractable, Attracted, listed-kept, edges-sound}
 use Rattle.area.specs.Lent.{part-is, part-length}
+use Rattle.priority_sets.specs.Sorting.{setOfPriority, Placeable, set-room}
+use Rattle.priority_sets.specs.Meeting.{Meets, Met, met-set}
+use Rattle.successors.specs.Lowest.{lowestEnd}
 use Rattle.area.specs.SetsAt.{set-kept, set-cleared, set-copied, set-copied-here, set-united, set-reduced}
 use Rattle.zielonka_level.specs.Level.{nextLevel, wonPlace, onLevel, drawnAt, wonAt, entriesOf, Called, Stays}
-use Rattle.zielonka_level.specs.Steps.{CutBy, AllAt, JoinedAt, stays-on, level-stays, cut-over}
-use Rattle.zielonka_level.specs.Parts.{Collects, Collected}
+use Rattle.zielonka_level.specs.Steps.{CutBy, AllAt, JoinedAt, stays-on, sorted-kept, level-stays, cut-over}
 use Rattle.zielonka_level.specs.Extending.{Extends, Extended}
 use Rattle.zielonka_level.specs.Pieces.{Ready, Cuttable, Losable}
 
@@ -45,10 +48,6 @@ apart-cleared h c = record { long = c .long; low = λ i l. c .rest i (inl (omega
 
 pub apart-combined : {k into from s : ℕ} {f : ℕ → ℕ → ℕ} {x y : List ℕ} → k ≤ into → Combined f into from s x y → Apart k x y
 apart-combined h c = record { long = c .long; low = λ i l. c .rest i (inl (omega arith)) }
-
-pub apart-collected :
-    {k p within into : ℕ} {priorities x y : List ℕ} → k ≤ into → Collected priorities p within into x y → Apart k x y
-apart-collected h c = record { long = c .long; low = λ i l. c .rest i (inl (omega arith)) }
 
 module _ (t : Tables) {base k : ℕ} {x y : List ℕ}
     (low : free (vertices t) (edgesIn t) ≤ base)
@@ -72,7 +71,9 @@ called-stays {t} {base} {x} {y} stays c =
     record {
       accepted = c .accepted;
       table = listed-kept (vertices t) (t .offsets) (t .targets) x y (stays .long) (stays .table) (c .table);
+      sorted = sorted-kept t base x y (c .above) (stays .lower) (c .sorted);
       low = c .low;
+      above = c .above;
       room = rw (fun-ext same) (omega (arith, stays .long, c .room));
       below = λ v p. c .below v (sym (same v) ∙ p);
       total = subst (λ (S : Set). TotalIn (gameOf t) S) (sym (fun-ext same)) (c .total);
@@ -236,69 +237,67 @@ opponent-number p = other-number (p % 2) (omega arith)
 
 -- ---- the first cut
 
-module _ {t : Tables} {s base : ℕ} {w₀ w₁ : List ℕ} (ready : Ready t s base w₀) (cleared : Cleared (base + s) s w₀ w₁) where
+-- in a set of vertices below n, "is below n and has priority p" is "has priority p"
+both-tests : (n : ℕ) (x : Bool) (v p q : ℕ) → (x ≡ true → v < n) → (x && (ltb v n && eqb q p)) ≡ (x && eqb q p)
+both-tests n true v p q h = rw (lt-ltb v n (h refl)) refl
+both-tests n false v p q h = refl
+
+module _ {t : Tables} {p s base : ℕ} {w₀ : List ℕ} (ready : Ready t s base w₀) (small : p < 256) where
   size : s ≡ words (vertices t)
   size = ready .size
 
-  long : length (t .priorities) ≡ vertices t
-  long = accepted-sound t (ready .called .accepted) .priority-each
+  -- where the set of priority p stands, and that it stands below V
+  pub highest-placed : Placeable (vertices t) (edgesIn t) s p
+  highest-placed =
+      let sound = accepted-sound t (ready .called .accepted) in
+      record { size = size; few = sound .few-vertices; few-edges = sound .few-edges; small = small }
 
-  stays₁ : Stays t base w₀ w₁
-  stays₁ = apart-stays t (ready .called .low) (omega (arith, size)) (apart-cleared {k = base + s} (omega arith) cleared)
-
-  -- what `collect` asks for
-  pub highest-collects : Collects (length (t .priorities)) s base (base + s) w₁
-  highest-collects =
-      rw long
-      (record {
-        size = size;
-        few = accepted-sound t (ready .called .accepted) .few-vertices;
-        parts =
-            record {
-              into-fits = omega (arith, size, ready .high, cleared .long);
-              from-fits = omega (arith, size, ready .high, cleared .long);
-              apart = inr (omega (arith, size));
-            };
-        below = called-stays stays₁ (ready .called) .below;
-        nothing = set-cleared (vertices t) (base + s) s (base + s) cleared (omega arith) (omega (arith, size));
-      })
-
-  module _ {p : ℕ} {w₂ : List ℕ} (collected : Collected (t .priorities) p base (base + s) w₁ w₂) where
-    stays₂ : Stays t base w₀ w₂
-    stays₂ =
-        apart-stays t (ready .called .low) (omega (arith, size))
-        (apart-then (apart-cleared {k = base + s} (omega arith) cleared) (apart-collected (omega arith) collected))
-
-    level₂ : (v : ℕ) → onLevel t base w₂ v ≡ onLevel t base w₀ v
-    level₂ = level-stays (ready .called .low) stays₂
-
-    -- U stands in the attractor's place
-    top-set : (v : ℕ) → drawnAt t base w₂ v ≡ withPriority (gameOf t) (onLevel t base w₀) p v
-    unfolding gameOf
-    top-set v =
-        (rw (long, size) at (collected .set v)) ∙
-        ap (λ (b : Bool). b && eqb (getD (t .priorities) v 0) p) (level-stays (ready .called .low) stays₁ v)
-
-    -- what the cut asks for
-    pub highest-cuttable : Cuttable (t .owners) (t .offsets) (t .targets) (p % 2) s base w₂
-    highest-cuttable =
+  module _ {of : ℕ} (place : of ≡ setOfPriority (words (vertices t)) (free (vertices t) (edgesIn t)) p) where
+    pub highest-meets : Meets (base + s) base of s w₀
+    highest-meets =
+        let room = set-room (words (vertices t)) (free (vertices t) (edgesIn t)) p small in
         record {
-          priorities = t .priorities;
-          ready = ready-stays stays₂ ready;
-          player = omega arith;
-          part = λ v q. level₂ v ∙ and-left (onLevel t base w₀ v) (eqb (gameOf t .priority v) p) (sym (top-set v) ∙ q);
+          one-below = omega arith;
+          other-below = omega (arith, size, ready .called .above);
+          high = omega (arith, ready .high);
         }
 
-    -- **The first cut is made.**
-    pub highest-made :
-        {w₃ : List ℕ} →
-        CutBy t (parity p) base (onLevel t base w₂) (drawnAt t base w₂) w₂ w₃ →
-        CutBy t (parity p) base (onLevel t base w₀) (withPriority (gameOf t) (onLevel t base w₀) p) w₀ w₃
-    highest-made k =
-        cut-from stays₂
-        (apart-entries t (ready .called .low) (omega (arith, size))
-        (apart-then (apart-cleared {k = base + s} (omega arith) cleared) (apart-collected (omega arith) collected)))
-        (cut-over level₂ top-set k)
+    module _ {w₁ : List ℕ} (met : Met (base + s) base of s w₀ w₁) where
+      apart-met : Apart (base + s) w₀ w₁
+      apart-met = record { long = met .long; low = λ i l. met .rest i (inl l) }
+
+      stays₁ : Stays t base w₀ w₁
+      stays₁ = apart-stays t (ready .called .low) (omega (arith, size)) apart-met
+
+      level₁ : (v : ℕ) → onLevel t base w₁ v ≡ onLevel t base w₀ v
+      level₁ = level-stays (ready .called .low) stays₁
+
+      -- U stands in the attractor's place
+      top-set : (v : ℕ) → drawnAt t base w₁ v ≡ withPriority (gameOf t) (onLevel t base w₀) p v
+      unfolding gameOf
+      top-set v =
+          met-set (vertices t) (rw size at met) v ∙
+          ap (λ (k : ℕ). onLevel t base w₀ v && setAt (vertices t) k w₀ v) place ∙
+          ap (λ (b : Bool). onLevel t base w₀ v && b) (ready .called .sorted p v small) ∙
+          both-tests (vertices t) (onLevel t base w₀ v) v p (getD (t .priorities) v 0) (ready .called .below v)
+
+      -- what the cut asks for
+      pub highest-cuttable : Cuttable (t .owners) (t .offsets) (t .targets) (p % 2) s base w₁
+      highest-cuttable =
+          record {
+            priorities = t .priorities;
+            ready = ready-stays stays₁ ready;
+            player = omega arith;
+            part = λ v q. level₁ v ∙ and-left (onLevel t base w₀ v) (eqb (gameOf t .priority v) p) (sym (top-set v) ∙ q);
+          }
+
+      -- **The first cut is made.**
+      pub highest-made :
+          {w₂ : List ℕ} →
+          CutBy t (parity p) base (onLevel t base w₁) (drawnAt t base w₁) w₁ w₂ →
+          CutBy t (parity p) base (onLevel t base w₀) (withPriority (gameOf t) (onLevel t base w₀) p) w₀ w₂
+      highest-made k =
+          cut-from stays₁ (apart-entries t (ready .called .low) (omega (arith, size)) apart-met) (cut-over level₁ top-set k)
 
 -- ---- the second cut
 
@@ -399,38 +398,65 @@ won-offset :
 won-offset s base Even = (0, omega arith, omega arith, omega arith)
 won-offset s base Odd = (s, omega arith, omega arith, omega arith)
 
-module _ {t : Tables} {s base : ℕ} (p : ℕ) {place : ℕ} {w₀ w₁ w₂ : List ℕ}
+-- the numbers 0 and 1 stand for different players
+player-number : (a b : ℕ) → a ≤ 1 → b ≤ 1 → playerOf a ≡ playerOf b → a ≡ b
+player-number zero zero h k e = refl
+player-number zero (suc b) h k e = let z : _≡_ {A = ℕ} 0 1 = cc in absurd (omega arith)
+player-number (suc a) zero h k e = let z : _≡_ {A = ℕ} 0 1 = cc in absurd (omega arith)
+player-number (suc a) (suc b) h k e = omega arith
+
+module _ {t : Tables} {s base : ℕ} (p : ℕ) {of place : ℕ} {w₀ w₁ w₂ w₃ : List ℕ}
     (ready : Ready t s base w₀)
+    (small : p < 256)
+    (from : of ≡ setOfPriority (words (vertices t)) (free (vertices t) (edgesIn t)) p)
+    (met : Met (base + s) base of s w₀ w₁)
     (there : place ≡ wonPlace s base (parity p))
-    (cleared : Cleared (base + 2 * s) (2 * s) w₀ w₁)
-    (copied : Combined other place base s w₁ w₂)
+    (cleared : Cleared (base + 2 * s) (2 * s) w₁ w₂)
+    (copied : Combined other place base s w₂ w₃)
   where
     size₂ : s ≡ words (vertices t)
     size₂ = ready .size
 
-    apart₂ : Apart (base + s) w₀ w₂
+    -- V and U stand below the sets that are won
+    apart₂ : Apart (base + 2 * s) w₁ w₃
     apart₂ =
         let range = won-range s base (parity p) in
         apart-then (apart-cleared (omega arith) cleared) (apart-combined (omega arith) copied)
 
-    stays-all : Stays t base w₀ w₂
-    stays-all = apart-stays t (ready .called .low) (omega (arith, size₂)) apart₂
+    apart₃ : Apart (base + s) w₀ w₃
+    apart₃ =
+        apart-then (apart-met ready small from met)
+        (record { long = apart₂ .long; low = λ i l. apart₂ .low i (omega arith) })
+
+    stays-all : Stays t base w₀ w₃
+    stays-all = apart-stays t (ready .called .low) (omega (arith, size₂)) apart₃
+
+    level-all : (v : ℕ) → onLevel t base w₃ v ≡ onLevel t base w₀ v
+    level-all = level-stays (ready .called .low) stays-all
+
+    -- U is still there
+    top-all : (v : ℕ) → setAt (vertices t) (base + s) w₃ v ≡ withPriority (gameOf t) (onLevel t base w₀) p v
+    top-all v =
+        set-kept (vertices t) (base + s) w₁ w₃ (λ i l h. apart₂ .low i (omega (arith, size₂))) v ∙
+        ap (λ (k : ℕ). setAt (vertices t) (base + k) w₁ v) size₂ ∙
+        top-set ready small from met v
 
     -- what the walk asks for
-    pub all-extends : Extends t s base w₂
+    pub all-extends : Extends (t .owners) (t .offsets) (t .targets) s base w₃
     all-extends =
-        let called = called-stays stays-all (ready .called) in
         record {
-          accepted = called .accepted;
           size = size₂;
-          low = called .low;
-          high = omega (arith, size₂, ready .high, stays-all .long);
-          below = called .below;
-          total = called .total;
+          few = accepted-sound t (ready .called .accepted) .few-vertices;
+          edges = edges-sound t (ready .called .accepted);
+          low = ready .called .low;
+          high = omega (arith, ready .high, stays-all .long);
+          below =
+              λ v q.
+              ready .called .below v (and-left (onLevel t base w₀ v) (eqb (gameOf t .priority v) p) (sym (top-all v) ∙ q));
         }
 
-    module _ {w₃ : List ℕ} (extended : Extended t p base w₂ w₃) where
-      stays-last : Stays t base w₂ w₃
+    module _ {w₄ : List ℕ} (extended : Extended (t .owners) (t .offsets) (t .targets) p s base w₃ w₄) where
+      stays-last : Stays t base w₃ w₄
       stays-last =
           record {
             long = extended .long;
@@ -438,36 +464,58 @@ module _ {t : Tables} {s base : ℕ} (p : ℕ) {place : ℕ} {w₀ w₁ w₂ : L
             lower = λ i l h. extended .rest i (inr (omega arith));
           }
 
-      level-all : (v : ℕ) → onLevel t base w₂ v ≡ onLevel t base w₀ v
-      level-all = level-stays (ready .called .low) stays-all
-
-      won-kept : (c : Player) (v : ℕ) → wonAt t base w₃ c v ≡ wonAt t base w₂ c v
+      won-kept : (c : Player) (v : ℕ) → wonAt t base w₄ c v ≡ wonAt t base w₃ c v
       won-kept c =
           let range = won-range (words (vertices t)) base c in
-          set-kept (vertices t) (wonPlace (words (vertices t)) base c) w₂ w₃
+          set-kept (vertices t) (wonPlace (words (vertices t)) base c) w₃ w₄
           (λ i l h. extended .rest i (inr (omega (arith, ready .called .low))))
 
       place-is : place ≡ wonPlace (words (vertices t)) base (parity p)
       place-is = there ∙ ap (λ (k : ℕ). wonPlace k base (parity p)) size₂
 
+      -- V when the sets were cleared
+      level₂ : (v : ℕ) → onLevel t base w₂ v ≡ onLevel t base w₀ v
+      level₂ =
+          level-stays (ready .called .low)
+          (apart-stays t (ready .called .low) (omega (arith, size₂))
+          (apart-then (apart-met ready small from met) (apart-cleared {k = base + s} (omega arith) cleared)))
+
+      -- p's player owns v
+      mine-number : (v : ℕ) → v < vertices t → gameOf t .owner v ≡ parity p → getD (t .owners) v 0 ≡ p % 2
+      unfolding gameOf
+      mine-number v l e =
+          player-number (getD (t .owners) v 0) (p % 2) (accepted-sound t (ready .called .accepted) .owner-small v l)
+          (omega arith)
+          e
+
+      number-mine : (v : ℕ) → getD (t .owners) v 0 ≡ p % 2 → gameOf t .owner v ≡ parity p
+      unfolding gameOf
+      number-mine v e = ap playerOf e
+
+      -- the lowest-numbered successor
+      lowest-is :
+          (v : ℕ) →
+          lowestEnd (vertices t) (t .offsets) (t .targets) v (wordsAt (vertices t) base w₃) ≡
+          lowestIn (gameOf t) (onLevel t base w₃) v
+      unfolding gameOf lowestIn
+      lowest-is v = refl
+
       -- **p's player wins everything.**
-      pub all-made : AllAt t p base w₀ w₃
+      pub all-made : AllAt t p base w₀ w₄
       all-made =
           record {
             stays = stays-on stays-all stays-last;
             mine =
                 λ v.
                 won-kept (parity p) v ∙
-                ap (λ (k : ℕ). setAt (vertices t) k w₂ v) (sym place-is) ∙
-                set-copied-here (vertices t) place base w₁ w₂ (rw size₂ at copied) v ∙
-                level-stays (ready .called .low)
-                (apart-stays t (ready .called .low) (omega (arith, size₂)) (apart-cleared {k = base + s} (omega arith) cleared))
-                v;
+                ap (λ (k : ℕ). setAt (vertices t) k w₃ v) (sym place-is) ∙
+                set-copied-here (vertices t) place base w₂ w₃ (rw size₂ at copied) v ∙
+                level₂ v;
             theirs =
                 λ v.
                 let range = won-range (words (vertices t)) base (opponent (parity p)) in
                 won-kept (opponent (parity p)) v ∙
-                set-kept (vertices t) (wonPlace (words (vertices t)) base (opponent (parity p))) w₁ w₂
+                set-kept (vertices t) (wonPlace (words (vertices t)) base (opponent (parity p))) w₂ w₃
                 (λ i l h. copied .rest i (beside i l h (won-apart (words (vertices t)) base (parity p))))
                 v ∙
                 set-cleared (vertices t) (base + 2 * s) (2 * s) (wonPlace (words (vertices t)) base (opponent (parity p))) cleared
@@ -476,13 +524,14 @@ module _ {t : Tables} {s base : ℕ} (p : ℕ) {place : ℕ} {w₀ w₁ w₂ : L
                 v;
             chosen =
                 λ v u mine.
-                extended .chosen v (ap (λ (b : Bool). b && eqb (gameOf t .priority v) p) (level-all v) ∙ u, mine) ∙
+                let l = ready .called .below v (and-left (onLevel t base w₀ v) (eqb (gameOf t .priority v) p) u) in
+                extended .chosen v (top-all v ∙ u, mine-number v l mine) ∙
+                lowest-is v ∙
                 ap (λ (S : Set). lowestIn (gameOf t) S v) (fun-ext level-all);
             kept =
                 λ v l d.
-                extended .kept v l
-                (λ u. d (ap (λ (b : Bool). b && eqb (gameOf t .priority v) p) (sym (level-all v)) ∙ u .0) (u .1)) ∙
-                apart-entries t (ready .called .low) (omega (arith, size₂)) apart₂ v l;
+                extended .kept v l (λ u. d (sym (top-all v) ∙ u .0) (number-mine v (u .1))) ∙
+                apart-entries t (ready .called .low) (omega (arith, size₂)) apart₃ v l;
           }
         where
           beside :

@@ -8,7 +8,7 @@ use native.Mathlib.Nat.{mul-le-mul-left, mul-add, mul-one}
 use native.Mathlib.Numerals.{add-one}
 use native.Mathlib.Omega.{arith}
 use lib.Dec.{eqb}
-use lib.ListN.{length}
+use lib.ListN.{length, getD}
 use Rattle.rules.specs.Counting.{Set, count, union}
 use Rattle.rules.specs.Game.{Player, opponent, Game, Edge, parity}
 use Rattle.rules.specs.Tables.{Tables, gameOf, vertices, edgesIn, words}
@@ -24,7 +24,8 @@ use Rattle.theory.specs.Run.{cut-inside, cut-total, cut-fewer, first-fewer}
 use Rattle.theory.specs.RunSame.{Needs, needs-one, needs-first, needs-both}
 use Rattle.theory.specs.RunSound.{run-sound}
 use Rattle.area.specs.SetsAt.{set-kept}
-use Rattle.zielonka_level.specs.Level.{nextLevel, onLevel, drawnAt, wonAt, entriesOf, Called, Stays, Done, Over}
+use Rattle.priority_sets.specs.Sorting.{sets-stay}
+use Rattle.zielonka_level.specs.Level.{nextLevel, onLevel, drawnAt, wonAt, entriesOf, SortedIn, Called, Stays, Done, Over}
 
 -- the attractor S of T in V for player c is drawn, and V without S stands at the next level
 pub record CutBy (t : Tables) (c : Player) (base : ℕ) (V' T : Set) (before after : List ℕ) : Type 0 where
@@ -84,6 +85,17 @@ pub stays-next :
     {t : Tables} {base : ℕ} {w₀ w₁ : List ℕ} → Stays t (nextLevel (words (vertices t)) base) w₀ w₁ → Stays t base w₀ w₁
 stays-next a = record { long = a .long; table = a .table; lower = λ i l h. a .lower i l (omega arith) }
 
+-- the sets of the priorities stand below every level, so they stay
+pub sorted-kept :
+    (t : Tables) (base : ℕ) (before after : List ℕ) →
+    free (vertices t) (edgesIn t) + 256 * words (vertices t) ≤ base →
+    ((i : ℕ) → free (vertices t) (edgesIn t) ≤ i → i < base + words (vertices t) → getD after i 0 ≡ getD before i 0) →
+    SortedIn t before →
+    SortedIn t after
+sorted-kept t base before after above lower =
+    sets-stay (vertices t) (t .priorities) (vertices t) (free (vertices t) (edgesIn t)) before after
+    (λ i l h. lower i l (omega arith))
+
 -- V stays
 pub level-stays :
     {t : Tables} {base : ℕ} {before after : List ℕ} →
@@ -140,7 +152,11 @@ module _ {t : Tables} {base : ℕ} {w₀ : List ℕ} (called : Called t base w�
         table =
             let on = stays-on stays (k .stays) in
             listed-kept (vertices t) (t .offsets) (t .targets) w₀ w′ (on .long) (on .table) (called .table);
+        sorted =
+            let on = stays-on stays (k .stays) in
+            sorted-kept t base w₀ w′ (called .above) (on .lower) (called .sorted);
         low = let low = called .low in omega arith;
+        above = let above = called .above in omega arith;
         room =
             let long = stays .long in
             let long′ = k .stays .long in

@@ -9,7 +9,6 @@ ghost use lib.ListN.{length};
 ghost use Rattle.rules.specs.Words.{setOf};
 ghost use Rattle.zielonka_level.specs.Parts.{highestOf, SearchableTo, Collects, Collected};
 ghost use Rattle.zielonka_level.specs.Extending.{Extends, Extended};
-ghost use Rattle.rules.specs.Tables.{tablesOf};
 
 // The number before p, or 0.
 pub fn one_less(p: usize) -> usize
@@ -62,11 +61,10 @@ pub fn collect(priorities: &[u16], p: usize, s: usize, work: &mut [u64], within:
     }
 }
 
-// The Rust's `extend_arbitrary`: each vertex of V of priority p that p's player owns takes an edge inside V. Here it is
-// the lowest-numbered successor, so that the choice is the same each time.
+// The Rust's `extend_arbitrary`: each vertex of U that p's player owns takes an edge inside V. Here it is the
+// lowest-numbered successor, so that the choice is the same each time. U stands behind V.
 pub fn extend_lowest(
     owners: &[u8],
-    priorities: &[u16],
     offsets: &[u16],
     targets: &[u16],
     p: usize,
@@ -74,26 +72,24 @@ pub fn extend_lowest(
     work: &mut [u64],
     base: usize,
 )
-    requires { ⌜ Extends (tablesOf (now owners) (now priorities) (now offsets) (now targets)) s base (now work) ⌝ }
+    requires { ⌜ Extends (now owners) (now offsets) (now targets) s base (now work) ⌝ }
     ensures { λ r.
-        ⌜ Extended
-        (tablesOf (now (owners .entry)) (now (priorities .entry)) (now (offsets .entry)) (now (targets .entry)))
-        p base (now (work .entry)) (now (work .exit)) ⌝ }
+        ⌜ Extended (now (owners .entry)) (now (offsets .entry)) (now (targets .entry)) p s base
+        (now (work .entry)) (now (work .exit)) ⌝ }
 {
     let n = owners.len();
     let m = targets.len();
-    let mut walk = Members::new(&work[base..base + s]);
+    let from = base + s;
+    let mut walk = Members::new(&work[from..from + s]);
     loop {
-        let next = walk.next(&work[base..base + s]);
+        let next = walk.next(&work[from..from + s]);
         let Next::Member(member, rest) = next else {
             return;
         };
         let v = member.0;
-        if priorities[v] as usize == p {
-            if owners[v] as usize == p % 2 {
-                let w = lowest_inside(n, offsets, targets, v, &work[base..base + s]);
-                work[n + 1 + m + n + n + v] = w;
-            }
+        if owners[v] as usize == p % 2 {
+            let w = lowest_inside(n, offsets, targets, v, &work[base..base + s]);
+            work[n + 1 + m + n + n + v] = w;
         }
         walk = rest;
     }

@@ -1,6 +1,5 @@
 // The pieces of a call, over the four sets of its level: V at `base`, then the attractor, then what Even and Odd win.
 // The next level begins after them. `s` is the words of a set, `p` the highest priority in V.
-use crate::highest::collect;
 use crate::highest::extend_lowest;
 ghost use mathlib.Core.List.{List};
 ghost use mathlib.Core.Bool.{not};
@@ -15,7 +14,7 @@ ghost use Rattle.rules.specs.Zielonka.{withPriority};
 ghost use Rattle.area.specs.Area.{free};
 ghost use Rattle.zielonka_level.specs.Level.{nextLevel, wonPlace, onLevel, drawnAt, wonAt};
 ghost use Rattle.zielonka_level.specs.Steps.{CutBy, AllAt, JoinedAt};
-ghost use Rattle.zielonka_level.specs.Pieces.{Ready, Cuttable, Losable};
+ghost use Rattle.zielonka_level.specs.Pieces.{Ready, Sorted, Cuttable, Losable};
 
 // Where the set that a player wins stands at a level; 0 is Even.
 fn won_at(base: usize, s: usize, player: usize) -> usize
@@ -59,7 +58,6 @@ fn cut(
 // U: the vertices of V with priority p; A: the attractor of U for p's player. V without A goes to the next level.
 pub fn attract_highest(
     owners: &[u8],
-    priorities: &[u16],
     offsets: &[u16],
     targets: &[u16],
     p: usize,
@@ -67,20 +65,23 @@ pub fn attract_highest(
     work: &mut [u64],
     base: usize,
 )
-    requires { ⌜ Ready (tablesOf (now owners) (now priorities) (now offsets) (now targets)) s base (now work) ⌝ }
+    requires { ⌜ Sorted (now owners) (now offsets) (now targets) p s base (now work) ⌝ }
     ensures { λ r.
-        ⌜ CutBy (tablesOf (now (owners .entry)) (now (priorities .entry)) (now (offsets .entry))
-        (now (targets .entry))) (parity p) base
-        (onLevel (tablesOf (now (owners .entry)) (now (priorities .entry)) (now (offsets .entry))
-        (now (targets .entry))) base (now (work .entry)))
-        (withPriority (gameOf (tablesOf (now (owners .entry)) (now (priorities .entry)) (now (offsets .entry))
+        ⌜ ((priorities : List ℕ) →
+        Ready (tablesOf (now (owners .entry)) priorities (now (offsets .entry)) (now (targets .entry))) s base
+        (now (work .entry)) →
+        CutBy (tablesOf (now (owners .entry)) priorities (now (offsets .entry)) (now (targets .entry)))
+        (parity p) base
+        (onLevel (tablesOf (now (owners .entry)) priorities (now (offsets .entry)) (now (targets .entry))) base
+        (now (work .entry)))
+        (withPriority (gameOf (tablesOf (now (owners .entry)) priorities (now (offsets .entry))
         (now (targets .entry))))
-        (onLevel (tablesOf (now (owners .entry)) (now (priorities .entry)) (now (offsets .entry))
-        (now (targets .entry))) base (now (work .entry))) p)
-        (now (work .entry)) (now (work .exit)) ⌝ }
+        (onLevel (tablesOf (now (owners .entry)) priorities (now (offsets .entry)) (now (targets .entry))) base
+        (now (work .entry))) p)
+        (now (work .entry)) (now (work .exit))) ⌝ }
 {
-    sets::clear(work, base + s, s);
-    collect(priorities, p, s, work, base, base + s);
+    let of = priority_sets::set_at(owners.len(), targets.len(), s, p);
+    priority_sets::meet(work, base + s, base, of, s);
     cut(owners, offsets, targets, (p % 2) as u8, s, work, base);
 }
 
@@ -123,10 +124,10 @@ pub fn lost_nothing(p: usize, s: usize, work: &[u64], base: usize) -> bool
     sets::is_empty(&work[lost..lost + s])
 }
 
-// p's player wins V, and its vertices of priority p take their lowest-numbered successor in V.
+// p's player wins V, and its vertices of priority p take their lowest-numbered successor in V. They are put in the
+// attractor's place, which is free now.
 pub fn win_everything(
     owners: &[u8],
-    priorities: &[u16],
     offsets: &[u16],
     targets: &[u16],
     p: usize,
@@ -134,16 +135,20 @@ pub fn win_everything(
     work: &mut [u64],
     base: usize,
 )
-    requires { ⌜ Ready (tablesOf (now owners) (now priorities) (now offsets) (now targets)) s base (now work) ⌝ }
+    requires { ⌜ Sorted (now owners) (now offsets) (now targets) p s base (now work) ⌝ }
     ensures { λ r.
-        ⌜ AllAt (tablesOf (now (owners .entry)) (now (priorities .entry)) (now (offsets .entry))
-        (now (targets .entry))) p base
-        (now (work .entry)) (now (work .exit)) ⌝ }
+        ⌜ ((priorities : List ℕ) →
+        Ready (tablesOf (now (owners .entry)) priorities (now (offsets .entry)) (now (targets .entry))) s base
+        (now (work .entry)) →
+        AllAt (tablesOf (now (owners .entry)) priorities (now (offsets .entry)) (now (targets .entry))) p base
+        (now (work .entry)) (now (work .exit))) ⌝ }
 {
+    let of = priority_sets::set_at(owners.len(), targets.len(), s, p);
+    priority_sets::meet(work, base + s, base, of, s);
     sets::clear(work, base + 2 * s, 2 * s);
     let won = won_at(base, s, p % 2);
     sets::copy_with(work, won, base, s);
-    extend_lowest(owners, priorities, offsets, targets, p, s, work, base);
+    extend_lowest(owners, offsets, targets, p, s, work, base);
 }
 
 // Each player wins what it won at the next level, and the opponent of p's player B too.

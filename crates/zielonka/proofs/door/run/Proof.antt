@@ -10,7 +10,7 @@ use Rattle.theory.specs.Tables.{accepted-sound}
 use Rattle.area.specs.Area.{layers, free}
 use Rattle.area.specs.Lent.{words-few}
 use Rattle.zielonka_level.specs.Level.{Done}
-use Rattle.zielonka.specs.Solving.{run-preparable, run-called, run-over-budget, run-calls, run-found}
+use Rattle.zielonka.specs.Solving.{run-preparable, run-sortable, run-called, run-over-budget, run-calls, run-found}
 use Rattle.solver.specs.Outputs.{Found, found-writable, found-finished}
 use Rattle.sets.specs.Laws.{cleared-all}
 use borrow.Author.Needs.{needs}
@@ -20,16 +20,25 @@ use Rattle.zielonka.proofs.door.run.Tie as tie
 abbrev tables : tie.Start → Tables
 tables g = tablesOf (g .args .owners .now) (g .args .priorities .now) (g .args .offsets .now) (g .args .targets .now)
 
--- the words of a set are known: where the function began, and where the first level stands
+-- the words of a set are known: where the function began, and where the sets of the priorities and the first level stand
 abbrev began : tie.After-set-words → tie.Start
 began z = z .before .before .before .before .before .before .before .before .before
 
-abbrev base : tie.After-set-words → ℕ
-base z =
+abbrev sets-at : tie.After-set-words → ℕ
+sets-at z =
     let a = began z .args in
     layers (length (a .owners .now)) (length (a .targets .now)) + 2 * (z .set-words .result + 1) + z .set-words .result
 
-first : (z : tie.After-set-words) → let a = began z .args in base z ≡ free (length (a .owners .now)) (length (a .targets .now))
+abbrev base : tie.After-set-words → ℕ
+base z = sets-at z + 256 * z .set-words .result
+
+here : (z : tie.After-set-words) → let a = began z .args in sets-at z ≡ free (length (a .owners .now)) (length (a .targets .now))
+here z = omega (arith, z .set-words .ensures)
+
+first :
+    (z : tie.After-set-words) →
+    let n = length (began z .args .owners .now) in
+    base z ≡ free n (length (began z .args .targets .now)) + 256 * words n
 first z = omega (arith, z .set-words .ensures)
 
 -- there are few vertices, edges and words
@@ -42,8 +51,11 @@ few g =
     (f .few-vertices, f .few-edges, words-few (length (g .args .owners .now)) (f .few-vertices))
 
 -- the recursion has ended: where each call before it stands, and the work area then
+abbrev sorted : tie.After-zielonka-rec → tie.After-sort
+sorted r = r .before .before .before .before
+
 abbrev prepared : tie.After-zielonka-rec → tie.After-prepare
-prepared r = r .before .before .before .before
+prepared r = sorted r .before .before .before .before
 
 abbrev sized : tie.After-zielonka-rec → tie.After-set-words
 sized r = prepared r .before .before
@@ -55,7 +67,7 @@ abbrev left : tie.After-zielonka-rec → List ℕ
 left r = r .zielonka-rec .last .1 .1 .1 .1 .0
 
 kept-long : (r : tie.After-zielonka-rec) → length (left r) ≡ length (start r .args .work .now)
-kept-long r = r .zielonka-rec .kept .1 .1 .1 .1 .0 ∙ prepared r .prepare .ensures .long
+kept-long r = r .zielonka-rec .kept .1 .1 .1 .1 .0 ∙ sorted r .sort .ensures .long ∙ prepared r .prepare .ensures .long
 
 -- within the budget it has found what is to be written
 abbrev ended : tie.Else1 → tie.After-zielonka-rec
@@ -65,7 +77,7 @@ done :
     (d : tie.Else1) →
     let r = ended d in
     let g = start r in
-    Done (tables g) (base (sized r)) 0 (g .args .budget) (r .zielonka-rec .result) (prepared r .prepare .last .1 .1 .1 .1 .0) (left r)
+    Done (tables g) (base (sized r)) 0 (g .args .budget) (r .zielonka-rec .result) (sorted r .sort .last .1 .1 .0) (left r)
 done d = ended d .zielonka-rec .ensures .done (omega (arith, d .if1 .left))
 
 found :
@@ -78,8 +90,11 @@ found :
 found d =
     let r = ended d in
     let g = start r in
-    run-found (tables g) (g .pre .0 .accepted) (g .args .work .now) (g .pre .0 .room) (first (sized r)) (prepared r .prepare .ensures)
-    (done d) (sized r .set-words .ensures)
+    run-found (tables g) (g .pre .0 .accepted) (g .args .work .now) (g .pre .0 .room) (here (sized r)) (first (sized r))
+    (prepared r .prepare .ensures)
+    (sorted r .sort .ensures)
+    (done d)
+    (sized r .set-words .ensures)
 
 set-words-requires : tie.Need-set-words-requires
 set-words-requires c κs = search needs
@@ -96,33 +111,52 @@ add-entries-3 c = search needs
 add-entries-4 : tie.Need-add-entries-4
 add-entries-4 c = search needs
 
-add-base : tie.Need-add-base
-add-base c = omega (arith, few (began c))
+add-first : tie.Need-add-first
+add-first c = omega (arith, few (began c))
 
-add-base-2 : tie.Need-add-base-2
-add-base-2 c = omega (arith, few (began c), c .set-words .ensures)
+add-first-2 : tie.Need-add-first-2
+add-first-2 c = omega (arith, few (began c), c .set-words .ensures)
+
+mul-first : tie.Need-mul-first
+mul-first c = omega (arith, few (began c), c .set-words .ensures)
+
+add-first-3 : tie.Need-add-first-3
+add-first-3 c = omega (arith, few (began c), c .set-words .ensures)
+
+add-first-4 : tie.Need-add-first-4
+add-first-4 c = omega (arith, few (began c), c .set-words .ensures)
 
 mul-base : tie.Need-mul-base
 mul-base c = omega (arith, few (began c), c .set-words .ensures)
 
-add-base-3 : tie.Need-add-base-3
-add-base-3 c = omega (arith, few (began c), c .set-words .ensures)
-
-add-base-4 : tie.Need-add-base-4
-add-base-4 c = omega (arith, few (began c), c .set-words .ensures)
+add-base : tie.Need-add-base
+add-base c = omega (arith, few (began c), c .set-words .ensures)
 
 prepare-requires : tie.Need-prepare-requires
 prepare-requires c κs =
     let z = c .before in
     let g = began z in
-    run-preparable (tables g) (g .pre .0 .accepted) (g .args .work .now) (g .pre .0 .room) (first z) (z .set-words .ensures)
+    run-preparable (tables g) (g .pre .0 .accepted) (g .args .work .now) (g .pre .0 .room) (here z) (first z)
+    (z .set-words .ensures)
 
-zielonka-rec-requires : tie.Need-zielonka-rec-requires
-zielonka-rec-requires c κs =
+sort-requires : tie.Need-sort-requires
+sort-requires c κs =
     let d = c .before .before .before in
     let z = d .before .before in
     let g = began z in
-    run-called (tables g) (g .pre .0 .accepted) (g .args .work .now) (g .pre .0 .room) (first z) (d .prepare .ensures) (g .pre .1)
+    run-sortable (tables g) (g .pre .0 .accepted) (g .args .work .now) (g .pre .0 .room) (here z) (first z)
+    (z .set-words .ensures)
+    (d .prepare .ensures)
+
+zielonka-rec-requires : tie.Need-zielonka-rec-requires
+zielonka-rec-requires c κs =
+    let e = c .before .before .before in
+    let d = e .before .before .before .before in
+    let z = d .before .before in
+    let g = began z in
+    run-called (tables g) (g .pre .0 .accepted) (g .args .work .now) (g .pre .0 .room) (here z) (first z) (d .prepare .ensures)
+    (e .sort .ensures)
+    (g .pre .1)
 
 clear-requires : tie.Need-clear-requires
 clear-requires c κs = search needs
@@ -137,8 +171,9 @@ returns c =
       cleared-all (g .args .work .now) (left r) (kept-long r) (c .before .before .clear .ensures),
       record {
         over =
-            run-over-budget (tables g) (g .pre .0 .accepted) (g .args .work .now) (g .pre .0 .room) (first (sized r))
-            (prepared r .prepare .ensures)
+            run-over-budget (tables g) (g .pre .0 .accepted) (g .args .work .now) (g .pre .0 .room) (here (sized r))
+            (first (sized r))
+            (prepared r .prepare .ensures) (sorted r .sort .ensures)
             (r .zielonka-rec .ensures .over (c .before .before .before .before .if1 .taken));
         same = refl;
       },
@@ -179,8 +214,8 @@ returns-2 c =
     let g = start r in (
       cleared-all (g .args .work .now) (left r) (kept-long r) (c .before .before .clear2 .ensures),
       found-finished (found d) (g .pre .0 .strategy-size) (written .write-out .ensures)
-          (run-calls (tables g) (g .pre .0 .accepted) (g .args .work .now) (g .pre .0 .room) (first (sized r))
-          (prepared r .prepare .ensures)
+          (run-calls (tables g) (g .pre .0 .accepted) (g .args .work .now) (g .pre .0 .room) (here (sized r)) (first (sized r))
+          (prepared r .prepare .ensures) (sorted r .sort .ensures)
           (done d))
           (done d .within),
     )
@@ -194,12 +229,15 @@ run-spec =
     add-entries-2
     add-entries-3
     add-entries-4
-    add-base
-    add-base-2
+    add-first
+    add-first-2
+    mul-first
+    add-first-3
+    add-first-4
     mul-base
-    add-base-3
-    add-base-4
+    add-base
     prepare-requires
+    sort-requires
     zielonka-rec-requires
     clear-requires
     same-length

@@ -13,9 +13,9 @@ use Rattle.zielonka_level.specs.Level.{onLevel, Done}
 use Rattle.zielonka.specs.Ending.{Ends, ends-over, ends-done}
 use Rattle.zielonka_level.specs.Steps.{over-first}
 use Rattle.zielonka.specs.Calling.{level-fits, highest-given, level-empty, level-some, empty-done}
-use Rattle.zielonka.specs.Calling.{member-ready, member-top}
+use Rattle.zielonka.specs.Calling.{member-ready, member-top, ready-sorted}
 use Rattle.zielonka.specs.Calling.{Begun, begun-less, begun-called, begun-came, begun-over}
-use Rattle.zielonka.specs.Calling.{Came, came-ready, came-all, came-losable, came-lost}
+use Rattle.zielonka.specs.Calling.{Came, came-ready, came-sorted, came-all, came-losable, came-lost}
 use Rattle.zielonka.specs.Calling.{Lost, lost-less, lost-called, lost-over, lost-high, lost-done}
 use borrow.Author.Needs.{needs}
 use borrow.Fn.Kinds.{In, Out}
@@ -133,7 +133,7 @@ module _ (t : ℕ) where
   work₀ c = start c .args .work .now
 
   abbrev work₁ : At lts.After-attract-highest → List ℕ
-  work₁ c = c .attract-highest .last .1 .1 .1 .1 .1 .1 .0
+  work₁ c = c .attract-highest .last .1 .1 .1 .1 .1 .0
 
   abbrev work₂ : At lts.After-zielonka-rec → List ℕ
   work₂ c = c .zielonka-rec .last .1 .1 .1 .1 .0
@@ -171,7 +171,7 @@ module _ (t : ℕ) where
         called = called;
         ready = member-ready called sized v q;
         top = member-top called sized v q (after-highest c .get-highest-prio .ensures);
-        cut = c .attract-highest .ensures;
+        cut = c .attract-highest .ensures (start c .args .priorities .now) (member-ready called sized v q);
       }
 
   -- within the budget
@@ -209,7 +209,9 @@ module _ (t : ℕ) where
   second c = c .before .before .before .zielonka-rec2 .ensures .done (omega (arith, c .if5 .left))
 
   returns : At lts.Need-returns
-  returns c = ends-over (over-first (c .before .before .before .before .before .before .pre .1 .called) (omega (arith, c .if1 .taken)))
+  returns c =
+      ends-over
+      (over-first (c .before .before .before .before .before .before .pre .1 .called) (omega (arith, c .if1 .taken)))
 
   set-words-requires : At lts.Need-set-words-requires
   set-words-requires c κs = search needs
@@ -286,7 +288,9 @@ module _ (t : ℕ) where
   attract-highest-requires c κs =
       let sized = after-words (after-test (c .before)) in
       let (v, q) = member (c .before) in
-      member-ready (start-of sized .pre .1 .called) (sized .set-words .ensures) v q
+      let called = start-of sized .pre .1 .called in
+      ready-sorted called (member-top called (sized .set-words .ensures) v q (c .before .get-highest-prio .ensures))
+      (member-ready called (sized .set-words .ensures) v q)
 
   mul-up : At lts.Need-mul-up
   mul-up c = search needs
@@ -319,7 +323,7 @@ module _ (t : ℕ) where
   lost-nothing-requires c κs = omega (arith, came-ready (came (c .before)) .high)
 
   win-everything-requires : At lts.Need-win-everything-requires
-  win-everything-requires c κs = came-ready (came (c .before .before .before .before))
+  win-everything-requires c κs = came-sorted (came (c .before .before .before .before))
 
   same-length-3 : At lts.Need-same-length-3
   same-length-3 c = search needs
@@ -330,7 +334,8 @@ module _ (t : ℕ) where
       let told = asked .before .before in
       ends-done (omega (arith, told .if3 .left))
       (came-all (came told) (asked .lost-nothing .ensures) (c .before .before .before .before .if4 .taken)
-      (c .before .before .win-everything .ensures))
+      (c .before .before .win-everything .ensures (start (after-cut (after-first told)) .args .priorities .now)
+      (came-ready (came told))))
 
   attract-lost-requires : At lts.Need-attract-lost-requires
   attract-lost-requires c κs = came-losable (came (c .before .before .before .before))
@@ -364,7 +369,7 @@ module _ (t : ℕ) where
         e .zielonka-rec2 .kept .1 .1 .1 .1 .0,
         cut₂ .attract-lost .kept .1 .1 .1 .1 .1 .0,
         first .zielonka-rec .kept .1 .1 .1 .1 .0,
-        after-cut first .attract-highest .kept .1 .1 .1 .1 .1 .1 .0,
+        after-cut first .attract-highest .kept .1 .1 .1 .1 .1 .0,
       )
 
   returns-6 : At lts.Need-returns-6

@@ -1,5 +1,5 @@
--- `extend_lowest` meets its contract: the vertices of priority p that the walk has passed have an edge inside V, where p's
--- player owns them.
+-- `extend_lowest` meets its contract: the vertices of U that the walk has passed have an edge inside V, where p's player owns
+-- them.
 use Prim.Native.Nat.{ℕ, _+_, _-_, _≤_, _<_}
 use mathlib.Core.Bool.{true}
 use mathlib.Core.List.{List, _∷_}
@@ -11,23 +11,22 @@ use Rattle.walk.specs.Walk.{left, Walks}
 use Rattle.area.specs.Area.{entries, setAt, wordsAt}
 use Rattle.area.specs.Walked.{Walkable, walked-none, walked-few, walked-all, walked-member, walked-shorter, walked-more}
 use Rattle.zielonka_level.specs.Extending.{Elsewhere, ExtendingTo, extend-walkable, extending-all, extending-one, extend-edges}
-use Rattle.zielonka_level.specs.Extending.{priorities-as-many, other-priority, other-owner}
+use Rattle.zielonka_level.specs.Extending.{other-owner}
 use borrow.Author.Needs.{needs}
 use Rattle.zielonka_level.proofs.highest.extend_lowest.Statement.{statement}
 use Rattle.zielonka_level.proofs.highest.extend_lowest.Tie as tie
-use Rattle.rules.specs.Tables.{tablesOf}
 
 abbrev Inv-loop : tie.InvT-loop
-Inv-loop owners priorities offsets targets p s work₀ base n m walk₀ work walk =
-    ExtendingTo (tablesOf owners priorities offsets targets) p base work₀ walk work
+Inv-loop owners offsets targets p s work₀ base n m from walk₀ work walk =
+    ExtendingTo owners offsets targets p s base work₀ walk work
 
 abbrev μ-loop : tie.MeasureT-loop
-μ-loop owners priorities offsets targets p s work₀ base n m walk₀ work walk =
-    length (left (wordsAt (length owners) base work₀) walk)
+μ-loop owners offsets targets p s work₀ base n m from walk₀ work walk =
+    length (left (wordsAt (length owners) (base + s) work₀) walk)
 
 -- where the function begins, and the loop's head of a turn
 abbrev start-of : tie.At-loop Inv-loop μ-loop → tie.Start Inv-loop μ-loop
-start-of c = c .before .before .before .before .before .before .before .before .before
+start-of c = c .before .before .before .before .before .before .before .before
 
 abbrev turn : tie.After-known-told Inv-loop μ-loop → tie.At-loop Inv-loop μ-loop
 turn c = c .before .before .before .before .before .before
@@ -39,11 +38,11 @@ vertex c = c .before .next2 .given .0 .0 .0
 abbrev after : tie.After-known-told Inv-loop μ-loop → Members
 after c = c .before .next2 .given .0 .1 .0
 
--- the words of V as they are lent
+-- the words of U as they are lent
 abbrev part : tie.At-loop Inv-loop μ-loop → List ℕ
 part c =
     let a = start-of c .args in
-    take ((a .base + a .s) - a .base) (drop (a .base) (c .loop .work))
+    take ((a .base + a .s + a .s) - (a .base + a .s)) (drop (a .base + a .s) (c .loop .work))
 
 moved :
     (c : tie.After-known-told Inv-loop μ-loop) →
@@ -54,15 +53,13 @@ moved c =
 walkable :
     (g : tie.Start Inv-loop μ-loop) →
     let a = g .args in
-    Walkable (length (a .owners .now)) (a .s) (a .base)
-    (Elsewhere (tablesOf (a .owners .now) (a .priorities .now) (a .offsets .now) (a .targets .now)))
-    (a .work .now)
+    Walkable (length (a .owners .now)) (a .s) (a .base + a .s) (Elsewhere (a .owners .now) (a .targets .now)) (a .work .now)
 walkable g = extend-walkable (g .pre)
 
 member :
     (c : tie.After-known-told Inv-loop μ-loop) →
     let a = start-of (turn c) .args in
-    setAt (length (a .owners .now)) (a .base) (a .work .now) (vertex c) ≡ true
+    setAt (length (a .owners .now)) (a .base + a .s) (a .work .now) (vertex c) ≡ true
 member c = walked-member (walkable (start-of (turn c))) (turn c .loop .inv) (after c) (moved c)
 
 small : (c : tie.After-known-told Inv-loop μ-loop) → vertex c < length (start-of (turn c) .args .owners .now)
@@ -71,7 +68,7 @@ small c = start-of (turn c) .pre .below (vertex c) (member c)
 shorter :
     (c : tie.After-known-told Inv-loop μ-loop) →
     let a = start-of (turn c) .args in
-    let xs = wordsAt (length (a .owners .now)) (a .base) (a .work .now) in
+    let xs = wordsAt (length (a .owners .now)) (a .base + a .s) (a .work .now) in
     length (left xs (after c)) < length (left xs (turn c .loop .walk))
 shorter c = walked-shorter (walkable (start-of (turn c))) (turn c .loop .inv) (after c) (moved c)
 
@@ -82,6 +79,9 @@ entry-place :
     entries (length (a .owners .now)) (length (a .targets .now)) + vertex c < length (turn c .loop .work)
 entry-place c =
     let g = start-of (turn c) in omega (arith, small c, turn c .loop .inv .keeps .long, g .pre .low, g .pre .high)
+
+add-from : tie.Need-add-from Inv-loop μ-loop
+add-from c = search needs
 
 add-new : tie.Need-add-new Inv-loop μ-loop
 add-new c = search needs
@@ -103,7 +103,7 @@ new-requires c κs = search needs
 
 loop-holds : tie.Need-loop-holds Inv-loop μ-loop
 loop-holds c =
-    let g = c .before .before .before .before .before .before .before .before in
+    let g = c .before .before .before .before .before .before .before in
     walked-none (walkable g) tt (c .new .result) (c .new .ensures)
 
 add-next : tie.Need-add-next Inv-loop μ-loop
@@ -142,21 +142,11 @@ returns c =
     (walked-all (walkable g) (d .loop .inv)
     (subst (Walks (part d) (d .loop .walk)) (c .enum-told .given .1) (c .before .before .next .ensures)))
 
-mul-if1 : tie.Need-mul-if1 Inv-loop μ-loop
-mul-if1 c = omega (arith, small c, start-of (turn c) .good)
-
 shared-slice-read-if1 : tie.Need-shared-slice-read-if1 Inv-loop μ-loop
-shared-slice-read-if1 c =
-    let d = c .before in omega (arith, small d, priorities-as-many (start-of (turn d) .pre))
+shared-slice-read-if1 c = small (c .before)
 
 cast-if1 : tie.Need-cast-if1 Inv-loop μ-loop
-cast-if1 c = omega (arith, c .shared-slice-known5 .given (vertex (c .before)))
-
-shared-slice-read-if2 : tie.Need-shared-slice-read-if2 Inv-loop μ-loop
-shared-slice-read-if2 c = small (c .before .before .before)
-
-cast-if2 : tie.Need-cast-if2 Inv-loop μ-loop
-cast-if2 c = omega (arith, c .shared-slice-known6 .given (vertex (c .before .before .before)))
+cast-if1 c = omega (arith, c .shared-slice-known4 .given (vertex (c .before)))
 
 add-lowest-inside : tie.Need-add-lowest-inside Inv-loop μ-loop
 add-lowest-inside c = search needs
@@ -175,7 +165,7 @@ part-lowest-inside-end c = search needs
 
 lowest-inside-requires : tie.Need-lowest-inside-requires Inv-loop μ-loop
 lowest-inside-requires c κs =
-    let d = c .before .before .before .before .before .before in
+    let d = c .before .before .before .before in
     extend-edges (start-of (turn d) .pre) (member d) (turn d .loop .inv .keeps)
 
 add-work : tie.Need-add-work Inv-loop μ-loop
@@ -192,48 +182,37 @@ add-work-4 c = search needs
 
 add-work-5 : tie.Need-add-work-5 Inv-loop μ-loop
 add-work-5 c =
-    let d = c .before .before .before .before .before .before .before in
+    let d = c .before .before .before .before .before in
     omega (arith, entry-place d, turn d .loop .inv .keeps .long, start-of (turn d) .good)
 
 mul-work : tie.Need-mul-work Inv-loop μ-loop
 mul-work c =
-    let d = c .before .before .before .before .before .before .before in
+    let d = c .before .before .before .before .before in
     omega (arith, entry-place d, turn d .loop .inv .keeps .long, start-of (turn d) .good)
 
 slice-write-work : tie.Need-slice-write-work Inv-loop μ-loop
-slice-write-work c = entry-place (c .before .before .before .before .before .before .before)
+slice-write-work c = entry-place (c .before .before .before .before .before)
 
 loop-less : tie.Need-loop-less Inv-loop μ-loop
-loop-less c = shorter (c .before .before .before .before .before .before .before)
+loop-less c = shorter (c .before .before .before .before .before)
 
 loop-again : tie.Need-loop-again Inv-loop μ-loop
 loop-again c =
-    let d = c .before .before .before .before .before .before .before in
+    let d = c .before .before .before .before .before in
     let g = start-of (turn d) in
     walked-more (walkable g) (turn d .loop .inv) (after d) (moved d)
-    (extending-one (g .pre) (member d) (turn d .loop .inv .keeps) (c .before .before .before .before .before .if1 .taken)
-    (c .before .before .before .if2 .taken)
+    (extending-one (g .pre) (member d) (turn d .loop .inv .keeps) (c .before .before .before .if1 .taken)
     (c .lowest-inside .ensures))
 
 loop-less-2 : tie.Need-loop-less-2 Inv-loop μ-loop
-loop-less-2 c = shorter (c .before .before .before .before)
+loop-less-2 c = shorter (c .before .before)
 
 loop-again-2 : tie.Need-loop-again-2 Inv-loop μ-loop
 loop-again-2 c =
-    let d = c .before .before .before .before in
-    let g = start-of (turn d) in
-    walked-more (walkable g) (turn d .loop .inv) (after d) (moved d)
-    (other-owner (g .pre) (member d) (c .if2 .left))
-
-loop-less-3 : tie.Need-loop-less-3 Inv-loop μ-loop
-loop-less-3 c = shorter (c .before .before)
-
-loop-again-3 : tie.Need-loop-again-3 Inv-loop μ-loop
-loop-again-3 c =
     let d = c .before .before in
     let g = start-of (turn d) in
     walked-more (walkable g) (turn d .loop .inv) (after d) (moved d)
-    (other-priority (g .pre) (member d) (c .if1 .left))
+    (other-owner (g .pre) (member d) (c .if1 .left))
 
 pub extend-lowest-spec : {M : Type 1} → statement M
 extend-lowest-spec =
@@ -241,6 +220,7 @@ extend-lowest-spec =
     (tie.spec
     Inv-loop
     μ-loop
+    add-from
     add-new
     mul-new
     sub-new
@@ -258,11 +238,8 @@ extend-lowest-spec =
     enum-told
     same-length
     returns
-    mul-if1
     shared-slice-read-if1
     cast-if1
-    shared-slice-read-if2
-    cast-if2
     add-lowest-inside
     mul-lowest-inside
     sub-lowest-inside
@@ -279,6 +256,4 @@ extend-lowest-spec =
     loop-less
     loop-again
     loop-less-2
-    loop-again-2
-    loop-less-3
-    loop-again-3)
+    loop-again-2)

@@ -1,61 +1,60 @@
--- `attract_highest` meets its contract: what is collected is the target of the cut.
-use Rattle.zielonka_level.specs.PiecesHold.{highest-collects, highest-cuttable, highest-made}
+-- `attract_highest` meets its contract: what V has in common with the set of priority p is the target of the cut.
+use Rattle.zielonka_level.specs.PiecesHold.{highest-placed, highest-meets, highest-cuttable, highest-made}
+use native.Mathlib.Omega.{arith}
 use borrow.Author.Needs.{needs}
 use Rattle.zielonka_level.proofs.level.attract_highest.Statement.{statement}
 use Rattle.zielonka_level.proofs.level.attract_highest.Tie as tie
 
 -- the places of the function, each from the next: where it begins, and after each call
-abbrev start-of : tie.After-clear → tie.Start
-start-of c = c .before .before .before .before .before .before .before
+abbrev start-of : tie.After-set-at → tie.Start
+start-of c = c .before .before .before .before .before
 
-abbrev after-clear : tie.After-collect → tie.After-clear
-after-clear c = c .before .before .before .before
+abbrev after-set-at : tie.After-meet → tie.After-set-at
+after-set-at c = c .before .before
 
-abbrev after-collect : tie.After-cut → tie.After-collect
-after-collect c = c .before .before .before .before
+abbrev after-meet : tie.After-cut → tie.After-meet
+after-meet c = c .before .before .before .before
 
-add-clear : tie.Need-add-clear
-add-clear c = search needs
+set-at-requires : tie.Need-set-at-requires
+set-at-requires c κs = let g = c .before .before .before .before in highest-placed (g .pre .ready) (g .pre .small)
 
-clear-requires : tie.Need-clear-requires
-clear-requires c κs = search needs
+add-meet : tie.Need-add-meet
+add-meet c = let g = start-of (c .before) in omega (arith, g .pre .ready .high, g .good)
 
-add-collect : tie.Need-add-collect
-add-collect c = search needs
-
-collect-requires : tie.Need-collect-requires
-collect-requires c κs =
-    let cleared = c .before .before .before in highest-collects (start-of cleared .pre) (cleared .clear .ensures)
+meet-requires : tie.Need-meet-requires
+meet-requires c κs =
+    let placed = c .before in
+    let g = start-of placed in highest-meets (g .pre .ready) (g .pre .small) (placed .set-at .ensures)
 
 cast-cut : tie.Need-cast-cut
 cast-cut c = search needs
 
 cut-requires : tie.Need-cut-requires
 cut-requires c κs =
-    let collected = c .before .before .before in
-    let cleared = after-clear collected in
-    highest-cuttable (start-of cleared .pre) (cleared .clear .ensures) (collected .collect .ensures)
+    let met = c .before .before .before in
+    let placed = after-set-at met in
+    let g = start-of placed in
+    highest-cuttable (g .pre .ready) (g .pre .small) (placed .set-at .ensures) (met .meet .ensures)
 
 same-length : tie.Need-same-length
 same-length c = search needs
 
 returns : tie.Need-returns
-returns c =
+returns c priorities ready =
     let parted = c .before .before in
-    let collected = after-collect parted in
-    let cleared = after-clear collected in
-    let g = start-of cleared in
-    highest-made (g .pre) (cleared .clear .ensures) (collected .collect .ensures)
-    (parted .cut .ensures (g .args .priorities .now) (g .pre .called .accepted))
+    let met = after-meet parted in
+    let placed = after-set-at met in
+    let g = start-of placed in
+    highest-made ready (g .pre .small) (placed .set-at .ensures) (met .meet .ensures)
+    (parted .cut .ensures priorities (ready .called .accepted))
 
 pub attract-highest-spec : {M : Type 1} → statement M
 attract-highest-spec =
     tie.close
     (tie.spec
-    add-clear
-    clear-requires
-    add-collect
-    collect-requires
+    set-at-requires
+    add-meet
+    meet-requires
     cast-cut
     cut-requires
     same-length

@@ -1,0 +1,4 @@
+-- What the sets of the priorities are (Sorting), what two sets have in common (Meeting), and the law that joins them: the members
+-- of a set that have priority p.
+pub mod Sorting
+pub mod Meeting
