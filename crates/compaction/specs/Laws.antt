@@ -14,9 +14,8 @@ use Rattle.rules.specs.Record.{keptRoom, freshCount}
 use Rattle.rules.specs.Tables.{Tables, vertices, gameOf, tableChecks, check9, Accepted}
 use Rattle.rules.specs.Winning.{Wins, WinningSets}
 use Rattle.parity_game.specs.Laws.{Numbered, numbered-then, numbered-tables, numbered-check9, zero-none}
-use Rattle.parity_game.specs.Laws.{then-none, outcome-pass, accepted-sound}
+use Rattle.parity_game.specs.Laws.{then-none, outcome-pass}
 use Rattle.parity_game.specs.Said.{refusal}
-use Rattle.kept_numbers.specs.Steps.{Small}
 use Rattle.record.specs.Laws.{numbered-room, room-nine, room-passes}
 use Rattle.theory.specs.Compaction.{withPriorities, compacted-accepted}
 use Rattle.theory.specs.CompactionFewest.{compacted-twice}
@@ -86,15 +85,6 @@ compacts-answered t before after ok sized long e counted =
     let passes : compactionChecks t before ≡ none = rw (ok, sized) (room-passes (before .kept) long) in
     let same : after ≡ lentOf (newTable t) (freshCount (newTable t)) = rw (counted, e) refl in
     record { gives = rw passes; leaves = rw passes same }
-
--- the new table can be counted
-pub new-small : (t : Tables) → Accepted t → Small (newTable t)
-new-small t ok =
-    let sound = accepted-sound (withPriorities t (newTable t)) (compacted-accepted t ok) in
-    record {
-      few = omega (arith, sound .few-vertices, sound .priority-each);
-      each = λ v l. sound .priority-small v (omega (arith, sound .priority-each));
-    }
 
 -- What compaction gives and leaves is one thing: any two runs from the same entry agree.
 pub compacts-unique :

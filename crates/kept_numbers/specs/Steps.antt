@@ -19,11 +19,6 @@ use Rattle.theory.specs.Basics.{bool-cases, count-cong, below-suc, not-true-is-
 use Rattle.theory.specs.Counts.{raised, lowered, getD-raised, counts-at, length-counts, times-le, same-equal, equal-same}
 use Rattle.theory.specs.Greatest.{greatest-le, greatest-cong}
 
--- at most 4,096 priorities, each with a place among 256 counts
-pub record Small (priorities : List ℕ) : Type 0 where
-  pub few : length priorities ≤ 4096
-  pub each : (v : ℕ) → v < length priorities → getD priorities v 0 ≤ 255
-
 -- 258 numbers, the first 256 of which are the counts
 pub record Counts (priorities r : List ℕ) : Type 0 where
   pub long : length r ≡ 258

@@ -8,7 +8,7 @@ ghost use Rattle.rules.specs.Record.{keptFor, freshCount, keptCheck};
 ghost use Rattle.parity_game.specs.Said.{said};
 ghost use Rattle.theory.specs.Counts.{moved};
 ghost use lib.ListN.{length, take};
-ghost use Rattle.kept_numbers.specs.Steps.{Small, Counts, Movable};
+ghost use Rattle.kept_numbers.specs.Steps.{Counts, Movable};
 
 // How many vertices have each priority up to 255; the last two entries are 0.
 fn tally(priorities: &[u16]) -> [u64; 258]
@@ -52,7 +52,6 @@ pub fn fresh(priorities: &[u16]) -> [u64; 258]
 
 // 47: what is kept is a fresh count.
 pub fn check_kept(priorities: &[u16], kept: &[u64]) -> Answer
-    requires { ⌜ Small (now priorities) ⌝ }
     ensures { λ r. ⌜ said r ≡ outcome (keptCheck (now (priorities .entry)) (now (kept .entry))) (answered 0) ⌝ }
 {
     if kept.len() != 258 {
@@ -79,7 +78,7 @@ pub fn put(count: &[u64; 258], kept: &mut [u64])
 
 // Writes a fresh count.
 pub fn write_fresh(priorities: &[u16], kept: &mut [u64])
-    requires { ⌜ Small (now priorities) × (length (now kept) ≡ 258) ⌝ }
+    requires { ⌜ length (now kept) ≡ 258 ⌝ }
     ensures { λ _. ⌜ now (kept .exit) ≡ freshCount (now (priorities .entry)) ⌝ }
 {
     let count = fresh(priorities);

@@ -1,5 +1,5 @@
--- What callers of the record's checks go by: number 0 is kept for answers, 1 to 8 look at no kept numbers, and a record past them
--- has priorities that can be counted.
+-- What callers of the record's checks go by: number 0 is kept for answers, 1 to 8 look at no kept numbers, and what a fresh count
+-- gives.
 use mathlib.Core.Bool.{not, _||_}
 use mathlib.Core.List.{List, []}
 use mathlib.Core.Path.{_≡_, refl, sym, ap, _∙_}
@@ -9,15 +9,12 @@ use native.Mathlib.Omega.{arith}
 use borrow.Author.Tests.{eq-eqb, ne-eqb}
 use lib.Dec.{eqb, ltb}
 use lib.ListN.{length, take, drop}
-use lib.Seq.{length-take-le}
 use Rattle.rules.specs.Outcome.{Outcome, Verdict, none, refused, given, outcome, answered, _then_}
 use Rattle.rules.specs.Record.{Record, recordOf, room2, room3, sizeChecks, recordTables, keptCheck, check47, recordChecks, tablesIn, sameList}
 use Rattle.rules.specs.Record.{freshCount, keptRoom, freshChecks, keptBy, CountsFresh}
 use Rattle.rules.specs.Tables.{tablesOf, check1, tableChecks}
-use Rattle.parity_game.specs.Laws.{Numbered, numbered-then, numbered-given, numbered-check1, numbered-tables, accepted-sound}
+use Rattle.parity_game.specs.Laws.{Numbered, numbered-then, numbered-given, numbered-check1, numbered-tables}
 use Rattle.parity_game.specs.Said.{refusal}
-use Rattle.theory.specs.Edits.{Roomy, tables-pass}
-use Rattle.kept_numbers.specs.Steps.{Small}
 
 -- a record without its kept numbers
 abbrev pub unkept : Record → Record
@@ -54,17 +51,6 @@ pub numbered-record : (r : Record) → Numbered (recordChecks r)
 unfolding recordChecks
 numbered-record r =
     numbered-then (recordTables r) (check47 r) (numbered-record-tables r) (numbered-kept (take (r .n) (r .priorities)) (r .kept))
-
--- past 1 to 8 the priorities can be counted
-pub countable : (r : Record) → recordTables r ≡ none → Small (take (r .n) (r .priorities))
-countable r e =
-    let (room, ok) = tables-pass r e in
-    let sound = accepted-sound (tablesIn r) ok in
-    let long = length-take-le (r .n) (r .priorities) (room .priority-room) in
-    record {
-      few = omega (arith, long, room .few-vertices);
-      each = λ v l. sound .priority-small v (omega (arith, sound .priority-each));
-    }
 
 -- a fresh count that is refused, by 1 to 8 or by 9, and one that is written
 pub fresh-refused :

@@ -14,7 +14,7 @@ use Rattle.parity_game.specs.Laws.{Sound, accepted-sound, numbered-check9, chec
 use Rattle.parity_game.proofs.Matched.{went-on, stopped, refusal-not-zero}
 use Rattle.parity_game.specs.Said.{said}
 use Rattle.compaction.specs.Marks.{Small}
-use Rattle.compaction.specs.Laws.{lentOf, tableRoom, compacts-table, compacts-kept, compacts-answered, new-small}
+use Rattle.compaction.specs.Laws.{lentOf, tableRoom, compacts-table, compacts-kept, compacts-answered}
 use Rattle.compaction.specs.Steps.{numbers-compact}
 use Rattle.compaction.proofs.compact.Statement.{statement}
 use Rattle.compaction.proofs.compact.Tie as tie
@@ -96,9 +96,7 @@ write-requires c κs =
 
 write-fresh-requires : tie.Need-write-fresh-requires
 write-fresh-requires c κs =
-    let written = c .before .before .before .before in
-    let at = marked written in
-    (rw (wrote written) (new-small (tables (start2 at)) (start2 at .pre)), at .if2 .left)
+    let at = marked (c .before .before .before .before) in at .if2 .left
 
 same-length : tie.Need-same-length
 same-length c = search needs

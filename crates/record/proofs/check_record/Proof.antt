@@ -8,7 +8,7 @@ use Rattle.rules.specs.Record.{Record, recordOf, recordTables, recordChecks, ke
 use Rattle.parity_game.specs.Laws.{outcome-pass}
 use Rattle.parity_game.proofs.Matched.{went-on, stopped}
 use Rattle.theory.specs.Edits.{Roomy, tables-pass}
-use Rattle.record.specs.Laws.{unkept, tables-unkept, numbered-record-tables, countable, part-front}
+use Rattle.record.specs.Laws.{unkept, tables-unkept, numbered-record-tables, part-front}
 use borrow.Author.Needs.{needs}
 use Rattle.record.proofs.check_record.Statement.{statement}
 use Rattle.record.proofs.check_record.Tie as tie
@@ -57,9 +57,7 @@ part-check-kept-end : tie.Need-part-check-kept-end
 part-check-kept-end c = omega (arith, room c .priority-room)
 
 check-kept-requires : tie.Need-check-kept-requires
-check-kept-requires c κs =
-    let r = lent (c .before .before .before .before .before .before .before .before .before) in
-    rw (part-front (r .n) (r .priorities)) (countable r (tables-ok (c .before)))
+check-kept-requires c κs = search needs
 
 returns-2 : tie.Need-returns-2
 unfolding recordChecks

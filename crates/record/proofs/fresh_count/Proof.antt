@@ -9,7 +9,7 @@ use Rattle.rules.specs.Record.{Record, recordOf, recordTables, keptRoom, freshC
 use Rattle.parity_game.specs.Said.{said}
 use Rattle.parity_game.proofs.Matched.{went-on, stopped, refusal-not-zero}
 use Rattle.theory.specs.Edits.{Roomy, tables-pass}
-use Rattle.record.specs.Laws.{unkept, tables-unkept, numbered-record-tables, countable, part-front}
+use Rattle.record.specs.Laws.{unkept, tables-unkept, numbered-record-tables, part-front}
 use Rattle.record.specs.Laws.{fresh-refused, fresh-nine, fresh-passes, fresh-written}
 use borrow.Author.Needs.{needs}
 use Rattle.record.proofs.fresh_count.Statement.{statement}
@@ -65,9 +65,7 @@ part-write-fresh-end : tie.Need-part-write-fresh-end
 part-write-fresh-end c = omega (arith, room (c .before) .priority-room)
 
 write-fresh-requires : tie.Need-write-fresh-requires
-write-fresh-requires c κs =
-    let r = lent (c .before .before .before .before .before .before .before .before .before .before .before) in
-    (rw (part-front (r .n) (r .priorities)) (countable r (tables-ok (c .before .before .before))), c .before .before .if2 .left)
+write-fresh-requires c κs = c .before .before .if2 .left
 
 same-length : tie.Need-same-length
 same-length c = search needs

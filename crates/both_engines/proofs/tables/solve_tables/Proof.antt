@@ -4,8 +4,6 @@ use Prim.Native.Nat.{_≤_}
 use native.Mathlib.Omega.{arith}
 use borrow.Author.Needs.{needs}
 use lib.ListN.{length, length-take}
-use Rattle.rules.specs.Tables.{Tables, tablesOf, words}
-use Rattle.theory.specs.Tables.{accepted-sound}
 use Rattle.both_engines.specs.Solved.{words-few, work-enough}
 use Rattle.both_engines.proofs.tables.solve_tables.Statement.{statement}
 use Rattle.both_engines.proofs.tables.solve_tables.Tie as tie
@@ -13,9 +11,6 @@ use Rattle.both_engines.proofs.tables.solve_tables.Tie as tie
 -- where the function begins
 abbrev start : tie.After-set-words → tie.Start
 start c = c .before .before .before .before .before .before
-
-abbrev tables : tie.Start → Tables
-tables c = tablesOf (c .args .owners .now) (c .args .priorities .now) (c .args .offsets .now) (c .args .targets .now)
 
 -- a set has two words at most
 two : (c : tie.After-set-words) → c .set-words .result ≤ 2
@@ -30,13 +25,7 @@ slice-aggregate-write-fresh : tie.Need-slice-aggregate-write-fresh
 slice-aggregate-write-fresh c = search needs
 
 write-fresh-requires : tie.Need-write-fresh-requires
-write-fresh-requires c κs =
-    let at = start (c .before) in
-    let sound = accepted-sound (tables at) (at .pre .accepted) in
-    let long = sound .priority-each in (
-      record { few = omega (arith, at .pre .few); each = λ v l. sound .priority-small v (omega arith) },
-      search needs,
-    )
+write-fresh-requires c κs = search needs
 
 slice-aggregate-solve-in : tie.Need-slice-aggregate-solve-in
 slice-aggregate-solve-in c = search needs
