@@ -27,7 +27,7 @@ use Rattle.area.specs.Walking.{lent-part}
 use Rattle.attractor.specs.Attracted.{Attractable, Attracted}
 use Rattle.attractor.specs.Attracted.{listed-kept}
 use Rattle.predecessors.specs.Table.{SoundEdges}
-use Rattle.zielonka_level.specs.Parts.{Searchable, SearchableTo, Collects, Collected}
+use Rattle.highest_priority.specs.Parts.{Searchable, SearchableTo, Collects, Collected}
 use Rattle.quasi_level.specs.Level.{nextLevel, onLevel, drawnAt, Held, HeldUnder, Ready, Stays, TopCut, Droppable, Dropped}
 
 -- what stays over two steps

@@ -8,7 +8,7 @@ ghost use Prim.Native.Nat.{ℕ, _+_, _*_, _≤_};
 ghost use lib.ListN.{length};
 ghost use Rattle.rules.specs.Counting.{count};
 ghost use Rattle.area.specs.Area.{setAt};
-ghost use Rattle.zielonka_level.specs.Parts.{highestOf};
+ghost use Rattle.highest_priority.specs.Parts.{highestOf};
 ghost use Rattle.rules.specs.Game.{playerOf};
 ghost use Rattle.rules.specs.Tables.{Accepted, tablesOf};
 ghost use Rattle.quasi_level.specs.Level.{Held, HeldUnder, Ready, TopCut, Droppable, Dropped, Settled, GaveUp, TurnedOver};
@@ -28,8 +28,8 @@ pub fn highest_at(priorities: &[u16], s: usize, work: &[u64], base: usize, heigh
         ⌜ r ≡ highestOf (now (priorities .entry))
         (setAt (length (now (priorities .entry))) base (now (work .entry))) ⌝ }
 {
-    let top = zielonka_level::one_less(height);
-    zielonka_level::get_highest_prio(priorities, &work[base..base + s], top).0
+    let top = highest_priority::one_less(height);
+    highest_priority::get_highest_prio(priorities, &work[base..base + s], top).0
 }
 
 // U: the vertices of V with priority p; A: the attractor of U for p's player. V without A goes to the next level.
@@ -51,7 +51,7 @@ pub fn attract_top(
     let drawn = base + s;
     let up = base + 8 * s;
     sets::clear(work, drawn, s);
-    zielonka_level::collect(priorities, p, s, work, base, drawn);
+    highest_priority::collect(priorities, p, s, work, base, drawn);
     attractor::attract(owners, offsets, targets, (p % 2) as u8, work, base, drawn);
     sets::copy_with(work, up, base, s);
     sets::difference_with(work, up, drawn, s);

@@ -30,7 +30,7 @@ use Rattle.separation.specs.Separates.{Separates, separates-over, gives-up, giv
 use Rattle.separation.specs.Passing.{Pass, found-inside}
 use Rattle.separation.specs.Stages.{raised, precisionAt, nextStage, Standing, stage-begins, stage-found, stage-nothing}
 use Rattle.separation.specs.Stages.{stage-found-rises, stage-nothing-rises, cut-enough}
-use Rattle.zielonka_level.specs.Parts.{highestOf}
+use Rattle.highest_priority.specs.Parts.{highestOf}
 use Rattle.quasi_level.specs.Level.{nextLevel, onLevel, Held, HeldUnder, Ready, Stays, TopCut}
 use Rattle.quasi_level.specs.Level.{Droppable, Dropped, FoundSome, FoundNothing, Settled, GaveUp, TurnedOver}
 use Rattle.quasi_level.specs.Pieces.{stays-on, stays-under, level-stays}

@@ -25,7 +25,7 @@ use Rattle.area.specs.Area.{free, setAt, wordsAt}
 use Rattle.area.specs.Lent.{words-few}
 use Rattle.area.specs.SetsAt.{set-cleared, set-inside}
 use Rattle.area.specs.Walking.{lent-part}
-use Rattle.zielonka_level.specs.Parts.{highestOf, SearchableTo}
+use Rattle.highest_priority.specs.Parts.{highestOf, SearchableTo}
 use Rattle.zielonka.specs.Ending.{CalledUnder}
 use Rattle.zielonka_level.specs.Level.{nextLevel, wonPlace, onLevel, wonAt, Called, Stays, Done, Over}
 use Rattle.zielonka_level.specs.Steps.{CutBy, AllAt, JoinedAt, stays-on, stays-next, level-stays, cut-over}

@@ -1,10 +1,10 @@
 // One call on the set V at `base`, its sets at its own level, the calls below it one level up.
+use highest_priority::get_highest_prio;
+use highest_priority::one_less;
 use zielonka_level::attract_highest;
 use zielonka_level::attract_lost;
-use zielonka_level::get_highest_prio;
 use zielonka_level::join;
 use zielonka_level::lost_nothing;
-use zielonka_level::one_less;
 use zielonka_level::win_everything;
 ghost use Rattle.zielonka.specs.Ending.{CalledUnder, Ends};
 ghost use Rattle.rules.specs.Tables.{tablesOf};

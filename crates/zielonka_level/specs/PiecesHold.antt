@@ -31,7 +31,7 @@ use Rattle.successors.specs.Lowest.{lowestEnd}
 use Rattle.area.specs.SetsAt.{set-kept, set-cleared, set-copied, set-copied-here, set-united, set-reduced}
 use Rattle.zielonka_level.specs.Level.{nextLevel, wonPlace, onLevel, drawnAt, wonAt, entriesOf, Called, Stays}
 use Rattle.zielonka_level.specs.Steps.{CutBy, AllAt, JoinedAt, stays-on, sorted-kept, level-stays, cut-over}
-use Rattle.zielonka_level.specs.Extending.{Extends, Extended}
+use Rattle.highest_priority.specs.Extending.{Extends, Extended}
 use Rattle.zielonka_level.specs.Pieces.{Ready, Cuttable, Losable}
 
 -- ---- words below a bound stay

@@ -1,6 +1,6 @@
 // The pieces of a call, over the four sets of its level: V at `base`, then the attractor, then what Even and Odd win.
 // The next level begins after them. `s` is the words of a set, `p` the highest priority in V.
-use crate::highest::extend_lowest;
+use highest_priority::extend_lowest;
 ghost use mathlib.Core.List.{List};
 ghost use mathlib.Core.Bool.{not};
 ghost use mathlib.Core.Path.{_≡_};

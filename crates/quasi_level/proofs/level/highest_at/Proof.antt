@@ -4,7 +4,7 @@ use Prim.Native.Nat.{ℕ}
 use mathlib.Core.Path.{ap, _∙_}
 use lib.ListN.{length}
 use Rattle.rules.specs.Words.{setOf}
-use Rattle.zielonka_level.specs.Parts.{highestOf}
+use Rattle.highest_priority.specs.Parts.{highestOf}
 use Rattle.area.specs.Walking.{lent-part}
 use borrow.Author.Needs.{needs}
 use Rattle.quasi_level.specs.Pieces.{held-under}

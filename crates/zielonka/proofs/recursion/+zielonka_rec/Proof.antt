@@ -26,9 +26,9 @@ use Rattle.zielonka.proofs.recursion.+zielonka_rec.Lts-zielonka_rec as 
 use Rattle.parity_game.proofs.set_words.Reads as set-words-reads
 use Rattle.sets.proofs.clear.Reads as clear-reads
 use Rattle.sets.proofs.is_empty.Reads as is-empty-reads
-use Rattle.zielonka_level.proofs.get_highest_prio.Reads as get-highest-prio-reads
+use Rattle.highest_priority.proofs.get_highest_prio.Reads as get-highest-prio-reads
 use Rattle.zielonka_level.proofs.attract_highest.Reads as attract-highest-reads
-use Rattle.zielonka_level.proofs.one_less.Reads as one-less-reads
+use Rattle.highest_priority.proofs.one_less.Reads as one-less-reads
 use Rattle.zielonka_level.proofs.attract_lost.Reads as attract-lost-reads
 use Rattle.zielonka_level.proofs.join.Reads as join-reads
 use Rattle.zielonka_level.proofs.lost_nothing.Reads as lost-nothing-reads

@@ -14,7 +14,7 @@ use Rattle.walk.specs.MemberLaws.{times-members}
 use Rattle.walk.specs.Walk.{members, left}
 use Rattle.walk.specs.declared.members.Members.{Members}
 use Rattle.area.specs.Walking.{times-gone, Walking, walking-start, walking-next, next-member, next-other}
-use Rattle.zielonka_level.specs.Parts.{highestOf, Searchable, SearchableTo}
+use Rattle.highest_priority.specs.Parts.{highestOf, Searchable, SearchableTo}
 
 -- no member that was passed has a priority above `highest`, and `highest` is not above that of V
 pub record SearchedTo (priorities set : List ℕ) (walk : Members) (highest : ℕ) : Type 0 where

@@ -10,11 +10,11 @@ use Rattle.walk.specs.declared.members.Members.{Members}
 use Rattle.walk.specs.Walk.{left, Walks}
 use Rattle.area.specs.Area.{entries, setAt, wordsAt}
 use Rattle.area.specs.Walked.{Walkable, walked-none, walked-few, walked-all, walked-member, walked-shorter, walked-more}
-use Rattle.zielonka_level.specs.Extending.{Elsewhere, ExtendingTo, extend-walkable, extending-all, extending-one, extend-edges}
-use Rattle.zielonka_level.specs.Extending.{other-owner}
+use Rattle.highest_priority.specs.Extending.{Elsewhere, ExtendingTo, extend-walkable, extending-all, extending-one, extend-edges}
+use Rattle.highest_priority.specs.Extending.{other-owner}
 use borrow.Author.Needs.{needs}
-use Rattle.zielonka_level.proofs.highest.extend_lowest.Statement.{statement}
-use Rattle.zielonka_level.proofs.highest.extend_lowest.Tie as tie
+use Rattle.highest_priority.proofs.highest.extend_lowest.Statement.{statement}
+use Rattle.highest_priority.proofs.highest.extend_lowest.Tie as tie
 
 abbrev Inv-loop : tie.InvT-loop
 Inv-loop owners offsets targets p s work₀ base n m from walk₀ work walk =

@@ -7,8 +7,8 @@ ghost use mathlib.Core.Path.{_≡_};
 ghost use Prim.Native.Nat.{_-_};
 ghost use lib.ListN.{length};
 ghost use Rattle.rules.specs.Words.{setOf};
-ghost use Rattle.zielonka_level.specs.Parts.{highestOf, SearchableTo, Collects, Collected};
-ghost use Rattle.zielonka_level.specs.Extending.{Extends, Extended};
+ghost use Rattle.highest_priority.specs.Parts.{highestOf, SearchableTo, Collects, Collected};
+ghost use Rattle.highest_priority.specs.Extending.{Extends, Extended};
 
 // The number before p, or 0.
 pub fn one_less(p: usize) -> usize

@@ -10,11 +10,11 @@ use Rattle.walk.specs.Walk.{left, Walks}
 use Rattle.area.specs.Area.{wordsAt}
 use Rattle.area.specs.Walked.{Walkable, Beside, walked-none, walked-few, walked-all}
 use Rattle.area.specs.Walked.{walked-small, walked-shorter, walked-more}
-use Rattle.zielonka_level.specs.Collecting.{CollectingTo, collect-walkable, insert-fits}
-use Rattle.zielonka_level.specs.Collecting.{collecting-all, collecting-one, collecting-other}
+use Rattle.highest_priority.specs.Collecting.{CollectingTo, collect-walkable, insert-fits}
+use Rattle.highest_priority.specs.Collecting.{collecting-all, collecting-one, collecting-other}
 use borrow.Author.Needs.{needs}
-use Rattle.zielonka_level.proofs.highest.collect.Statement.{statement}
-use Rattle.zielonka_level.proofs.highest.collect.Tie as tie
+use Rattle.highest_priority.proofs.highest.collect.Statement.{statement}
+use Rattle.highest_priority.proofs.highest.collect.Tie as tie
 
 abbrev Inv-loop : tie.InvT-loop
 Inv-loop priorities p s work₀ within into walk₀ work walk = CollectingTo priorities p within into work₀ walk work

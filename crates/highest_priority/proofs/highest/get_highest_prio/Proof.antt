@@ -7,10 +7,10 @@ use lib.ListN.{length}
 use Rattle.walk.specs.declared.members.Members.{Members}
 use Rattle.walk.specs.Walk.{left, Walks}
 use Rattle.area.specs.Walking.{next-shorter, next-member}
-use Rattle.zielonka_level.specs.Highest.{SearchedTo, searched-none, searched-all, searched-small, searched-more, searched-top}
+use Rattle.highest_priority.specs.Highest.{SearchedTo, searched-none, searched-all, searched-small, searched-more, searched-top}
 use borrow.Author.Needs.{needs}
-use Rattle.zielonka_level.proofs.highest.get_highest_prio.Statement.{statement}
-use Rattle.zielonka_level.proofs.highest.get_highest_prio.Tie as tie
+use Rattle.highest_priority.proofs.highest.get_highest_prio.Statement.{statement}
+use Rattle.highest_priority.proofs.highest.get_highest_prio.Tie as tie
 
 abbrev Inv-loop : tie.InvT-loop
 Inv-loop priorities set top highest₀ walk₀ highest walk = (highest < 65536) × SearchedTo priorities set walk highest

@@ -15,7 +15,7 @@ use Rattle.theory.specs.Basics.{bool-cases, lt-or-ge}
 use Rattle.area.specs.Area.{setAt}
 use Rattle.area.specs.Lent.{bit-fits, back, inserted-long, inserted-rest, inserted-here, inserted-there}
 use Rattle.area.specs.Walked.{Walkable, Keeps, Turn, Beside, same-turn, WalkedTo, Walked}
-use Rattle.zielonka_level.specs.Parts.{Collects, Collected}
+use Rattle.highest_priority.specs.Parts.{Collects, Collected}
 
 -- no bit at n or above
 abbrev pub Bare : ℕ → ℕ → List ℕ → Type 0
