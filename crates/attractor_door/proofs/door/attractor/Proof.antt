@@ -12,7 +12,7 @@ use Rattle.parity_game.proofs.Matched.{went-on, refusal-not-zero}
 use Rattle.rules.specs.Attracts.{LentResult, attractorChecks}
 use Rattle.attractor_run.specs.Work.{Ran}
 use Rattle.attractor_door.specs.Answered.{Passed, accepted-checks, numbered-checks, checks-passed, run-ready, attracts-refused, attracts-answered}
-use Rattle.area.specs.LentResult.{work-cleared}
+use Rattle.area.specs.Lent.{work-cleared}
 use Rattle.attractor_door.proofs.door.attractor.Statement.{statement}
 use Rattle.attractor_door.proofs.door.attractor.Tie as tie
 
