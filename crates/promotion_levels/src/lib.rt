@@ -1,0 +1,1 @@
+// The levels of priority promotion: nested sets that stand for the regions.
