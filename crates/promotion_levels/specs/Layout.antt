@@ -3,7 +3,7 @@
 use mathlib.Core.Bool.{Bool, _&&_, not, cond}
 use mathlib.Core.List.{List}
 use mathlib.Core.Path.{_≡_}
-use Prim.Native.Nat.{ℕ, _+_, _*_, _≤_, _<_, min}
+use Prim.Native.Nat.{ℕ, suc, _+_, _*_, _≤_, _<_, min}
 use lib.ListN.{length, getD}
 use Rattle.rules.specs.Counting.{Set}
 use Rattle.rules.specs.Game.{Player, Even, Odd}
@@ -63,7 +63,7 @@ regionIn n m s priorities work =
 
 -- the entry of v: in the last level there is none, whatever its word says
 abbrev pub entryIn : ℕ → ℕ → ℕ → List ℕ → ℕ → ℕ
-entryIn n m s work v = cond (levelIn n m s work (depthIn n m s work + 1) v) noEntry (getD work (entries n m + v) 0)
+entryIn n m s work v = cond (levelIn n m s work (suc (depthIn n m s work)) v) noEntry (getD work (entries n m + v) 0)
 
 -- what holds between two steps of a round
 pub record Ready (n : ℕ) (priorities offsets targets : List ℕ) (s : ℕ) (work : List ℕ) : Type 0 where
@@ -82,4 +82,4 @@ pub record Ready (n : ℕ) (priorities offsets targets : List ℕ) (s : ℕ) (wo
       (v : ℕ) →
       heldIn n (length targets) s work v ≡
       (levelIn n (length targets) s work (depthIn n (length targets) s work) v &&
-      not (levelIn n (length targets) s work (depthIn n (length targets) s work + 1) v))
+      not (levelIn n (length targets) s work (suc (depthIn n (length targets) s work)) v))

@@ -1,3 +1,6 @@
--- Regions as nested sets (Nesting), and where they stand in the work area (Layout).
+-- Regions as nested sets (Nesting), where they stand in the work area (Layout, Places), and what the steps of a round do to them.
 pub mod Nesting
 pub mod Layout
+pub mod Places
+pub mod Pulled
+pub mod Without
