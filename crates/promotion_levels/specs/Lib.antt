@@ -1,3 +1,4 @@
--- Regions as nested sets (Nesting), and where they stand in the work area (Layout).
+-- Regions as nested sets (Nesting), and where they stand in the work area (Layout); what the functions ask for and leave, and why.
 pub mod Nesting
 pub mod Layout
+pub mod Without
