@@ -1,1 +1,5 @@
-// The levels of priority promotion: nested sets that stand for the regions.
+// The levels of priority promotion: nested sets that stand for the regions. A level begins as the one before without
+// its vertices of the highest priority.
+mod levels;
+
+pub use levels::without;
