@@ -330,3 +330,31 @@ module _ (owners priorities : List ℕ) {offsets targets : List ℕ} (ok : Accep
               attracts = attracts2;
               won = λ i low high. low2 i (omega arith) (inr (omega arith)) (omega (arith, y-is));
             }
+
+-- ---- the same for the numbers that the code has
+
+module _ {owners offsets targets : List ℕ} {s p held base : ℕ} {w0 : List ℕ}
+    (q : QueryReady owners offsets targets s p held base w0)
+  where
+    pub given-attract : Attractable owners offsets targets (p % 2) base held w0
+    given-attract =
+        rw (q .current, q .base-is, q .held-is) (attract-ready owners (q .priorities) (q .accepted) (q .ready))
+
+    -- the places of `without`
+    pub given-fits : (base + s + s ≤ length w0) × (held + s ≤ base)
+    given-fits =
+        let high = y-high owners (q .priorities) (q .accepted) (q .ready) in
+        let is = y-is owners (q .priorities) (q .accepted) (q .ready) in
+        (omega (arith, q .base-is), omega (arith, q .base-is, q .held-is))
+
+    module _ (priorities : List ℕ) (ok : Accepted (tablesOf owners priorities offsets targets))
+        (ready : Ready (length owners) priorities offsets targets s w0) {w1 w2 : List ℕ} {looks : ℕ}
+      where
+        pub given-queried :
+            Attracted (tablesOf owners priorities offsets targets) (parity p) base held w0 w1 looks →
+            ((n : ℕ) → s ≡ words n → WithoutAt n (base + s) base held w1 w2) →
+            Queried owners priorities offsets targets s p w0 w2
+        given-queried c1 c2 =
+            let drawn = rw (q .current, q .base-is, q .held-is) at c1 in
+            let made = rw (q .base-is, q .held-is, ← y-is owners priorities ok ready) at (c2 (length owners) (ready .size)) in
+            rw (q .current) (queried owners priorities ok ready drawn made)

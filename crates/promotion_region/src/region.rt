@@ -1,0 +1,32 @@
+// R is drawn in.
+ghost use mathlib.Core.List.{List};
+ghost use Prim.Native.Nat.{ℕ};
+ghost use Rattle.rules.specs.Tables.{Accepted, tablesOf};
+ghost use Rattle.promotion_region.specs.Query.{QueryReady, Queried};
+ghost use Rattle.promotion_levels.specs.Layout.{Ready};
+ghost use lib.ListN.{length};
+
+// R, at `held`, is the attractor of region p within the current level, at `base`, and leaves the level after it.
+pub fn query(
+    owners: &[u8],
+    offsets: &[u16],
+    targets: &[u16],
+    p: usize,
+    s: usize,
+    work: &mut [u64],
+    held: usize,
+    base: usize,
+)
+    requires { ⌜ QueryReady (now owners) (now offsets) (now targets) s p held base (now work) ⌝ }
+    ensures { λ r.
+        ⌜ ((priorities : List ℕ) →
+        Accepted (tablesOf (now (owners .entry)) priorities (now (offsets .entry)) (now (targets .entry))) →
+        Ready (length (now (owners .entry))) priorities (now (offsets .entry)) (now (targets .entry)) s
+        (now (work .entry)) →
+        Queried (now (owners .entry)) priorities (now (offsets .entry)) (now (targets .entry)) s p
+        (now (work .entry)) (now (work .exit))) ⌝ }
+{
+    let alpha = (p % 2) as u8;
+    attractor::attract(owners, offsets, targets, alpha, work, base, held);
+    promotion_levels::without(s, work, base + s, base, held);
+}
