@@ -2,24 +2,27 @@
 use mathlib.Core.Bool.{Bool, true, false, _&&_, not, cond, and-false}
 use mathlib.Core.List.{List}
 use mathlib.Core.Logic.{_⊎_, inl, inr, ⊎-elim}
-use mathlib.Core.Path.{_≡_, refl, sym, ap, _∙_}
-use Prim.Native.Nat.{ℕ, suc, _+_, _*_, _≤_, _<_}
+use mathlib.Core.Path.{_≡_, refl, sym, ap, ap₂, subst, _∙_}
+use Prim.Native.Nat.{ℕ, suc, _+_, _-_, _*_, _≤_, _<_}
 use native.Mathlib.Nat.{le-refl}
 use native.Mathlib.Omega.{arith}
 use borrow.Author.Tests.{not-true}
 use lib.Dec.{ltb}
-use lib.ListN.{length, getD}
+use lib.ListN.{length, getD, set, length-set}
+use lib.Seq.{getD-set-same, getD-set-other}
 use Rattle.rules.specs.Counting.{Set}
 use Rattle.rules.specs.Game.{Even}
 use Rattle.rules.specs.Tables.{words}
 use Rattle.rules.specs.Words.{noEntry}
 use Rattle.theory.specs.Basics.{bool-cases, clash, and-left, and-right}
 use Rattle.area.specs.Area.{entries, free, setAt}
-use Rattle.area.specs.SetsAt.{set-kept}
+use Rattle.area.specs.SetsAt.{set-kept, set-reduced}
+use Rattle.sets.specs.After.{Combined}
 use Rattle.attractor.specs.Attracted.{listed-kept}
 use Rattle.promotion_levels.specs.Nesting.{regionOf, Nesting, inside-all, outside-all, below-is, promoted-nests, promoted-region, promoted-proper}
 use Rattle.promotion_levels.specs.Layout.{heldAt, wonAt, depthAt, topsAt, deep, levelsAt, levelAt, endAt, depthIn, topIn, levelIn, heldIn, regionIn, entryIn, Ready}
 use Rattle.promotion_levels.specs.Places.{next-level, level-apart, level-high, level-kept, sets-kept}
+use Rattle.promotion_levels.specs.Without.{WithoutAt}
 
 -- what it asks for: the places lie in the work area, R's before the level word, and that before the levels
 pub record Promotable (s held depth level : ℕ) (work : List ℕ) : Type 0 where
@@ -28,18 +31,64 @@ pub record Promotable (s held depth level : ℕ) (work : List ℕ) : Type 0 wher
   pub high : level + s + s ≤ length work
 
 -- what it leaves: the level after has lost R and is the last, and R is the region of the level now
-pub record PromotedTo (n held depth level j : ℕ) (before after : List ℕ) : Type 0 where
+pub record PromotedTo (n s held depth level j : ℕ) (before after : List ℕ) : Type 0 where
   pub long : length after ≡ length before
   pub next :
-      (v : ℕ) → setAt n (level + words n) after v ≡ (setAt n (level + words n) before v && not (setAt n held before v))
-  pub region : (v : ℕ) → setAt n held after v ≡ (setAt n level before v && not (setAt n (level + words n) after v))
+      (v : ℕ) → setAt n (level + s) after v ≡ (setAt n (level + s) before v && not (setAt n held before v))
+  pub region : (v : ℕ) → setAt n held after v ≡ (setAt n level before v && not (setAt n (level + s) after v))
   pub depth-is : getD after depth 0 ≡ j
   pub rest :
       (i : ℕ) →
       (i ≡ depth → ⊥) →
-      (i < held) ⊎ (held + words n ≤ i) →
-      (i < level + words n) ⊎ (level + words n + words n ≤ i) →
+      (i < held) ⊎ (held + s ≤ i) →
+      (i < level + s) ⊎ (level + s + s ≤ i) →
       getD after i 0 ≡ getD before i 0
+
+-- **its three writes leave that**
+pub promoted-made :
+    {n s held depth level j : ℕ} {w0 w1 w2 : List ℕ} →
+    s ≡ words n →
+    Promotable s held depth level w0 →
+    Combined _-_ (level + s) held s w0 w1 →
+    WithoutAt n held level (level + s) (set w1 depth j) w2 →
+    PromotedTo n s held depth level j w0 w2
+promoted-made {n} {s} {held} {depth} {level} {j} {w0} {w1} {w2} size given c1 c2 =
+    record {
+      long = c2 .long ∙ length-set w1 depth j ∙ c1 .long;
+      next = λ v. after-next v ∙ reduced v;
+      region = λ v. c2 .made v ∙ ap₂ (λ (x y : Bool). x && not y) (level-same v) (after-set v ∙ sym (after-next v));
+      depth-is =
+          c2 .rest depth (inr (omega (arith, size, given .held-low))) ∙
+          getD-set-same w1 depth j 0 (omega (arith, c1 .long, given .depth-low, given .high));
+      rest =
+          λ i d o x.
+          c2 .rest i (⊎-elim (λ l. inl l) (λ l. inr (omega (arith, size))) o) ∙ getD-set-other w1 depth i j 0 d ∙ c1 .rest i x;
+    }
+  where
+    combined : Combined _-_ (level + s) held (words n) w0 w1
+    combined = subst (λ (x : ℕ). Combined _-_ (level + s) held x w0 w1) size c1
+
+    reduced : (v : ℕ) → setAt n (level + s) w1 v ≡ (setAt n (level + s) w0 v && not (setAt n held w0 v))
+    reduced v = set-reduced n (level + s) held w0 w1 combined v
+
+    -- the level after is not touched again
+    after-set : (v : ℕ) → setAt n (level + s) (set w1 depth j) v ≡ setAt n (level + s) w1 v
+    after-set =
+        set-kept n (level + s) w1 (set w1 depth j)
+        (λ i low high. getD-set-other w1 depth i j 0 (λ e. omega (arith, given .depth-low)))
+
+    after-next : (v : ℕ) → setAt n (level + s) w2 v ≡ setAt n (level + s) w1 v
+    after-next v =
+        set-kept n (level + s) (set w1 depth j) w2
+        (λ i low high. c2 .rest i (inr (omega (arith, size, given .held-low, given .depth-low)))) v ∙
+        after-set v
+
+    -- nor is level j
+    level-same : (v : ℕ) → setAt n level (set w1 depth j) v ≡ setAt n level w0 v
+    level-same =
+        set-kept n level w0 (set w1 depth j)
+        (λ i low high.
+        getD-set-other w1 depth i j 0 (λ e. omega (arith, given .depth-low)) ∙ c1 .rest i (inl (omega (arith, size))))
 
 module _ {n : ℕ} {priorities offsets targets : List ℕ} {s : ℕ} {w0 : List ℕ}
     (ready : Ready n priorities offsets targets s w0) (j : ℕ)
@@ -77,7 +126,7 @@ module _ {n : ℕ} {priorities offsets targets : List ℕ} {s : ℕ} {w0 : List 
       pub promote-ready : Promotable s H (depthAt n m s) X w0
       promote-ready = record { held-low = omega arith; depth-low = omega arith; high = y-high }
 
-      module _ {w1 : List ℕ} (c : PromotedTo n H (depthAt n m s) X j w0 w1) where
+      module _ {w1 : List ℕ} (c : PromotedTo n s H (depthAt n m s) X j w0 w1) where
         abbrev L1 : ℕ → Set
         L1 = levelIn n m s w1
 
@@ -85,10 +134,7 @@ module _ {n : ℕ} {priorities offsets targets : List ℕ} {s : ℕ} {w0 : List 
         same1 :
             (i : ℕ) → (i ≡ depthAt n m s → ⊥) → (i < H) ⊎ (H + s ≤ i) → (i < X + s) ⊎ (X + s + s ≤ i) →
             getD w1 i 0 ≡ getD w0 i 0
-        same1 i d o x =
-            c .rest i d
-            (⊎-elim (λ l. inl l) (λ l. inr (omega (arith, size))) o)
-            (⊎-elim (λ l. inl (omega (arith, size))) (λ l. inr (omega (arith, size))) x)
+        same1 i d o x = c .rest i d o x
 
         low1 : (i : ℕ) → i < H → getD w1 i 0 ≡ getD w0 i 0
         low1 i l = same1 i (λ e. omega arith) (inl l) (inl (omega arith))
@@ -104,8 +150,8 @@ module _ {n : ℕ} {priorities offsets targets : List ℕ} {s : ℕ} {w0 : List 
         top1 i l =
             same1 (topsAt n m s + i) (λ e. omega arith) (inr (omega arith)) (inl (omega (arith, ready .depth)))
 
-        place : X + words n ≡ levelAt n m s (suc j)
-        place = omega (arith, y-is, size)
+        place : X + s ≡ levelAt n m s (suc j)
+        place = sym y-is
 
         last1 : (v : ℕ) → L1 (suc j) v ≡ (L (suc j) v && not (R v))
         last1 v = rw place at (c .next v)

@@ -1,3 +1,4 @@
 // What happens to R once it is closed: missing entries are filled, then R goes over to a higher region, or it is a
 // dominion and is solved.
 pub mod fill;
+pub mod promote;

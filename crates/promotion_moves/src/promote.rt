@@ -1,0 +1,18 @@
+// R goes over to a higher region.
+ghost use Prim.Native.Nat.{ℕ};
+ghost use mathlib.Core.Path.{_≡_};
+ghost use Rattle.rules.specs.Tables.{words};
+ghost use Rattle.promotion_moves.specs.Promotion.{Promotable, PromotedTo};
+
+// Level j, at `level`, is the current one: the level after it loses R and is the last, so that all else in it goes back
+// to its priorities; R, at `held`, becomes the region of level j.
+pub fn promote(s: usize, work: &mut [u64], held: usize, depth: usize, level: usize, j: usize)
+    requires { ⌜ Promotable s held depth level (now work) ⌝ }
+    ensures { λ r.
+        ⌜ ((n : ℕ) → s ≡ words n →
+        PromotedTo n s held depth level j (now (work .entry)) (now (work .exit))) ⌝ }
+{
+    sets::difference_with(work, level + s, held, s);
+    work[depth] = j as u64;
+    promotion_levels::without(s, work, held, level, level + s);
+}
