@@ -1,0 +1,280 @@
+-- R is a dominion: what the calls of `solve_dominion` ask for and leave, one after the other.
+use mathlib.Core.Bool.{Bool, true, false, _&&_, _||_, not, cond}
+use mathlib.Core.List.{List}
+use mathlib.Core.Logic.{_⊎_, inl, inr, ⊎-elim}
+use mathlib.Core.Path.{_≡_, refl, sym, ap, ap₂, subst, _∙_}
+use Prim.Native.Nat.{ℕ, _+_, _-_, _*_, _%_, _≤_, _<_, max}
+use native.Mathlib.Omega.{arith}
+use lib.ListN.{length, getD}
+use Rattle.rules.specs.Counting.{Set}
+use Rattle.rules.specs.Game.{Player, Even, Odd, Game, parity, playerOf, same}
+use Rattle.rules.specs.Tables.{Tables, words, gameOf, Accepted, tablesOf}
+use Rattle.rules.specs.Attractor.{attractor}
+use Rattle.theory.specs.Basics.{bool-cases, clash, not-true-is-false, lt-or-ge, same-true}
+use Rattle.predecessors.specs.Table.{SoundEdges}
+use Rattle.sets.specs.After.{Combined, Parts}
+use Rattle.sets.specs.Laws.{bit-other}
+use Rattle.area.specs.Area.{entries, free, setAt, wordsAt}
+use Rattle.area.specs.SetsAt.{set-kept, set-united, set-reduced}
+use Rattle.attractor.specs.Attracted.{Nested, Listed, Attractable, Attracted}
+use Rattle.promotion_levels.specs.Pulled.{Pulled, pulled-as, attract-pulled}
+
+-- where what a player has won stands: behind R
+abbrev pub wonBehind : ℕ → ℕ → Player → ℕ
+wonBehind s held Even = held + s
+wonBehind s held Odd = held + 2 * s
+
+-- what it asks for: the tables are accepted with some priorities, R lies in level 0, and the places do not overlap
+pub record DominionReady (owners offsets targets : List ℕ) (s held levels : ℕ) (work : List ℕ) : Type 0 where
+  pub priorities : List ℕ
+  pub accepted : Accepted (tablesOf owners priorities offsets targets)
+  pub size : s ≡ words (length owners)
+  pub edges : SoundEdges (length owners) offsets targets
+  pub listed : Listed (length owners) offsets targets work
+  pub nested : Nested (length owners) levels held work
+  pub low : free (length owners) (length targets) ≤ held
+  pub apart : held + 3 * s ≤ levels
+  pub high : levels + s ≤ length work
+
+-- what it leaves: R's place has its attractor D, which has left level 0 and is won
+pub record Dominated (owners priorities offsets targets : List ℕ) (s p held levels : ℕ) (before after : List ℕ) : Type 0 where
+  pub long : length after ≡ length before
+  pub pulled :
+      let n = length owners in
+      let m = length targets in
+      Pulled (gameOf (tablesOf owners priorities offsets targets)) (parity p) (setAt n levels before) (setAt n held before)
+      (setAt n held after) (λ v. getD before (entries n m + v) 0) (λ v. getD after (entries n m + v) 0)
+  pub left :
+      let n = length owners in
+      (v : ℕ) → setAt n levels after v ≡ (setAt n levels before v && not (setAt n held after v))
+  pub won :
+      let n = length owners in
+      (b : Player) (v : ℕ) →
+      setAt n (wonBehind s held b) after v ≡
+      cond (same (parity p) b) (setAt n (wonBehind s held b) before v || setAt n held after v)
+      (setAt n (wonBehind s held b) before v)
+  pub table : (i : ℕ) → i < length owners + 1 + length targets → getD after i 0 ≡ getD before i 0
+  pub rest :
+      (i : ℕ) →
+      free (length owners) (length targets) ≤ i →
+      (i < held) ⊎ (held + 3 * s ≤ i) →
+      (i < levels) ⊎ (levels + s ≤ i) →
+      getD after i 0 ≡ getD before i 0
+
+-- the place that the code picks
+pub won-picked :
+    (s held p won : ℕ) →
+    ((p % 2 ≡ 0) × (won ≡ held + s)) ⊎ ((p % 2 ≡ 0 → ⊥) × (won ≡ held + 2 * s)) →
+    won ≡ wonBehind s held (parity p)
+won-picked s held p won (inl (e, is)) = is ∙ sym (ap (λ (x : ℕ). wonBehind s held (playerOf x)) e)
+won-picked s held p won (inr (d, is)) =
+    let one : p % 2 ≡ 1 = omega (arith, d) in is ∙ sym (ap (λ (x : ℕ). wonBehind s held (playerOf x)) one)
+
+module _ {owners offsets targets : List ℕ} {s held levels : ℕ} {w0 : List ℕ}
+    (given : DominionReady owners offsets targets s held levels w0) (p : ℕ)
+  where
+    abbrev n : ℕ
+    n = length owners
+
+    abbrev m : ℕ
+    m = length targets
+
+    abbrev W : Player → ℕ
+    W = wonBehind s held
+
+    size : s ≡ words n
+    size = given .size
+
+    won-low : (b : Player) → held + s ≤ W b
+    won-low Even = omega arith
+    won-low Odd = omega arith
+
+    won-high : (b : Player) → W b + s ≤ held + 3 * s
+    won-high Even = omega arith
+    won-high Odd = omega arith
+
+    won-apart : (a b : Player) → same a b ≡ false → (W b + words n ≤ W a) ⊎ (W a + words n ≤ W b)
+    won-apart Even Even e = absurd (clash refl e)
+    won-apart Odd Odd e = absurd (clash refl e)
+    won-apart Even Odd e = inr (omega (arith, size))
+    won-apart Odd Even e = inl (omega (arith, size))
+
+    pub attract-ready : Attractable owners offsets targets (p % 2) levels held w0
+    attract-ready =
+        record {
+          placed =
+              record {
+                within-low = omega (arith, given .low, given .apart);
+                within-high = omega (arith, size, given .high);
+                set-low = given .low;
+                set-high = omega (arith, size, given .apart, given .high);
+                apart = inr (omega (arith, size, given .apart));
+              };
+          nested = given .nested;
+          edges = given .edges;
+          listed = given .listed;
+          side = omega arith;
+        }
+
+    module _ (priorities : List ℕ) (ok : Accepted (tablesOf owners priorities offsets targets))
+        {w1 : List ℕ} {looks : ℕ}
+        (c1 : Attracted (tablesOf owners priorities offsets targets) (parity p) levels held w0 w1 looks)
+      where
+        abbrev g : Game
+        g = gameOf (tablesOf owners priorities offsets targets)
+
+        abbrev a : Player
+        a = parity p
+
+        abbrev D : Set
+        D = attractor g a (setAt n levels w0) (setAt n held w0)
+
+        drawn1 :
+            Pulled g a (setAt n levels w0) (setAt n held w0) D (λ v. getD w0 (entries n m + v) 0)
+            (λ v. getD w1 (entries n m + v) 0)
+        drawn1 = attract-pulled ok (given .nested) c1
+
+        held1 : (v : ℕ) → D v ≡ setAt n held w1 v
+        held1 v =
+            ⊎-elim
+            (λ l. sym (c1 .holds .bits v l))
+            (λ l.
+            not-true-is-false (D v)
+            (λ i. let b = given .nested .below v (drawn1 .certificate .inside v i) in omega arith) ∙
+            sym (bit-other (wordsAt n held w1) v (c1 .holds .clear v l)))
+            (lt-or-ge v n)
+
+        same1 : (i : ℕ) → free n m ≤ i → (i < held) ⊎ (held + s ≤ i) → getD w1 i 0 ≡ getD w0 i 0
+        same1 i low (inl l) = c1 .rest i low (inl l)
+        same1 i low (inr l) = c1 .rest i low (inr (omega (arith, size)))
+
+        pub union-parts : {won : ℕ} → won ≡ W a → Parts won held s w1
+        union-parts is =
+            let low = won-low a in
+            let high = won-high a in
+            record {
+              into-fits = omega (arith, given .apart, given .high, c1 .long);
+              from-fits = omega (arith, given .apart, given .high, c1 .long);
+              apart = inr (omega arith);
+            }
+
+        module _ {won : ℕ} (is : won ≡ W a) {w2 : List ℕ} (made2 : Combined max won held s w1 w2) where
+          c2 : Combined max (W a) held (words n) w1 w2
+          c2 =
+              subst (λ (k : ℕ). Combined max (W a) held k w1 w2) size
+              (subst (λ (k : ℕ). Combined max k held s w1 w2) is made2)
+
+          pub difference-parts : Parts levels held s w2
+          difference-parts =
+              record {
+                into-fits = omega (arith, given .high, c1 .long, c2 .long);
+                from-fits = omega (arith, given .apart, given .high, c1 .long, c2 .long);
+                apart = inr (omega (arith, given .apart));
+              }
+
+          module _ {w3 : List ℕ} (made3 : Combined _-_ levels held s w2 w3) where
+            c3 : Combined _-_ levels held (words n) w2 w3
+            c3 = subst (λ (k : ℕ). Combined _-_ levels held k w2 w3) size made3
+
+            -- words before the sets won are written by the attractor alone
+            front3 : (i : ℕ) → i < held + s → getD w3 i 0 ≡ getD w1 i 0
+            front3 i l =
+                let low = won-low a in
+                c3 .rest i (inl (omega (arith, given .apart))) ∙ c2 .rest i (inl (omega arith))
+
+            held3 : (v : ℕ) → setAt n held w3 v ≡ setAt n held w1 v
+            held3 = set-kept n held w1 w3 (λ i low high. front3 i (omega (arith, size)))
+
+            level2 : (v : ℕ) → setAt n levels w2 v ≡ setAt n levels w0 v
+            level2 =
+                set-kept n levels w0 w2
+                (λ i low high.
+                let most = won-high a in
+                c2 .rest i (inr (omega (arith, size, given .apart))) ∙
+                same1 i (omega (arith, given .low, given .apart)) (inr (omega (arith, given .apart))))
+
+            held2 : (v : ℕ) → setAt n held w2 v ≡ setAt n held w3 v
+            held2 v =
+                sym (set-kept n held w2 w3 (λ i low high. c3 .rest i (inl (omega (arith, size, given .apart)))) v)
+
+            won1 : (b : Player) (v : ℕ) → setAt n (W b) w1 v ≡ setAt n (W b) w0 v
+            won1 b =
+                set-kept n (W b) w0 w1
+                (λ i low high.
+                let first = won-low b in
+                same1 i (omega (arith, given .low)) (inr (omega arith)))
+
+            won3 : (b : Player) (v : ℕ) → setAt n (W b) w3 v ≡ setAt n (W b) w2 v
+            won3 b =
+                set-kept n (W b) w2 w3
+                (λ i low high.
+                let last = won-high b in
+                c3 .rest i (inl (omega (arith, size, given .apart))))
+
+            won-now :
+                (b : Player) (v : ℕ) →
+                setAt n (W b) w3 v ≡
+                cond (same a b) (setAt n (W b) w0 v || setAt n held w3 v) (setAt n (W b) w0 v)
+            won-now b v =
+                won3 b v ∙
+                ⊎-elim
+                (λ (e : same a b ≡ true).
+                ap (λ (x : Player). setAt n (W x) w2 v) (sym (same-true a b e)) ∙
+                set-united n (W a) held w1 w2 c2 v ∙
+                ap₂ (λ (x y : Bool). x || y) (won1 a v) (sym (held3 v)) ∙
+                ap (λ (x : Player). setAt n (W x) w0 v || setAt n held w3 v) (same-true a b e) ∙
+                sym (ap (λ (x : Bool). cond x (setAt n (W b) w0 v || setAt n held w3 v) (setAt n (W b) w0 v)) e))
+                (λ (e : same a b ≡ false).
+                set-kept n (W b) w1 w2
+                (λ i low high.
+                c2 .rest i (⊎-elim (λ h. inl (omega arith)) (λ h. inr (omega arith)) (won-apart a b e))) v ∙
+                won1 b v ∙
+                sym (ap (λ (x : Bool). cond x (setAt n (W b) w0 v || setAt n held w3 v) (setAt n (W b) w0 v)) e))
+                (bool-cases (same a b))
+
+            -- **R's attractor is won, and no longer unsolved**
+            pub dominated : Dominated owners priorities offsets targets s p held levels w0 w3
+            unfolding gameOf
+            dominated =
+                record {
+                  long = c3 .long ∙ c2 .long ∙ c1 .long;
+                  pulled =
+                      let as-held = pulled-as (λ v. refl) (λ v. refl) (λ v. held1 v ∙ sym (held3 v)) drawn1 in
+                      record {
+                        certificate = as-held .certificate;
+                        near = as-held .near;
+                        entered =
+                            λ v i out o.
+                            front3 (entries n m + v) (entry-low v (small v i)) ∙ as-held .entered v i out o;
+                        kept = λ v l no. front3 (entries n m + v) (entry-low v (size-is v l)) ∙ as-held .kept v l no;
+                      };
+                  left =
+                      λ v.
+                      set-reduced n levels held w2 w3 c3 v ∙
+                      ap₂ (λ (x y : Bool). x && not y) (level2 v) (held2 v);
+                  won = won-now;
+                  table = λ i l. front3 i (omega (arith, given .low)) ∙ c1 .table i l;
+                  rest = λ i low o x. rest3 i low o x;
+                }
+              where
+                small : (v : ℕ) → setAt n held w3 v ≡ true → v < n
+                small v i =
+                    given .nested .below v (drawn1 .certificate .inside v (held1 v ∙ sym (held3 v) ∙ i))
+
+                size-is : (v : ℕ) → v < g .size → v < n
+                size-is v l = l
+
+                entry-low : (v : ℕ) → v < n → entries n m + v < held + s
+                entry-low v l = omega (arith, given .low)
+
+                rest3 :
+                    (i : ℕ) → free n m ≤ i → (i < held) ⊎ (held + 3 * s ≤ i) → (i < levels) ⊎ (levels + s ≤ i) →
+                    getD w3 i 0 ≡ getD w0 i 0
+                rest3 i low o x =
+                    c3 .rest i (⊎-elim (λ l. inl l) (λ l. inr (omega (arith, size))) x) ∙
+                    ⊎-elim
+                    (λ l. let first = won-low a in c2 .rest i (inl (omega arith)) ∙ same1 i low (inl l))
+                    (λ l.
+                    let last = won-high a in
+                    c2 .rest i (inr (omega (arith, size))) ∙ same1 i low (inr (omega arith)))
+                    o

@@ -1,0 +1,30 @@
+// R is a dominion.
+ghost use mathlib.Core.List.{List};
+ghost use Prim.Native.Nat.{ℕ};
+ghost use Rattle.rules.specs.Tables.{Accepted, tablesOf};
+ghost use Rattle.promotion_moves.specs.Dominion.{DominionReady, Dominated};
+
+// What R, at `held`, attracts among the unsolved vertices, which are level 0, is won and solved. R's place has it then.
+pub fn solve_dominion(
+    owners: &[u8],
+    offsets: &[u16],
+    targets: &[u16],
+    p: usize,
+    s: usize,
+    work: &mut [u64],
+    held: usize,
+    levels: usize,
+)
+    requires { ⌜ DominionReady (now owners) (now offsets) (now targets) s held levels (now work) ⌝ }
+    ensures { λ r.
+        ⌜ ((priorities : List ℕ) →
+        Accepted (tablesOf (now (owners .entry)) priorities (now (offsets .entry)) (now (targets .entry))) →
+        Dominated (now (owners .entry)) priorities (now (offsets .entry)) (now (targets .entry)) s p held levels
+        (now (work .entry)) (now (work .exit))) ⌝ }
+{
+    let alpha = (p % 2) as u8;
+    attractor::attract(owners, offsets, targets, alpha, work, levels, held);
+    let won = if p % 2 == 0 { held + s } else { held + 2 * s };
+    sets::union_with(work, won, held, s);
+    sets::difference_with(work, levels, held, s);
+}
