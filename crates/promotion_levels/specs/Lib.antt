@@ -4,3 +4,4 @@ pub mod Layout
 pub mod Places
 pub mod Pulled
 pub mod Without
+pub mod Kept
