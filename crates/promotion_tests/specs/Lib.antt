@@ -1,3 +1,4 @@
 -- What the two tests on R ask for and find.
 pub mod Escapes
+pub mod Highest
 pub mod Opening
