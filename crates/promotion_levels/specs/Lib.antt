@@ -2,3 +2,4 @@
 pub mod Nesting
 pub mod Layout
 pub mod Without
+pub mod Forgetting

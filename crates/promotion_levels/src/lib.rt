@@ -2,4 +2,5 @@
 // its vertices of the highest priority.
 mod levels;
 
+pub use levels::forget;
 pub use levels::without;
