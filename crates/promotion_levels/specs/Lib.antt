@@ -3,3 +3,4 @@ pub mod Nesting
 pub mod Layout
 pub mod Without
 pub mod Forgetting
+pub mod Beginning
