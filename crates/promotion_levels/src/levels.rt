@@ -1,9 +1,16 @@
 // One set without another, and how a level begins.
-ghost use Prim.Native.Nat.{ℕ};
+use walk::Members;
+use walk::Next;
+ghost use mathlib.Core.List.{List};
 ghost use mathlib.Core.Path.{_≡_};
+ghost use Prim.Native.Nat.{ℕ};
 ghost use Rattle.rules.specs.Tables.{words};
 ghost use Rattle.sets.specs.After.{Parts};
+ghost use Rattle.area.specs.Area.{free};
+ghost use Rattle.priority_sets.specs.Sorting.{SetsOf};
 ghost use Rattle.promotion_levels.specs.Without.{WithoutAt};
+ghost use Rattle.promotion_levels.specs.Forgetting.{Forgettable, Forgotten};
+ghost use Rattle.promotion_levels.specs.Beginning.{Beginnable, Begun};
 
 // The set at `into` becomes the one without the other, word by word.
 pub fn without(s: usize, work: &mut [u64], into: usize, one: usize, other: usize)
@@ -15,4 +22,47 @@ pub fn without(s: usize, work: &mut [u64], into: usize, one: usize, other: usize
     for i in 0..s {
         work[into + i] = work[one + i] & !work[other + i];
     }
+}
+
+// Every member of the set loses its entry.
+pub fn forget(s: usize, work: &mut [u64], set: usize, entries: usize)
+    requires { ⌜ ((n : ℕ) × Forgettable n s set entries (now work)) ⌝ }
+    ensures { λ r.
+        ⌜ ((n : ℕ) → Forgettable n s set entries (now (work .entry)) →
+        Forgotten n set entries (now (work .entry)) (now (work .exit))) ⌝ }
+{
+    let mut walk = Members::new(&work[set..set + s]);
+    loop {
+        let next = walk.next(&work[set..set + s]);
+        let Next::Member(member, rest) = next else {
+            return;
+        };
+        let v = member.0;
+        work[entries + v] = 65535;
+        walk = rest;
+    }
+}
+
+// The level at `base` begins with priority p, the highest in it: R, at `held`, is its vertices of priority p, which
+// have no entry, and the level after it is the rest.
+pub fn begin_level(
+    n: usize,
+    m: usize,
+    p: usize,
+    s: usize,
+    work: &mut [u64],
+    held: usize,
+    base: usize,
+    entries: usize,
+)
+    requires { ⌜ Beginnable n m p s held base entries (now work) ⌝ }
+    ensures { λ r.
+        ⌜ ((priorities : List ℕ) → SetsOf n priorities n (free n m) (now (work .entry)) →
+        Begun n priorities p s held base entries (now (work .entry)) (now (work .exit))) ⌝ }
+{
+    let of = priority_sets::set_at(n, m, s, p);
+    let next = base + s;
+    without(s, work, next, base, of);
+    without(s, work, held, base, next);
+    forget(s, work, held, entries);
 }

@@ -2,4 +2,6 @@
 // its vertices of the highest priority.
 mod levels;
 
+pub use levels::begin_level;
+pub use levels::forget;
 pub use levels::without;
