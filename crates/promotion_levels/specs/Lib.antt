@@ -4,3 +4,4 @@ pub mod Layout
 pub mod Without
 pub mod Forgetting
 pub mod Beginning
+pub mod Descending
