@@ -1,4 +1,6 @@
 // One set without another, and how a level begins.
+use highest_priority::get_highest_prio;
+use parity_game::Priority;
 use walk::Members;
 use walk::Next;
 ghost use mathlib.Core.List.{List};
@@ -11,6 +13,7 @@ ghost use Rattle.priority_sets.specs.Sorting.{SetsOf};
 ghost use Rattle.promotion_levels.specs.Without.{WithoutAt};
 ghost use Rattle.promotion_levels.specs.Forgetting.{Forgettable, Forgotten};
 ghost use Rattle.promotion_levels.specs.Beginning.{Beginnable, Begun};
+ghost use Rattle.promotion_levels.specs.Descending.{Descends, Descended};
 
 // The set at `into` becomes the one without the other, word by word.
 pub fn without(s: usize, work: &mut [u64], into: usize, one: usize, other: usize)
@@ -65,4 +68,29 @@ pub fn begin_level(
     without(s, work, next, base, of);
     without(s, work, held, base, next);
     forget(s, work, held, entries);
+}
+
+// Level k becomes the current one: its priority is the highest in it, which is at most `bound`, and it begins.
+pub fn descend(
+    priorities: &[u16],
+    m: usize,
+    s: usize,
+    work: &mut [u64],
+    held: usize,
+    levels: usize,
+    k: usize,
+    bound: usize,
+) -> Priority
+    requires { ⌜ Descends (now priorities) m s held levels k bound (now work) ⌝ }
+    ensures { λ r. ⌜ Descended (now (priorities .entry)) m s k (r .0) (now (work .entry)) (now (work .exit)) ⌝ }
+{
+    let n = priorities.len();
+    let base = levels + k * s;
+    let depth = held + 3 * s;
+    let top = get_highest_prio(priorities, &work[base..base + s], bound);
+    let p = top.0;
+    work[depth + 1 + k] = p as u64;
+    work[depth] = k as u64;
+    begin_level(n, m, p, s, work, held, base, n + 1 + m + n + n);
+    Priority(p)
 }

@@ -3,5 +3,6 @@
 mod levels;
 
 pub use levels::begin_level;
+pub use levels::descend;
 pub use levels::forget;
 pub use levels::without;
