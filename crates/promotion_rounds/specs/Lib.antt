@@ -1,2 +1,4 @@
 -- What the work area shows of the rules' state, and what each round makes of it.
 pub mod Shown
+pub mod Rounds
+pub mod Solve
