@@ -74,19 +74,19 @@ module _ {owners priorities offsets targets : List ℕ} (ok : Accepted (tablesOf
     abbrev k : ℕ
     k = depthIn n m s w0
 
-    total : Total g
+    pub total : Total g
     total = accepted-total t ok
 
-    standing : Standing g r
+    pub standing : Standing g r
     standing = after-standing g total (λ v l. accepted-priority t ok v) made
 
-    small : p < 256
+    pub small : p < 256
     small = standing .small
 
     pub current-small : current < 256
     current-small = rw (shows .current) small
 
-    top-is : topIn n m s w0 k ≡ p
+    pub top-is : topIn n m s w0 k ≡ p
     top-is = sym (shows .top) ∙ shows .current
 
     -- the regions before the round are the rules'
@@ -109,7 +109,7 @@ module _ {owners priorities offsets targets : List ℕ} (ok : Accepted (tablesOf
       pub R-is : (v : ℕ) → R v ≡ regionSet g r v
       R-is = region-table g r (regionIn n m s priorities w0) agrees0 (c1 .attracts .certificate)
 
-      agrees1 : (v : ℕ) → v < g .size → T v ≡ attractedRegion g r v
+      pub agrees1 : (v : ℕ) → v < g .size → T v ≡ attractedRegion g r v
       unfolding gameOf
       agrees1 v l =
           c1 .region v ∙ ap₂ (λ (b : Bool) (x : ℕ). cond b p x) (R-is v) (shows .region v l) ∙
@@ -119,29 +119,29 @@ module _ {owners priorities offsets targets : List ℕ} (ok : Accepted (tablesOf
       abbrev L : ℕ → Set
       L = levelIn n m s w1
 
-      depth1 : depthIn n m s w1 ≡ k
+      pub depth1 : depthIn n m s w1 ≡ k
       depth1 = c1 .depth
 
-      nests1 : Nesting n k L (topIn n m s w1) (λ v. getD priorities v 0)
+      pub nests1 : Nesting n k L (topIn n m s w1) (λ v. getD priorities v 0)
       nests1 = rw depth1 at (c1 .ready .nests)
 
-      top1 : topIn n m s w1 k ≡ p
+      pub top1 : topIn n m s w1 k ≡ p
       top1 = c1 .tops k (le-refl k) ∙ top-is
 
-      T-is : (v : ℕ) → T v ≡ regionOf L (topIn n m s w1) (λ u. getD priorities u 0) k v
+      pub T-is : (v : ℕ) → T v ≡ regionOf L (topIn n m s w1) (λ u. getD priorities u 0) k v
       T-is v = ap (λ (j : ℕ). regionOf L (topIn n m s w1) (λ u. getD priorities u 0) j v) depth1
 
       -- R are the vertices of region p, and the last level those below
-      held-is : (v : ℕ) → R v ≡ eqb (T v) p
+      pub held-is : (v : ℕ) → R v ≡ eqb (T v) p
       held-is v =
           (rw depth1 at (c1 .ready .held v)) ∙ sym (here-is nests1 k v (le-refl k)) ∙
           ap₂ (λ (x y : ℕ). eqb x y) (sym (T-is v)) top1
 
-      last-is : (v : ℕ) → L (suc k) v ≡ ltb (T v) p
+      pub last-is : (v : ℕ) → L (suc k) v ≡ ltb (T v) p
       last-is v = sym (below-is nests1 k v (le-refl k)) ∙ ap₂ (λ (x y : ℕ). ltb x y) (sym (T-is v)) top1
 
       -- **open, as the code tells it**
-      open-same :
+      pub open-same :
           isOpenIn owners offsets targets (p % 2) (heldAt n m s) (levelAt n m s (suc k)) w1 ≡ some (g .size) (openAt g T p)
       unfolding gameOf
       open-same =
