@@ -1,5 +1,6 @@
 -- What the work area shows of the rules' state, and what each round makes of it.
 pub mod Shown
 pub mod Opened
+pub mod Filled
 pub mod Rounds
 pub mod Solve

@@ -1,10 +1,10 @@
 // The highest level below k that the opponent can go to from R, as one more than its number, 0 if there is none.
 use walk::Members;
 use walk::Next;
+ghost use lib.ListN.{length};
+ghost use Rattle.area.specs.Area.{setAt};
 ghost use Rattle.promotion_tests.specs.Escapes.{setsFrom, levelFrom, Climbable, Looks, Escapable};
 ghost use Rattle.promotion_tests.specs.Highest.{Climbed, HighestOf, HighestLevel};
-ghost use Rattle.area.specs.Area.{setAt};
-ghost use lib.ListN.{length};
 
 // From level `best` up to the first that does not hold w, or to level k.
 fn climb(s: usize, work: &[u64], levels: usize, k: usize, w: usize, best: usize) -> usize
