@@ -2,5 +2,7 @@
 pub mod Shown
 pub mod Opened
 pub mod Filled
+pub mod Above
+pub mod Promoted
 pub mod Rounds
 pub mod Solve
