@@ -4,5 +4,6 @@ pub mod Opened
 pub mod Filled
 pub mod Above
 pub mod Promoted
+pub mod Solved
 pub mod Rounds
 pub mod Solve

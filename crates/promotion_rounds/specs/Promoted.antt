@@ -93,22 +93,22 @@ module _ {owners priorities offsets targets : List ℕ} (ok : Accepted (tablesOf
     abbrev T : ℕ → ℕ
     T = regionIn n m s priorities w2
 
-    total : Total g
+    pub total : Total g
     total = shown.total ok made shows
 
-    small : p < 256
+    pub small : p < 256
     small = shown.small ok made shows
 
     -- R are the vertices of region p
     pub held-is : (v : ℕ) → heldIn (length owners) (length targets) s w2 v ≡ eqb (T v) p
     held-is v = ready .held v ∙ sym (here-is (ready .nests) k v (le-refl k)) ∙ ap (λ (x : ℕ). eqb (T v) x) top
 
-    held-small : (v : ℕ) → heldIn n m s w2 v ≡ true → v < n
+    pub held-small : (v : ℕ) → heldIn n m s w2 v ≡ true → v < n
     held-small v i =
         ready .nests .below v
         (inside-all (ready .nests) 0 k v (omega arith) (omega arith) (and-left (levelIn n m s w2 k v) _ (sym (ready .held v) ∙ i)))
 
-    not-open : some (g .size) (openAt g T p) ≡ false
+    pub not-open : some (g .size) (openAt g T p) ≡ false
     not-open = sym (open-read g total r small T agrees) ∙ closed
 
     -- **the region that the code finds is the one to promote to**
