@@ -68,6 +68,8 @@ pub record Queried (owners priorities offsets targets : List ℕ) (s p : ℕ) (b
       wonAt (length owners) (length targets) s Even ≤ i →
       i < depthAt (length owners) (length targets) s →
       getD after i 0 ≡ getD before i 0
+  -- behind the levels nothing is touched
+  pub rest : (i : ℕ) → endAt (length owners) (length targets) s ≤ i → getD after i 0 ≡ getD before i 0
 
 module _ (owners priorities : List ℕ) {offsets targets : List ℕ} (ok : Accepted (tablesOf owners priorities offsets targets))
     {s : ℕ} {w0 : List ℕ} (ready : Ready (length owners) priorities offsets targets s w0)
@@ -329,6 +331,10 @@ module _ (owners priorities : List ℕ) {offsets targets : List ℕ} (ok : Accep
                   drawn-region (ready .nests) {R = R} gained2 part2 level2 top2 last2 v;
               attracts = attracts2;
               won = λ i low high. low2 i (omega arith) (inr (omega arith)) (omega (arith, y-is));
+              rest =
+                  λ i l.
+                  let high = level-high n m s (suc k) (omega (arith, ready .depth)) in
+                  same2 i (inr (omega arith)) ∙ same1 i (omega arith) (inr (omega arith));
             }
 
 -- ---- the same for the numbers that the code has
