@@ -6,4 +6,6 @@ pub mod Above
 pub mod Promoted
 pub mod Solved
 pub mod Rounds
+pub mod Round
 pub mod Solve
+pub mod Counts

@@ -1,0 +1,504 @@
+-- `round` meets its contract: each call finds what it asks for, and the three ways out are the three kinds of round.
+use mathlib.Core.Path.{_≡_, refl, _∙_}
+use native.Mathlib.Omega.{arith}
+use lib.ListN.{length, getD}
+use Prim.Native.Nat.{ℕ, _≤_}
+use Rattle.promotion_levels.specs.Layout.{endAt, Ready}
+use Rattle.promotion_region.specs.Query.{Queried}
+use Rattle.promotion_rounds.specs.Round.{levels-place, placed-by, round-places, round-depth, base-room, round-query, round-openable}
+use Rattle.promotion_rounds.specs.Round.{round-descend, opened-same, round-opens, round-fill, filled-long, round-escapable}
+use Rattle.promotion_rounds.specs.Round.{top-fits, round-promotable, promoted-same, round-promotes, round-dominion}
+use Rattle.promotion_rounds.specs.Round.{round-first, solved-same, round-solves, solved-ready, first-room, left-few, left-counted}
+use borrow.Author.Needs.{needs}
+use Rattle.promotion_rounds.proofs.round.round.Statement.{statement}
+use Rattle.promotion_rounds.proofs.round.round.Tie as tie
+
+-- where the function begins, and where the places are known
+abbrev first : tie.After-held-at → tie.Start
+first h = h .before .before .before .before .before .before
+
+-- how many vertices and edges there are
+abbrev many : tie.After-held-at → ℕ
+many h = length (first h .args .owners .now)
+
+abbrev edges : tie.After-held-at → ℕ
+edges h = length (first h .args .targets .now)
+
+abbrev placed : tie.After-query → tie.After-levels-at
+placed q = q .before .before .before .before
+
+-- the query, where it is known whether R is open
+abbrev asked : tie.After-is-open → tie.After-query
+asked o = o .before .before .before .before
+
+-- the same where the entries are filled, where the escape is known, and where the first level has begun again
+abbrev told : tie.After-assign-missing-strategies → tie.After-is-open
+told f = f .before .before .before
+
+abbrev filled : tie.After-best-escape → tie.After-assign-missing-strategies
+filled b = b .before .before .before .before
+
+abbrev solved : tie.After-descend2 → tie.After-solve-dominion
+solved t = t .before .before .before .before
+
+-- what the query did
+queried :
+    (q : tie.After-query) →
+    let a = first (placed q .before) .args in
+    Queried (a .owners .now) (a .priorities .now) (a .offsets .now) (a .targets .now) (a .s) (a .state .current .0) (a .work .now)
+    (q .query .last .1 .1 .1 .1 .1 .0)
+queried q =
+    let g = first (placed q .before) in q .query .ensures (g .args .priorities .now) (g .pre .accepted) (g .pre .shows .ready)
+
+held-at-requires : tie.Need-held-at-requires
+held-at-requires c κs =
+    let g = c .before .before .before .before .before in round-places (g .pre .accepted) (g .pre .made) (g .pre .shows)
+
+mul-depth : tie.Need-mul-depth
+mul-depth c =
+    let g = first c in
+    let low = round-depth (g .pre .accepted) (g .pre .made) (g .pre .shows) (c .held-at .ensures) in omega (arith, low)
+
+add-depth : tie.Need-add-depth
+add-depth c =
+    let g = first c in
+    let low = round-depth (g .pre .accepted) (g .pre .made) (g .pre .shows) (c .held-at .ensures) in omega (arith, low)
+
+levels-at-requires : tie.Need-levels-at-requires
+levels-at-requires c κs =
+    let g = first c in round-depth (g .pre .accepted) (g .pre .made) (g .pre .shows) (c .held-at .ensures)
+
+mul-k : tie.Need-mul-k
+mul-k c = search needs
+
+slice-read-k : tie.Need-slice-read-k
+slice-read-k c = search needs
+
+mul-base : tie.Need-mul-base
+mul-base c =
+    let l = c .before in
+    let g = first (l .before) in
+    let at = placed-by (many (l .before)) (edges (l .before)) (g .args .s) (g .args .work .now) (l .before .held-at .ensures) (l .levels-at .ensures) in
+    let room = base-room (g .pre .accepted) (g .pre .made) (g .pre .shows) at in
+    omega (arith, room, g .good)
+
+add-base : tie.Need-add-base
+add-base c =
+    let l = c .before in
+    let g = first (l .before) in
+    let at = placed-by (many (l .before)) (edges (l .before)) (g .args .s) (g .args .work .now) (l .before .held-at .ensures) (l .levels-at .ensures) in
+    let room = base-room (g .pre .accepted) (g .pre .made) (g .pre .shows) at in
+    omega (arith, room, g .good)
+
+cast-alpha : tie.Need-cast-alpha
+cast-alpha c = search needs
+
+add-rounds : tie.Need-add-rounds
+add-rounds c = search needs
+
+query-requires : tie.Need-query-requires
+query-requires c κs =
+    let l = c .before .before .before in
+    let g = first (l .before) in
+    round-query (g .pre .accepted) (g .pre .made) (g .pre .shows)
+    (placed-by (many (l .before)) (edges (l .before)) (g .args .s) (g .args .work .now) (l .before .held-at .ensures) (l .levels-at .ensures))
+
+add-is-open : tie.Need-add-is-open
+add-is-open c =
+    let l = placed (c .before .before .before) in
+    let g = first (l .before) in
+    let at = placed-by (many (l .before)) (edges (l .before)) (g .args .s) (g .args .work .now) (l .before .held-at .ensures) (l .levels-at .ensures) in
+    let room = base-room (g .pre .accepted) (g .pre .made) (g .pre .shows) at in
+    omega (arith, room, g .good)
+
+is-open-requires : tie.Need-is-open-requires
+is-open-requires c κs =
+    let q = c .before .before .before in
+    let l = placed q in
+    let g = first (l .before) in
+    round-openable (g .pre .accepted) (g .pre .made) (g .pre .shows)
+    (placed-by (many (l .before)) (edges (l .before)) (g .args .s) (g .args .work .now) (l .before .held-at .ensures) (l .levels-at .ensures)) (queried q)
+
+one-less-requires : tie.Need-one-less-requires
+one-less-requires c κs = search needs
+
+add-descend : tie.Need-add-descend
+add-descend c =
+    let i = c .before .before in
+    let o = i .before in
+    let q = asked o in
+    let l = placed q in
+    let g = first (l .before) in
+    let at = placed-by (many (l .before)) (edges (l .before)) (g .args .s) (g .args .work .now) (l .before .held-at .ensures) (l .levels-at .ensures) in
+    let down =
+    round-descend (g .pre .accepted) (g .pre .made) (g .pre .shows) at (queried q) (o .is-open .ensures) (i .if1 .taken) refl in
+    let room = base-room (g .pre .accepted) (g .pre .made) (g .pre .shows) at in
+    omega (arith, down .depth, l .levels-at .ensures, down .few, room, g .good)
+
+descend-requires : tie.Need-descend-requires
+descend-requires c κs =
+    let i = c .before .before in
+    let o = i .before in
+    let q = asked o in
+    let l = placed q in
+    let g = first (l .before) in
+    round-descend (g .pre .accepted) (g .pre .made) (g .pre .shows)
+    (placed-by (many (l .before)) (edges (l .before)) (g .args .s) (g .args .work .now) (l .before .held-at .ensures) (l .levels-at .ensures)) (queried q) (o .is-open .ensures) (i .if1 .taken)
+    (c .before .one-less .ensures)
+
+same-length : tie.Need-same-length
+same-length c = search needs
+
+returns : tie.Need-returns
+returns c =
+    let d = c .before .before in
+    let i = d .before .before .before in
+    let o = i .before in
+    let q = asked o in
+    let l = placed q in
+    let g = first (l .before) in
+    let at = placed-by (many (l .before)) (edges (l .before)) (g .args .s) (g .args .work .now) (l .before .held-at .ensures) (l .levels-at .ensures) in
+    let same =
+    opened-same (g .pre .accepted) (g .pre .made) (g .pre .shows) at (queried q) (o .is-open .ensures) (i .if1 .taken)
+    (d .descend .ensures) in
+    record {
+      long = same .0;
+      counted = refl;
+      shown =
+          λ k sh.
+          round-opens (g .pre .accepted) k sh at (queried q) (o .is-open .ensures) (i .if1 .taken) (d .descend .ensures);
+      rest = same .1;
+    }
+
+add-entries : tie.Need-add-entries
+add-entries c = search needs
+
+add-entries-2 : tie.Need-add-entries-2
+add-entries-2 c = search needs
+
+add-entries-3 : tie.Need-add-entries-3
+add-entries-3 c = search needs
+
+add-entries-4 : tie.Need-add-entries-4
+add-entries-4 c = search needs
+
+assign-missing-strategies-requires : tie.Need-assign-missing-strategies-requires
+assign-missing-strategies-requires c κs =
+    let q = asked (c .before .before) in
+    let l = placed q in
+    let g = first (l .before) in
+    round-fill (g .pre .accepted) (g .pre .made) (g .pre .shows)
+    (placed-by (many (l .before)) (edges (l .before)) (g .args .s) (g .args .work .now) (l .before .held-at .ensures) (l .levels-at .ensures)) (queried q)
+
+best-escape-requires : tie.Need-best-escape-requires
+best-escape-requires c κs =
+    let f = c .before .before .before in
+    let q = asked (told f) in
+    let l = placed q in
+    let g = first (l .before) in
+    round-escapable (g .pre .accepted) (g .pre .made) (g .pre .shows)
+    (placed-by (many (l .before)) (edges (l .before)) (g .args .s) (g .args .work .now) (l .before .held-at .ensures) (l .levels-at .ensures)) (queried q) (f .assign-missing-strategies .ensures)
+
+add-q : tie.Need-add-q
+add-q c =
+    let b = c .before in
+    let f = filled b in
+    let o = told f in
+    let q = asked o in
+    let l = placed q in
+    let g = first (l .before) in
+    let at = placed-by (many (l .before)) (edges (l .before)) (g .args .s) (g .args .work .now) (l .before .held-at .ensures) (l .levels-at .ensures) in
+    let room = base-room (g .pre .accepted) (g .pre .made) (g .pre .shows) at in
+    let fits =
+    top-fits (g .pre .accepted) (g .pre .made) (g .pre .shows) at (queried q) (f .assign-missing-strategies .ensures)
+    (o .is-open .ensures) (f .before .before .if1 .left) (b .best-escape .ensures) (c .if2 .taken) in
+    omega (arith, fits, room, g .good)
+
+mul-q : tie.Need-mul-q
+mul-q c =
+    let b = c .before in
+    let f = filled b in
+    let o = told f in
+    let q = asked o in
+    let l = placed q in
+    let g = first (l .before) in
+    let at = placed-by (many (l .before)) (edges (l .before)) (g .args .s) (g .args .work .now) (l .before .held-at .ensures) (l .levels-at .ensures) in
+    let room = base-room (g .pre .accepted) (g .pre .made) (g .pre .shows) at in
+    let fits =
+    top-fits (g .pre .accepted) (g .pre .made) (g .pre .shows) at (queried q) (f .assign-missing-strategies .ensures)
+    (o .is-open .ensures) (f .before .before .if1 .left) (b .best-escape .ensures) (c .if2 .taken) in
+    omega (arith, fits, room, g .good)
+
+slice-read-q : tie.Need-slice-read-q
+slice-read-q c =
+    let b = c .before .before in
+    let f = filled b in
+    let o = told f in
+    let q = asked o in
+    let l = placed q in
+    let g = first (l .before) in
+    let at = placed-by (many (l .before)) (edges (l .before)) (g .args .s) (g .args .work .now) (l .before .held-at .ensures) (l .levels-at .ensures) in
+    let room = base-room (g .pre .accepted) (g .pre .made) (g .pre .shows) at in
+    let fits =
+    top-fits (g .pre .accepted) (g .pre .made) (g .pre .shows) at (queried q) (f .assign-missing-strategies .ensures)
+    (o .is-open .ensures) (f .before .before .if1 .left) (b .best-escape .ensures) (c .before .if2 .taken) in
+    let long =
+    filled-long (g .pre .accepted) (g .pre .made) (g .pre .shows) at (queried q) (f .assign-missing-strategies .ensures) in
+    omega (arith, fits, room, long)
+
+sub-promote : tie.Need-sub-promote
+sub-promote c = search needs
+
+mul-promote : tie.Need-mul-promote
+mul-promote c =
+    let b = c .before .before .before in
+    let f = filled b in
+    let o = told f in
+    let q = asked o in
+    let l = placed q in
+    let g = first (l .before) in
+    let at = placed-by (many (l .before)) (edges (l .before)) (g .args .s) (g .args .work .now) (l .before .held-at .ensures) (l .levels-at .ensures) in
+    let able =
+    round-promotable (g .pre .accepted) (g .pre .made) (g .pre .shows) at (queried q) (f .assign-missing-strategies .ensures)
+    (o .is-open .ensures) (f .before .before .if1 .left) (b .best-escape .ensures) (c .before .before .if2 .taken) in
+    let long =
+    filled-long (g .pre .accepted) (g .pre .made) (g .pre .shows) at (queried q) (f .assign-missing-strategies .ensures) in
+    omega (arith, able .high, long, g .good)
+
+add-promote : tie.Need-add-promote
+add-promote c =
+    let b = c .before .before .before in
+    let f = filled b in
+    let o = told f in
+    let q = asked o in
+    let l = placed q in
+    let g = first (l .before) in
+    let at = placed-by (many (l .before)) (edges (l .before)) (g .args .s) (g .args .work .now) (l .before .held-at .ensures) (l .levels-at .ensures) in
+    let able =
+    round-promotable (g .pre .accepted) (g .pre .made) (g .pre .shows) at (queried q) (f .assign-missing-strategies .ensures)
+    (o .is-open .ensures) (f .before .before .if1 .left) (b .best-escape .ensures) (c .before .before .if2 .taken) in
+    let long =
+    filled-long (g .pre .accepted) (g .pre .made) (g .pre .shows) at (queried q) (f .assign-missing-strategies .ensures) in
+    omega (arith, able .high, long, g .good)
+
+sub-promote-2 : tie.Need-sub-promote-2
+sub-promote-2 c = search needs
+
+promote-requires : tie.Need-promote-requires
+promote-requires c κs =
+    let b = c .before .before .before in
+    let f = filled b in
+    let o = told f in
+    let q = asked o in
+    let l = placed q in
+    let g = first (l .before) in
+    round-promotable (g .pre .accepted) (g .pre .made) (g .pre .shows)
+    (placed-by (many (l .before)) (edges (l .before)) (g .args .s) (g .args .work .now) (l .before .held-at .ensures) (l .levels-at .ensures)) (queried q) (f .assign-missing-strategies .ensures)
+    (o .is-open .ensures) (f .before .before .if1 .left) (b .best-escape .ensures) (c .before .before .if2 .taken)
+
+same-length-2 : tie.Need-same-length-2
+same-length-2 c = search needs
+
+returns-2 : tie.Need-returns-2
+returns-2 c =
+    let e = c .before .before in
+    let i = e .before .before .before in
+    let b = i .before in
+    let f = filled b in
+    let o = told f in
+    let q = asked o in
+    let l = placed q in
+    let g = first (l .before) in
+    let at = placed-by (many (l .before)) (edges (l .before)) (g .args .s) (g .args .work .now) (l .before .held-at .ensures) (l .levels-at .ensures) in
+    let done = e .promote .ensures (length (g .args .owners .now)) (g .pre .shows .ready .size) in
+    let same =
+    promoted-same (g .pre .accepted) (g .pre .made) (g .pre .shows) at (queried q) (f .assign-missing-strategies .ensures)
+    (o .is-open .ensures) (f .before .before .if1 .left) (b .best-escape .ensures) (i .if2 .taken) done in
+    record {
+      long = same .0;
+      counted = refl;
+      shown =
+          λ k sh.
+          round-promotes (g .pre .accepted) k sh at (queried q) (f .assign-missing-strategies .ensures)
+          (o .is-open .ensures) (f .before .before .if1 .left) (b .best-escape .ensures) (i .if2 .taken) done;
+      rest = same .1;
+    }
+
+solve-dominion-requires : tie.Need-solve-dominion-requires
+solve-dominion-requires c κs =
+    let b = c .before .before in
+    let f = filled b in
+    let o = told f in
+    let q = asked o in
+    let l = placed q in
+    let g = first (l .before) in
+    round-dominion (g .pre .accepted) (g .pre .made) (g .pre .shows)
+    (placed-by (many (l .before)) (edges (l .before)) (g .args .s) (g .args .work .now) (l .before .held-at .ensures) (l .levels-at .ensures)) (queried q) (f .assign-missing-strategies .ensures)
+    (o .is-open .ensures) (f .before .before .if1 .left) (b .best-escape .ensures)
+
+descend-requires-2 : tie.Need-descend-requires-2
+descend-requires-2 c κs =
+    let e = c .before .before .before in
+    let i = e .before .before in
+    let b = i .before in
+    let f = filled b in
+    let o = told f in
+    let q = asked o in
+    let l = placed q in
+    let g = first (l .before) in
+    round-first (g .pre .accepted) (g .pre .made) (g .pre .shows)
+    (placed-by (many (l .before)) (edges (l .before)) (g .args .s) (g .args .work .now) (l .before .held-at .ensures) (l .levels-at .ensures)) (queried q) (f .assign-missing-strategies .ensures)
+    (o .is-open .ensures) (f .before .before .if1 .left) (b .best-escape .ensures) (i .if2 .left)
+    (e .solve-dominion .ensures (g .args .priorities .now) (g .pre .accepted))
+
+-- where the function began, from where the first level has begun again
+abbrev origin : tie.After-descend2 → tie.Start
+origin t = first (placed (asked (told (filled (solved t .before .before .before)))) .before)
+
+-- what the work area is then
+ready4 :
+    (t : tie.After-descend2) →
+    let a = origin t .args in
+    Ready (length (a .owners .now)) (a .priorities .now) (a .offsets .now) (a .targets .now) (a .s)
+    (t .descend2 .last .1 .1 .1 .0)
+ready4 t =
+    let e = solved t in
+    let i = e .before .before in
+    let b = i .before in
+    let f = filled b in
+    let o = told f in
+    let q = asked o in
+    let l = placed q in
+    let g = first (l .before) in
+    solved-ready (g .pre .accepted) (g .pre .made) (g .pre .shows)
+    (placed-by (many (l .before)) (edges (l .before)) (g .args .s) (g .args .work .now) (l .before .held-at .ensures) (l .levels-at .ensures)) (queried q) (f .assign-missing-strategies .ensures)
+    (o .is-open .ensures) (f .before .before .if1 .left) (b .best-escape .ensures) (i .if2 .left)
+    (e .solve-dominion .ensures (g .args .priorities .now) (g .pre .accepted)) (t .descend2 .ensures)
+
+same4 :
+    (t : tie.After-descend2) →
+    let a = origin t .args in
+    (length (t .descend2 .last .1 .1 .1 .0) ≡ length (a .work .now)) ×
+    ((i : ℕ) → endAt (length (a .owners .now)) (length (a .targets .now)) (a .s) ≤ i →
+    getD (t .descend2 .last .1 .1 .1 .0) i 0 ≡ getD (a .work .now) i 0)
+same4 t =
+    let e = solved t in
+    let i = e .before .before in
+    let b = i .before in
+    let f = filled b in
+    let o = told f in
+    let q = asked o in
+    let l = placed q in
+    let g = first (l .before) in
+    solved-same (g .pre .accepted) (g .pre .made) (g .pre .shows)
+    (placed-by (many (l .before)) (edges (l .before)) (g .args .s) (g .args .work .now) (l .before .held-at .ensures) (l .levels-at .ensures)) (queried q) (f .assign-missing-strategies .ensures)
+    (o .is-open .ensures) (f .before .before .if1 .left) (b .best-escape .ensures) (i .if2 .left)
+    (e .solve-dominion .ensures (g .args .priorities .now) (g .pre .accepted)) (t .descend2 .ensures)
+
+add-size : tie.Need-add-size
+add-size c =
+    let t = c .before .before in
+    let l = placed (asked (told (filled (solved t .before .before .before)))) in
+    let room = first-room (ready4 t) (levels-place (many (l .before)) (edges (l .before)) (first (l .before) .args .s) (l .before .held-at .ensures) (l .levels-at .ensures)) in
+    omega (arith, room, same4 t .0, origin t .good)
+
+mul-size : tie.Need-mul-size
+mul-size c =
+    let t = c .before .before in
+    let l = placed (asked (told (filled (solved t .before .before .before)))) in
+    let room = first-room (ready4 t) (levels-place (many (l .before)) (edges (l .before)) (first (l .before) .args .s) (l .before .held-at .ensures) (l .levels-at .ensures)) in
+    omega (arith, room, same4 t .0, origin t .good)
+
+sub-size : tie.Need-sub-size
+sub-size c = search needs
+
+part-size-start : tie.Need-part-size-start
+part-size-start c = search needs
+
+part-size-end : tie.Need-part-size-end
+part-size-end c =
+    let t = c .before .before .before in
+    let l = placed (asked (told (filled (solved t .before .before .before)))) in
+    first-room (ready4 t) (levels-place (many (l .before)) (edges (l .before)) (first (l .before) .args .s) (l .before .held-at .ensures) (l .levels-at .ensures))
+
+size-requires : tie.Need-size-requires
+size-requires c κs =
+    let t = c .before .before .before .before in
+    let l = placed (asked (told (filled (solved t .before .before .before)))) in
+    left-few (ready4 t) (levels-place (many (l .before)) (edges (l .before)) (first (l .before) .args .s) (l .before .held-at .ensures) (l .levels-at .ensures))
+
+same-length-3 : tie.Need-same-length-3
+same-length-3 c = same4 (c .before .before .before .before .before) .0
+
+returns-3 : tie.Need-returns-3
+returns-3 c =
+    let t = c .before .before .before .before .before in
+    let e = solved t in
+    let i = e .before .before in
+    let b = i .before in
+    let f = filled b in
+    let o = told f in
+    let q = asked o in
+    let l = placed q in
+    let g = first (l .before) in
+    let at = placed-by (many (l .before)) (edges (l .before)) (g .args .s) (g .args .work .now) (l .before .held-at .ensures) (l .levels-at .ensures) in
+    record {
+      long = same4 t .0;
+      counted = refl;
+      shown =
+          λ k sh.
+          round-solves (g .pre .accepted) k sh at (queried q) (f .assign-missing-strategies .ensures)
+          (o .is-open .ensures) (f .before .before .if1 .left) (b .best-escape .ensures) (i .if2 .left)
+          (e .solve-dominion .ensures (g .args .priorities .now) (g .pre .accepted)) (t .descend2 .ensures)
+          (left-counted (ready4 t) (levels-place (many (l .before)) (edges (l .before)) (first (l .before) .args .s) (l .before .held-at .ensures) (l .levels-at .ensures)) (c .size .ensures));
+      rest = same4 t .1;
+    }
+
+pub round-spec : {M : Type 1} → statement M
+round-spec =
+    tie.close
+    (tie.spec
+    held-at-requires
+    mul-depth
+    add-depth
+    levels-at-requires
+    mul-k
+    slice-read-k
+    mul-base
+    add-base
+    cast-alpha
+    add-rounds
+    query-requires
+    add-is-open
+    is-open-requires
+    one-less-requires
+    add-descend
+    descend-requires
+    same-length
+    returns
+    add-entries
+    add-entries-2
+    add-entries-3
+    add-entries-4
+    assign-missing-strategies-requires
+    best-escape-requires
+    add-q
+    mul-q
+    slice-read-q
+    sub-promote
+    mul-promote
+    add-promote
+    sub-promote-2
+    promote-requires
+    same-length-2
+    returns-2
+    solve-dominion-requires
+    descend-requires-2
+    add-size
+    mul-size
+    sub-size
+    part-size-start
+    part-size-end
+    size-requires
+    same-length-3
+    returns-3)
