@@ -1,6 +1,5 @@
 -- `begin` meets its contract: nothing is won, the sets of the priorities are made, and the first level begins.
-use native.Mathlib.Omega.{arith}
-use Rattle.promotion_begin.specs.Beginning.{begin-low, begin-sortable, begin-descends, begun}
+use Rattle.promotion_begin.specs.Beginning.{begin-sortable, begin-descends, begun}
 use borrow.Author.Needs.{needs}
 use Rattle.promotion_begin.proofs.start.begin.Statement.{statement}
 use Rattle.promotion_begin.proofs.start.begin.Tie as tie
