@@ -61,14 +61,14 @@ two-levels : (n : ℕ) → 2 ≤ deep n
 unfolding deep
 two-levels n = omega arith
 
--- the levels' place, as the code reckons it
-pub few-tops : (n depth : ℕ) → n < 256 → depth + 3 + n ≡ depth + 1 + deep n
+-- how many levels there are, as the code tells it
+pub few-deep : (n : ℕ) → n < 256 → deep n ≡ n + 2
 unfolding deep
-few-tops n depth l = omega arith
+few-deep n l = omega arith
 
-pub many-tops : (n depth : ℕ) → 256 ≤ n → depth + 259 ≡ depth + 1 + deep n
+pub many-deep : (n : ℕ) → 256 ≤ n → deep n ≡ 258
 unfolding deep
-many-tops n depth l = omega arith
+many-deep n l = omega arith
 
 module _ {priorities : List ℕ} {m s held levels top : ℕ} {w0 : List ℕ} (given : Beginnable priorities m s held levels top w0)
   where
