@@ -39,8 +39,9 @@ wonIn t = afterRounds (gameOf t) (roundsNeeded (gameOf t)) .won
 abbrev pub entriesIn : Tables → ℕ → ℕ
 entriesIn t = afterRounds (gameOf t) (roundsNeeded (gameOf t)) .entries
 
-module _ (owners priorities offsets targets : List ℕ) (ok : Accepted (tablesOf owners priorities offsets targets)) {s held levels : ℕ}
-    (size : s ≡ words (length owners)) (w0 : List ℕ) (room : length w0 ≡ workWords (length owners) (length targets))
+module _ (owners priorities offsets targets : List ℕ) (ok : Accepted (tablesOf owners priorities offsets targets))
+    {s held levels : ℕ} (size : s ≡ words (length owners)) (w0 : List ℕ)
+    (room : length w0 ≡ workWords (length owners) (length targets))
     (held-is : held ≡ heldAt (length owners) (length targets) s)
     (levels-is : levels ≡ held + 3 * s + 1 + deep (length owners))
   where

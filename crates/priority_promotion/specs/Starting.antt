@@ -1,5 +1,5 @@
--- The first state: the predecessor table, the set of all vertices as first level, and what `begin` leaves show the rules' state before
--- any round.
+-- The first state: the predecessor table, the set of all vertices as first level, and what `begin` leaves show the rules' state
+-- before any round.
 use mathlib.Core.Bool.{Bool, true, cond}
 use mathlib.Core.List.{List}
 use mathlib.Core.Logic.{_⊎_, inl, inr}

@@ -192,7 +192,13 @@ module _ {priorities : List ℕ} {m s held levels top : ℕ} {w0 : List ℕ} (gi
                 record {
                   long = c .long ∙ same-long;
                   ready = afresh-ready priorities offsets targets given2 edges listed2 c2;
-                  highest = c2 .highest ∙ greatest-cong n (levelIn n (length targets) s w2 0) (levelIn n (length targets) s w0 0) (λ v. getD priorities v 0) (λ v. getD priorities v 0) (λ v l. same2 v) (λ v l. refl);
+                  highest =
+                      c2 .highest ∙
+                      greatest-cong n (levelIn n (length targets) s w2 0) (levelIn n (length targets) s w0 0)
+                      (λ v. getD priorities v 0)
+                      (λ v. getD priorities v 0)
+                      (λ v l. same2 v)
+                      (λ v l. refl);
                   top = sym (afresh-top priorities offsets targets given2 edges listed2 c2);
                   first = λ v. c2 .levels 0 v (le-refl 0) ∙ same2 v;
                   region =
