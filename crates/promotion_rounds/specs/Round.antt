@@ -1,12 +1,12 @@
 -- One round over the work area as the code makes it: what each call finds, and that the state after is the rules' round.
 use mathlib.Core.Bool.{Bool, true, false}
 use mathlib.Core.List.{List}
-use mathlib.Core.Logic.{inl, inr}
+use mathlib.Core.Logic.{inr}
 use mathlib.Core.Path.{_≡_, refl, sym, ap, ap₂, subst, subst₂, _∙_}
 use Prim.Native.Nat.{ℕ, suc, _+_, _-_, _*_, _%_, _≤_, _<_}
 use native.Mathlib.Omega.{arith}
 use lib.ListN.{length, getD, take, drop, length-take}
-use Rattle.rules.specs.Counting.{Set, count}
+use Rattle.rules.specs.Counting.{count}
 use Rattle.rules.specs.Game.{Even, Game}
 use Rattle.rules.specs.Tables.{gameOf, words, Accepted, tablesOf}
 use Rattle.rules.specs.Words.{setOf}
@@ -29,7 +29,7 @@ use Rattle.promotion_levels.specs.Descending.{Descends, Descended}
 use Rattle.promotion_region.specs.Query.{QueryReady, Queried}
 use Rattle.promotion_tests.specs.Escapes.{levelFrom, Escapes, Openable, Escapable}
 use Rattle.promotion_tests.specs.Opening.{isOpenIn}
-use Rattle.promotion_tests.specs.Highest.{HighestLevel}
+use Rattle.promotion_tests.specs.Highest.{Nested, HighestLevel}
 use Rattle.promotion_moves.specs.Filling.{FillAll, FilledAll}
 use Rattle.promotion_moves.specs.Promotion.{Promotable, PromotedTo, promote-ready}
 use Rattle.promotion_moves.specs.Dominion.{DominionReady, Dominated}
@@ -118,8 +118,8 @@ held-escapes owners {priorities} {offsets} {targets} ok {s} {held} {work} ready 
 module _ {owners priorities offsets targets : List ℕ} (ok : Accepted (tablesOf owners priorities offsets targets)) {s : ℕ}
     (made : ℕ) {current left : ℕ} {w0 : List ℕ}
     (shows :
-    Shows owners priorities offsets targets s (afterRounds (gameOf (tablesOf owners priorities offsets targets)) made) current left
-    w0)
+    Shows owners priorities offsets targets s (afterRounds (gameOf (tablesOf owners priorities offsets targets)) made) current
+    left w0)
   where
     abbrev n : ℕ
     n = length owners
@@ -313,7 +313,7 @@ module _ {owners priorities offsets targets : List ℕ} (ok : Accepted (tablesOf
                   escapes = held-escapes owners ok ready2 held-is;
                   room = omega (arith, base-room, same-all .0);
                   nested =
-                      subst₂ (λ (l x : ℕ). (j v : ℕ) → j < x → levelFrom n s l w2 (suc j) v ≡ true → levelFrom n s l w2 j v ≡ true)
+                      subst₂ (λ (l x : ℕ). Nested (levelFrom n s l w2) x)
                       (sym levels-is) (sym k2-is)
                       (λ j v l i. ready2 .nests .inside j v (omega arith) i);
                 }
@@ -334,7 +334,8 @@ module _ {owners priorities offsets targets : List ℕ} (ok : Accepted (tablesOf
                     (shows .current)
                     (subst (λ (x : ℕ). HighestLevel owners offsets targets (current % 2) (heldIn n m s w2) (levelIn n m s w2) x j)
                     k2-is
-                    (subst₂ (λ (h l : ℕ). HighestLevel owners offsets targets (current % 2) (setAt n h w2) (levelFrom n s l w2) k j)
+                    (subst₂
+                    (λ (h l : ℕ). HighestLevel owners offsets targets (current % 2) (setAt n h w2) (levelFrom n s l w2) k j)
                     held-is levels-is found))
 
                 -- **a promotion**

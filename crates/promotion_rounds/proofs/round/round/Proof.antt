@@ -1,14 +1,16 @@
 -- `round` meets its contract: each call finds what it asks for, and the three ways out are the three kinds of round.
-use mathlib.Core.Path.{_≡_, refl, _∙_}
+use mathlib.Core.Path.{_≡_, refl}
+use Prim.Native.Nat.{ℕ, _+_, _-_, _*_, _≤_, _<_}
 use native.Mathlib.Omega.{arith}
 use lib.ListN.{length, getD}
-use Prim.Native.Nat.{ℕ, _≤_}
 use Rattle.promotion_levels.specs.Layout.{endAt, Ready}
 use Rattle.promotion_region.specs.Query.{Queried}
-use Rattle.promotion_rounds.specs.Round.{levels-place, placed-by, round-places, round-depth, base-room, round-query, round-openable}
-use Rattle.promotion_rounds.specs.Round.{round-descend, opened-same, round-opens, round-fill, filled-long, round-escapable}
-use Rattle.promotion_rounds.specs.Round.{top-fits, round-promotable, promoted-same, round-promotes, round-dominion}
-use Rattle.promotion_rounds.specs.Round.{round-first, solved-same, round-solves, solved-ready, first-room, left-few, left-counted}
+use Rattle.promotion_moves.specs.Promotion.{Promotable}
+use Rattle.promotion_rounds.specs.Round.{Placed, placed-by, round-places, round-depth, base-room, round-query}
+use Rattle.promotion_rounds.specs.Round.{round-openable, round-descend, opened-same, round-opens, round-fill}
+use Rattle.promotion_rounds.specs.Round.{filled-long, round-escapable, top-fits, round-promotable, promoted-same}
+use Rattle.promotion_rounds.specs.Round.{round-promotes, round-dominion, round-first, solved-same, round-solves}
+use Rattle.promotion_rounds.specs.Round.{solved-ready, first-room, left-few, left-counted}
 use borrow.Author.Needs.{needs}
 use Rattle.promotion_rounds.proofs.round.round.Statement.{statement}
 use Rattle.promotion_rounds.proofs.round.round.Tie as tie
@@ -17,15 +19,28 @@ use Rattle.promotion_rounds.proofs.round.round.Tie as tie
 abbrev first : tie.After-held-at → tie.Start
 first h = h .before .before .before .before .before .before
 
--- how many vertices and edges there are
-abbrev many : tie.After-held-at → ℕ
-many h = length (first h .args .owners .now)
-
-abbrev edges : tie.After-held-at → ℕ
-edges h = length (first h .args .targets .now)
-
 abbrev placed : tie.After-query → tie.After-levels-at
 placed q = q .before .before .before .before
+
+-- R, the levels and the current level's number are where they should be
+at :
+    (l : tie.After-levels-at) →
+    let a = first (l .before) .args in
+    let h = l .before .held-at .result in
+    Placed (length (a .owners .now)) (length (a .targets .now)) (a .s) h (l .levels-at .result)
+    (getD (a .work .now) (h + 3 * a .s) 0) (a .work .now)
+at l =
+    let a = first (l .before) .args in
+    placed-by (length (a .owners .now)) (length (a .targets .now)) (a .s) (a .work .now) (l .before .held-at .ensures)
+    (l .levels-at .ensures)
+
+-- the level after the current one has room
+room :
+    (l : tie.After-levels-at) →
+    let a = first (l .before) .args in
+    let k = getD (a .work .now) (l .before .held-at .result + 3 * a .s) 0 in
+    l .levels-at .result + k * a .s + a .s + a .s ≤ length (a .work .now)
+room l = let g = first (l .before) in base-room (g .pre .accepted) (g .pre .made) (g .pre .shows) (at l)
 
 -- the query, where it is known whether R is open
 abbrev asked : tie.After-is-open → tie.After-query
@@ -77,18 +92,12 @@ slice-read-k c = search needs
 mul-base : tie.Need-mul-base
 mul-base c =
     let l = c .before in
-    let g = first (l .before) in
-    let at = placed-by (many (l .before)) (edges (l .before)) (g .args .s) (g .args .work .now) (l .before .held-at .ensures) (l .levels-at .ensures) in
-    let room = base-room (g .pre .accepted) (g .pre .made) (g .pre .shows) at in
-    omega (arith, room, g .good)
+    omega (arith, room l, first (l .before) .good)
 
 add-base : tie.Need-add-base
 add-base c =
     let l = c .before in
-    let g = first (l .before) in
-    let at = placed-by (many (l .before)) (edges (l .before)) (g .args .s) (g .args .work .now) (l .before .held-at .ensures) (l .levels-at .ensures) in
-    let room = base-room (g .pre .accepted) (g .pre .made) (g .pre .shows) at in
-    omega (arith, room, g .good)
+    omega (arith, room l, first (l .before) .good)
 
 cast-alpha : tie.Need-cast-alpha
 cast-alpha c = search needs
@@ -100,24 +109,19 @@ query-requires : tie.Need-query-requires
 query-requires c κs =
     let l = c .before .before .before in
     let g = first (l .before) in
-    round-query (g .pre .accepted) (g .pre .made) (g .pre .shows)
-    (placed-by (many (l .before)) (edges (l .before)) (g .args .s) (g .args .work .now) (l .before .held-at .ensures) (l .levels-at .ensures))
+    round-query (g .pre .accepted) (g .pre .made) (g .pre .shows) (at l)
 
 add-is-open : tie.Need-add-is-open
 add-is-open c =
     let l = placed (c .before .before .before) in
-    let g = first (l .before) in
-    let at = placed-by (many (l .before)) (edges (l .before)) (g .args .s) (g .args .work .now) (l .before .held-at .ensures) (l .levels-at .ensures) in
-    let room = base-room (g .pre .accepted) (g .pre .made) (g .pre .shows) at in
-    omega (arith, room, g .good)
+    omega (arith, room l, first (l .before) .good)
 
 is-open-requires : tie.Need-is-open-requires
 is-open-requires c κs =
     let q = c .before .before .before in
     let l = placed q in
     let g = first (l .before) in
-    round-openable (g .pre .accepted) (g .pre .made) (g .pre .shows)
-    (placed-by (many (l .before)) (edges (l .before)) (g .args .s) (g .args .work .now) (l .before .held-at .ensures) (l .levels-at .ensures)) (queried q)
+    round-openable (g .pre .accepted) (g .pre .made) (g .pre .shows) (at l) (queried q)
 
 one-less-requires : tie.Need-one-less-requires
 one-less-requires c κs = search needs
@@ -129,11 +133,10 @@ add-descend c =
     let q = asked o in
     let l = placed q in
     let g = first (l .before) in
-    let at = placed-by (many (l .before)) (edges (l .before)) (g .args .s) (g .args .work .now) (l .before .held-at .ensures) (l .levels-at .ensures) in
     let down =
-    round-descend (g .pre .accepted) (g .pre .made) (g .pre .shows) at (queried q) (o .is-open .ensures) (i .if1 .taken) refl in
-    let room = base-room (g .pre .accepted) (g .pre .made) (g .pre .shows) at in
-    omega (arith, down .depth, l .levels-at .ensures, down .few, room, g .good)
+    round-descend (g .pre .accepted) (g .pre .made) (g .pre .shows) (at l) (queried q) (o .is-open .ensures) (i .if1 .taken)
+    refl in
+    omega (arith, down .depth, l .levels-at .ensures, room l, g .good)
 
 descend-requires : tie.Need-descend-requires
 descend-requires c κs =
@@ -142,8 +145,7 @@ descend-requires c κs =
     let q = asked o in
     let l = placed q in
     let g = first (l .before) in
-    round-descend (g .pre .accepted) (g .pre .made) (g .pre .shows)
-    (placed-by (many (l .before)) (edges (l .before)) (g .args .s) (g .args .work .now) (l .before .held-at .ensures) (l .levels-at .ensures)) (queried q) (o .is-open .ensures) (i .if1 .taken)
+    round-descend (g .pre .accepted) (g .pre .made) (g .pre .shows) (at l) (queried q) (o .is-open .ensures) (i .if1 .taken)
     (c .before .one-less .ensures)
 
 same-length : tie.Need-same-length
@@ -157,16 +159,15 @@ returns c =
     let q = asked o in
     let l = placed q in
     let g = first (l .before) in
-    let at = placed-by (many (l .before)) (edges (l .before)) (g .args .s) (g .args .work .now) (l .before .held-at .ensures) (l .levels-at .ensures) in
     let same =
-    opened-same (g .pre .accepted) (g .pre .made) (g .pre .shows) at (queried q) (o .is-open .ensures) (i .if1 .taken)
+    opened-same (g .pre .accepted) (g .pre .made) (g .pre .shows) (at l) (queried q) (o .is-open .ensures) (i .if1 .taken)
     (d .descend .ensures) in
     record {
       long = same .0;
       counted = refl;
       shown =
           λ k sh.
-          round-opens (g .pre .accepted) k sh at (queried q) (o .is-open .ensures) (i .if1 .taken) (d .descend .ensures);
+          round-opens (g .pre .accepted) k sh (at l) (queried q) (o .is-open .ensures) (i .if1 .taken) (d .descend .ensures);
       rest = same .1;
     }
 
@@ -187,8 +188,7 @@ assign-missing-strategies-requires c κs =
     let q = asked (c .before .before) in
     let l = placed q in
     let g = first (l .before) in
-    round-fill (g .pre .accepted) (g .pre .made) (g .pre .shows)
-    (placed-by (many (l .before)) (edges (l .before)) (g .args .s) (g .args .work .now) (l .before .held-at .ensures) (l .levels-at .ensures)) (queried q)
+    round-fill (g .pre .accepted) (g .pre .made) (g .pre .shows) (at l) (queried q)
 
 best-escape-requires : tie.Need-best-escape-requires
 best-escape-requires c κs =
@@ -196,105 +196,86 @@ best-escape-requires c κs =
     let q = asked (told f) in
     let l = placed q in
     let g = first (l .before) in
-    round-escapable (g .pre .accepted) (g .pre .made) (g .pre .shows)
-    (placed-by (many (l .before)) (edges (l .before)) (g .args .s) (g .args .work .now) (l .before .held-at .ensures) (l .levels-at .ensures)) (queried q) (f .assign-missing-strategies .ensures)
+    round-escapable (g .pre .accepted) (g .pre .made) (g .pre .shows) (at l) (queried q) (f .assign-missing-strategies .ensures)
+
+-- the entries are filled: the work area is as long as it was
+long2 :
+    (f : tie.After-assign-missing-strategies) →
+    length (f .assign-missing-strategies .last .1 .1 .1 .1 .1 .0) ≡
+    length (first (placed (asked (told f)) .before) .args .work .now)
+long2 f =
+    let q = asked (told f) in
+    let l = placed q in
+    let g = first (l .before) in
+    filled-long (g .pre .accepted) (g .pre .made) (g .pre .shows) (at l) (queried q) (f .assign-missing-strategies .ensures)
+
+-- there is a region to promote to: its priority stands before the levels, and `promote` may run
+fits :
+    (c : tie.Then2) →
+    let l = placed (asked (told (filled (c .before)))) in
+    l .before .held-at .result + 3 * first (l .before) .args .s + c .before .best-escape .result < l .levels-at .result
+fits c =
+    let b = c .before in
+    let f = filled b in
+    let o = told f in
+    let q = asked o in
+    let l = placed q in
+    let g = first (l .before) in
+    top-fits (g .pre .accepted) (g .pre .made) (g .pre .shows) (at l) (queried q) (f .assign-missing-strategies .ensures)
+    (o .is-open .ensures) (f .before .before .if1 .left) (b .best-escape .ensures) (c .if2 .taken)
+
+able :
+    (c : tie.Then2) →
+    let f = filled (c .before) in
+    let l = placed (asked (told f)) in
+    let h = l .before .held-at .result in
+    let s = first (l .before) .args .s in
+    Promotable s h (h + 3 * s) (l .levels-at .result + (c .before .best-escape .result - 1) * s)
+    (f .assign-missing-strategies .last .1 .1 .1 .1 .1 .0)
+able c =
+    let b = c .before in
+    let f = filled b in
+    let o = told f in
+    let q = asked o in
+    let l = placed q in
+    let g = first (l .before) in
+    round-promotable (g .pre .accepted) (g .pre .made) (g .pre .shows) (at l) (queried q) (f .assign-missing-strategies .ensures)
+    (o .is-open .ensures) (f .before .before .if1 .left) (b .best-escape .ensures) (c .if2 .taken)
 
 add-q : tie.Need-add-q
 add-q c =
-    let b = c .before in
-    let f = filled b in
-    let o = told f in
-    let q = asked o in
-    let l = placed q in
-    let g = first (l .before) in
-    let at = placed-by (many (l .before)) (edges (l .before)) (g .args .s) (g .args .work .now) (l .before .held-at .ensures) (l .levels-at .ensures) in
-    let room = base-room (g .pre .accepted) (g .pre .made) (g .pre .shows) at in
-    let fits =
-    top-fits (g .pre .accepted) (g .pre .made) (g .pre .shows) at (queried q) (f .assign-missing-strategies .ensures)
-    (o .is-open .ensures) (f .before .before .if1 .left) (b .best-escape .ensures) (c .if2 .taken) in
-    omega (arith, fits, room, g .good)
+    let l = placed (asked (told (filled (c .before)))) in omega (arith, fits c, room l, first (l .before) .good)
 
 mul-q : tie.Need-mul-q
 mul-q c =
-    let b = c .before in
-    let f = filled b in
-    let o = told f in
-    let q = asked o in
-    let l = placed q in
-    let g = first (l .before) in
-    let at = placed-by (many (l .before)) (edges (l .before)) (g .args .s) (g .args .work .now) (l .before .held-at .ensures) (l .levels-at .ensures) in
-    let room = base-room (g .pre .accepted) (g .pre .made) (g .pre .shows) at in
-    let fits =
-    top-fits (g .pre .accepted) (g .pre .made) (g .pre .shows) at (queried q) (f .assign-missing-strategies .ensures)
-    (o .is-open .ensures) (f .before .before .if1 .left) (b .best-escape .ensures) (c .if2 .taken) in
-    omega (arith, fits, room, g .good)
+    let l = placed (asked (told (filled (c .before)))) in omega (arith, fits c, room l, first (l .before) .good)
 
 slice-read-q : tie.Need-slice-read-q
 slice-read-q c =
-    let b = c .before .before in
-    let f = filled b in
-    let o = told f in
-    let q = asked o in
-    let l = placed q in
-    let g = first (l .before) in
-    let at = placed-by (many (l .before)) (edges (l .before)) (g .args .s) (g .args .work .now) (l .before .held-at .ensures) (l .levels-at .ensures) in
-    let room = base-room (g .pre .accepted) (g .pre .made) (g .pre .shows) at in
-    let fits =
-    top-fits (g .pre .accepted) (g .pre .made) (g .pre .shows) at (queried q) (f .assign-missing-strategies .ensures)
-    (o .is-open .ensures) (f .before .before .if1 .left) (b .best-escape .ensures) (c .before .if2 .taken) in
-    let long =
-    filled-long (g .pre .accepted) (g .pre .made) (g .pre .shows) at (queried q) (f .assign-missing-strategies .ensures) in
-    omega (arith, fits, room, long)
+    let f = filled (c .before .before) in omega (arith, fits (c .before), room (placed (asked (told f))), long2 f)
 
 sub-promote : tie.Need-sub-promote
 sub-promote c = search needs
 
 mul-promote : tie.Need-mul-promote
 mul-promote c =
-    let b = c .before .before .before in
-    let f = filled b in
-    let o = told f in
-    let q = asked o in
-    let l = placed q in
-    let g = first (l .before) in
-    let at = placed-by (many (l .before)) (edges (l .before)) (g .args .s) (g .args .work .now) (l .before .held-at .ensures) (l .levels-at .ensures) in
-    let able =
-    round-promotable (g .pre .accepted) (g .pre .made) (g .pre .shows) at (queried q) (f .assign-missing-strategies .ensures)
-    (o .is-open .ensures) (f .before .before .if1 .left) (b .best-escape .ensures) (c .before .before .if2 .taken) in
-    let long =
-    filled-long (g .pre .accepted) (g .pre .made) (g .pre .shows) at (queried q) (f .assign-missing-strategies .ensures) in
-    omega (arith, able .high, long, g .good)
+    let i = c .before .before in
+    let f = filled (i .before) in
+    let more = able i in
+    omega (arith, more .high, long2 f, first (placed (asked (told f)) .before) .good)
 
 add-promote : tie.Need-add-promote
 add-promote c =
-    let b = c .before .before .before in
-    let f = filled b in
-    let o = told f in
-    let q = asked o in
-    let l = placed q in
-    let g = first (l .before) in
-    let at = placed-by (many (l .before)) (edges (l .before)) (g .args .s) (g .args .work .now) (l .before .held-at .ensures) (l .levels-at .ensures) in
-    let able =
-    round-promotable (g .pre .accepted) (g .pre .made) (g .pre .shows) at (queried q) (f .assign-missing-strategies .ensures)
-    (o .is-open .ensures) (f .before .before .if1 .left) (b .best-escape .ensures) (c .before .before .if2 .taken) in
-    let long =
-    filled-long (g .pre .accepted) (g .pre .made) (g .pre .shows) at (queried q) (f .assign-missing-strategies .ensures) in
-    omega (arith, able .high, long, g .good)
+    let i = c .before .before in
+    let f = filled (i .before) in
+    let more = able i in
+    omega (arith, more .high, long2 f, first (placed (asked (told f)) .before) .good)
 
 sub-promote-2 : tie.Need-sub-promote-2
 sub-promote-2 c = search needs
 
 promote-requires : tie.Need-promote-requires
-promote-requires c κs =
-    let b = c .before .before .before in
-    let f = filled b in
-    let o = told f in
-    let q = asked o in
-    let l = placed q in
-    let g = first (l .before) in
-    round-promotable (g .pre .accepted) (g .pre .made) (g .pre .shows)
-    (placed-by (many (l .before)) (edges (l .before)) (g .args .s) (g .args .work .now) (l .before .held-at .ensures) (l .levels-at .ensures)) (queried q) (f .assign-missing-strategies .ensures)
-    (o .is-open .ensures) (f .before .before .if1 .left) (b .best-escape .ensures) (c .before .before .if2 .taken)
+promote-requires c κs = able (c .before .before)
 
 same-length-2 : tie.Need-same-length-2
 same-length-2 c = search needs
@@ -309,17 +290,16 @@ returns-2 c =
     let q = asked o in
     let l = placed q in
     let g = first (l .before) in
-    let at = placed-by (many (l .before)) (edges (l .before)) (g .args .s) (g .args .work .now) (l .before .held-at .ensures) (l .levels-at .ensures) in
     let done = e .promote .ensures (length (g .args .owners .now)) (g .pre .shows .ready .size) in
     let same =
-    promoted-same (g .pre .accepted) (g .pre .made) (g .pre .shows) at (queried q) (f .assign-missing-strategies .ensures)
+    promoted-same (g .pre .accepted) (g .pre .made) (g .pre .shows) (at l) (queried q) (f .assign-missing-strategies .ensures)
     (o .is-open .ensures) (f .before .before .if1 .left) (b .best-escape .ensures) (i .if2 .taken) done in
     record {
       long = same .0;
       counted = refl;
       shown =
           λ k sh.
-          round-promotes (g .pre .accepted) k sh at (queried q) (f .assign-missing-strategies .ensures)
+          round-promotes (g .pre .accepted) k sh (at l) (queried q) (f .assign-missing-strategies .ensures)
           (o .is-open .ensures) (f .before .before .if1 .left) (b .best-escape .ensures) (i .if2 .taken) done;
       rest = same .1;
     }
@@ -332,8 +312,7 @@ solve-dominion-requires c κs =
     let q = asked o in
     let l = placed q in
     let g = first (l .before) in
-    round-dominion (g .pre .accepted) (g .pre .made) (g .pre .shows)
-    (placed-by (many (l .before)) (edges (l .before)) (g .args .s) (g .args .work .now) (l .before .held-at .ensures) (l .levels-at .ensures)) (queried q) (f .assign-missing-strategies .ensures)
+    round-dominion (g .pre .accepted) (g .pre .made) (g .pre .shows) (at l) (queried q) (f .assign-missing-strategies .ensures)
     (o .is-open .ensures) (f .before .before .if1 .left) (b .best-escape .ensures)
 
 descend-requires-2 : tie.Need-descend-requires-2
@@ -346,8 +325,7 @@ descend-requires-2 c κs =
     let q = asked o in
     let l = placed q in
     let g = first (l .before) in
-    round-first (g .pre .accepted) (g .pre .made) (g .pre .shows)
-    (placed-by (many (l .before)) (edges (l .before)) (g .args .s) (g .args .work .now) (l .before .held-at .ensures) (l .levels-at .ensures)) (queried q) (f .assign-missing-strategies .ensures)
+    round-first (g .pre .accepted) (g .pre .made) (g .pre .shows) (at l) (queried q) (f .assign-missing-strategies .ensures)
     (o .is-open .ensures) (f .before .before .if1 .left) (b .best-escape .ensures) (i .if2 .left)
     (e .solve-dominion .ensures (g .args .priorities .now) (g .pre .accepted))
 
@@ -370,8 +348,7 @@ ready4 t =
     let q = asked o in
     let l = placed q in
     let g = first (l .before) in
-    solved-ready (g .pre .accepted) (g .pre .made) (g .pre .shows)
-    (placed-by (many (l .before)) (edges (l .before)) (g .args .s) (g .args .work .now) (l .before .held-at .ensures) (l .levels-at .ensures)) (queried q) (f .assign-missing-strategies .ensures)
+    solved-ready (g .pre .accepted) (g .pre .made) (g .pre .shows) (at l) (queried q) (f .assign-missing-strategies .ensures)
     (o .is-open .ensures) (f .before .before .if1 .left) (b .best-escape .ensures) (i .if2 .left)
     (e .solve-dominion .ensures (g .args .priorities .now) (g .pre .accepted)) (t .descend2 .ensures)
 
@@ -390,8 +367,7 @@ same4 t =
     let q = asked o in
     let l = placed q in
     let g = first (l .before) in
-    solved-same (g .pre .accepted) (g .pre .made) (g .pre .shows)
-    (placed-by (many (l .before)) (edges (l .before)) (g .args .s) (g .args .work .now) (l .before .held-at .ensures) (l .levels-at .ensures)) (queried q) (f .assign-missing-strategies .ensures)
+    solved-same (g .pre .accepted) (g .pre .made) (g .pre .shows) (at l) (queried q) (f .assign-missing-strategies .ensures)
     (o .is-open .ensures) (f .before .before .if1 .left) (b .best-escape .ensures) (i .if2 .left)
     (e .solve-dominion .ensures (g .args .priorities .now) (g .pre .accepted)) (t .descend2 .ensures)
 
@@ -399,14 +375,14 @@ add-size : tie.Need-add-size
 add-size c =
     let t = c .before .before in
     let l = placed (asked (told (filled (solved t .before .before .before)))) in
-    let room = first-room (ready4 t) (levels-place (many (l .before)) (edges (l .before)) (first (l .before) .args .s) (l .before .held-at .ensures) (l .levels-at .ensures)) in
+    let room = first-room (ready4 t) (at l .levels-is) in
     omega (arith, room, same4 t .0, origin t .good)
 
 mul-size : tie.Need-mul-size
 mul-size c =
     let t = c .before .before in
     let l = placed (asked (told (filled (solved t .before .before .before)))) in
-    let room = first-room (ready4 t) (levels-place (many (l .before)) (edges (l .before)) (first (l .before) .args .s) (l .before .held-at .ensures) (l .levels-at .ensures)) in
+    let room = first-room (ready4 t) (at l .levels-is) in
     omega (arith, room, same4 t .0, origin t .good)
 
 sub-size : tie.Need-sub-size
@@ -419,13 +395,13 @@ part-size-end : tie.Need-part-size-end
 part-size-end c =
     let t = c .before .before .before in
     let l = placed (asked (told (filled (solved t .before .before .before)))) in
-    first-room (ready4 t) (levels-place (many (l .before)) (edges (l .before)) (first (l .before) .args .s) (l .before .held-at .ensures) (l .levels-at .ensures))
+    first-room (ready4 t) (at l .levels-is)
 
 size-requires : tie.Need-size-requires
 size-requires c κs =
     let t = c .before .before .before .before in
     let l = placed (asked (told (filled (solved t .before .before .before)))) in
-    left-few (ready4 t) (levels-place (many (l .before)) (edges (l .before)) (first (l .before) .args .s) (l .before .held-at .ensures) (l .levels-at .ensures))
+    left-few (ready4 t) (at l .levels-is)
 
 same-length-3 : tie.Need-same-length-3
 same-length-3 c = same4 (c .before .before .before .before .before) .0
@@ -441,16 +417,15 @@ returns-3 c =
     let q = asked o in
     let l = placed q in
     let g = first (l .before) in
-    let at = placed-by (many (l .before)) (edges (l .before)) (g .args .s) (g .args .work .now) (l .before .held-at .ensures) (l .levels-at .ensures) in
     record {
       long = same4 t .0;
       counted = refl;
       shown =
           λ k sh.
-          round-solves (g .pre .accepted) k sh at (queried q) (f .assign-missing-strategies .ensures)
+          round-solves (g .pre .accepted) k sh (at l) (queried q) (f .assign-missing-strategies .ensures)
           (o .is-open .ensures) (f .before .before .if1 .left) (b .best-escape .ensures) (i .if2 .left)
           (e .solve-dominion .ensures (g .args .priorities .now) (g .pre .accepted)) (t .descend2 .ensures)
-          (left-counted (ready4 t) (levels-place (many (l .before)) (edges (l .before)) (first (l .before) .args .s) (l .before .held-at .ensures) (l .levels-at .ensures)) (c .size .ensures));
+          (left-counted (ready4 t) (at l .levels-is) (c .size .ensures));
       rest = same4 t .1;
     }
 
