@@ -2,7 +2,7 @@
 // the work area, writes only when it answers, and leaves those words 0.
 use parity_game::Answer;
 use promotion_begin::begin;
-use promotion_begin::levels_at;
+use promotion_levels::levels_at;
 use promotion_rounds::round::State;
 use promotion_rounds::solve::solve;
 use solver::Ran;

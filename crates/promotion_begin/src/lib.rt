@@ -3,4 +3,3 @@
 mod start;
 
 pub use start::begin;
-pub use start::levels_at;

@@ -1,26 +1,13 @@
-// The state at first, and where the levels stand.
+// The state at first.
 use parity_game::Priority;
 use promotion_levels::descend;
 ghost use mathlib.Core.List.{List};
 ghost use mathlib.Core.Path.{_≡_};
-ghost use Prim.Native.Nat.{ℕ, _+_, _≤_};
+ghost use Prim.Native.Nat.{ℕ};
 ghost use lib.ListN.{length};
 ghost use Rattle.predecessors.specs.Table.{SoundEdges};
 ghost use Rattle.attractor.specs.Attracted.{Listed};
-ghost use Rattle.promotion_levels.specs.Layout.{deep};
 ghost use Rattle.promotion_begin.specs.Beginning.{Beginnable, Begun};
-
-// The levels stand behind the number of the current one, which is at `depth`, and behind their priorities: one for each
-// different priority, and two more.
-pub fn levels_at(n: usize, depth: usize) -> usize
-    requires { ⌜ depth ≤ 65535 ⌝ }
-    ensures { λ r. ⌜ r ≡ depth + 1 + deep n ⌝ }
-{
-    if n < 256 {
-        return depth + 3 + n;
-    }
-    depth + 259
-}
 
 // The table of predecessors stands already, and the first level, whose priorities are at most `top`. Its vertices have
 // their priorities as regions and no entries.
