@@ -1,7 +1,9 @@
 // The solver, on accepted tables and their kept numbers: it checks all that it is lent, works in the first W words of
 // the work area, writes only when it answers, and leaves those words 0.
 use parity_game::Answer;
-use promotion_rounds::begin::begin;
+use promotion_begin::begin;
+use promotion_levels::levels_at;
+use promotion_rounds::round::State;
 use promotion_rounds::solve::solve;
 use solver::Ran;
 ghost use mathlib.Core.Path.{_≡_};
@@ -44,15 +46,21 @@ fn run(
     let m = targets.len();
     let s = parity_game::set_words(n);
     let entries = n + 1 + m + n + n;
-    let unsolved = entries + n + 2 * (s + 1) + s;
-    solver::prepare(offsets, targets, n, s, work, unsolved);
-    let start = begin(priorities, kept, m, s, work);
+    let held = entries + n + 2 * (s + 1) + s + 256 * s;
+    let levels = levels_at(n, held + 3 * s);
+    solver::prepare(offsets, targets, n, s, work, levels);
+    let top = kept[257] as usize;
+    let highest = begin(priorities, m, s, work, held, levels, top);
+    let start = State {
+        current: highest,
+        unsolved: n,
+        rounds: 0,
+    };
     let end = solve(owners, priorities, offsets, targets, budget, s, work, start);
     if 0 < end.unsolved {
         sets::clear(work, 0, work.len());
         return Ran::OverBudget;
     }
-    let held = unsolved + s + s;
     solver::write_out(owners, s, entries, held + s, work, even, odd, strategy);
     sets::clear(work, 0, work.len());
     Ran::Needed(end.rounds)

@@ -1,5 +1,4 @@
--- R once it is closed: what filling its entries, promoting it and solving it ask for and leave behind.
+-- What the moves of a closed region ask for and leave, and why.
 pub mod Filling
-pub mod Promoting
 pub mod Promotion
 pub mod Dominion

@@ -1,137 +1,231 @@
--- The step that a promotion and a dominion share, over the whole work area: R goes over to region q, the other unsolved
--- vertices of a region below q get their priorities back.
-use mathlib.Core.Bool.{true, false, cond}
+-- R goes over to level j: what `promote` leaves, and that the regions and the entries are then as a round of the rules asks.
+use mathlib.Core.Bool.{Bool, true, false, _&&_, not, cond, and-false}
 use mathlib.Core.List.{List}
 use mathlib.Core.Logic.{_⊎_, inl, inr, ⊎-elim}
-use mathlib.Core.Path.{_≡_, sym, ap, subst, _∙_}
-use Prim.Native.Nat.{ℕ, _≤_, _<_}
+use mathlib.Core.Path.{_≡_, refl, sym, ap, ap₂, subst, _∙_}
+use Prim.Native.Nat.{ℕ, suc, _+_, _-_, _*_, _≤_, _<_}
+use native.Mathlib.Nat.{le-refl}
 use native.Mathlib.Omega.{arith}
-use borrow.Author.Tests.{lt-ltb, le-ltb, ltb-false}
+use borrow.Author.Tests.{not-true}
 use lib.Dec.{ltb}
-use lib.ListN.{length, getD}
+use lib.ListN.{length, getD, set, length-set}
+use lib.Seq.{getD-set-same, getD-set-other}
 use Rattle.rules.specs.Counting.{Set}
-use Rattle.rules.specs.Tables.{words, Accepted, tablesOf}
+use Rattle.rules.specs.Game.{Even}
+use Rattle.rules.specs.Tables.{words}
 use Rattle.rules.specs.Words.{noEntry}
-use Rattle.theory.specs.Basics.{bool-cases, and-false-cases, clash}
-use Rattle.theory.specs.Tables.{accepted-sound}
-use Rattle.area.specs.Area.{entries, setAt}
-use Rattle.attractor.specs.Attracted.{Listed}
+use Rattle.theory.specs.Basics.{bool-cases, clash, and-left, and-right}
+use Rattle.area.specs.Area.{entries, free, setAt}
+use Rattle.area.specs.SetsAt.{set-kept, set-reduced}
+use Rattle.sets.specs.After.{Combined}
 use Rattle.attractor.specs.Attracted.{listed-kept}
-use Rattle.promotion_tables.specs.Regions.{regionAt, Tallied, Elsewhere}
-use Rattle.promotion_moves.specs.Promoting.{PromoteAll, PromoteAllOf, PromotedAll, PromotedAllOf}
-use Rattle.promotion_tables.specs.Layout.{unsolvedAt, heldAt, regionsAt, tableAt, table-below, entryOf, Ready, unsolved-small}
+use Rattle.promotion_levels.specs.Nesting.{regionOf, Nesting, inside-all, outside-all, below-is, promoted-nests, promoted-region, promoted-proper}
+use Rattle.promotion_levels.specs.Layout.{heldAt, wonAt, depthAt, topsAt, deep, levelsAt, levelAt, endAt, depthIn, topIn, levelIn, heldIn, regionIn, entryIn, Ready}
+use Rattle.promotion_levels.specs.Places.{next-level, level-apart, level-high, level-kept, sets-kept}
+use Rattle.promotion_levels.specs.Without.{WithoutAt}
 
-module _ (owners priorities : List ℕ) {offsets targets : List ℕ} (ok : Accepted (tablesOf owners priorities offsets targets))
-    (q : ℕ) {s : ℕ} {w0 : List ℕ} (ready : Ready (length owners) offsets targets s w0) (most : q ≤ 256)
+-- what it asks for: the places lie in the work area, R's before the level word, and that before the levels
+pub record Promotable (s held depth level : ℕ) (work : List ℕ) : Type 0 where
+  pub held-low : held + s ≤ depth
+  pub depth-low : depth < level
+  pub high : level + s + s ≤ length work
+
+-- what it leaves: the level after has lost R and is the last, and R is the region of the level now
+pub record PromotedTo (n s held depth level j : ℕ) (before after : List ℕ) : Type 0 where
+  pub long : length after ≡ length before
+  pub next :
+      (v : ℕ) → setAt n (level + s) after v ≡ (setAt n (level + s) before v && not (setAt n held before v))
+  pub region : (v : ℕ) → setAt n held after v ≡ (setAt n level before v && not (setAt n (level + s) after v))
+  pub depth-is : getD after depth 0 ≡ j
+  pub rest :
+      (i : ℕ) →
+      (i ≡ depth → ⊥) →
+      (i < held) ⊎ (held + s ≤ i) →
+      (i < level + s) ⊎ (level + s + s ≤ i) →
+      getD after i 0 ≡ getD before i 0
+
+-- **its three writes leave that**
+pub promoted-made :
+    {n s held depth level j : ℕ} {w0 w1 w2 : List ℕ} →
+    s ≡ words n →
+    Promotable s held depth level w0 →
+    Combined _-_ (level + s) held s w0 w1 →
+    WithoutAt n held level (level + s) (set w1 depth j) w2 →
+    PromotedTo n s held depth level j w0 w2
+promoted-made {n} {s} {held} {depth} {level} {j} {w0} {w1} {w2} size given c1 c2 =
+    record {
+      long = c2 .long ∙ length-set w1 depth j ∙ c1 .long;
+      next = λ v. after-next v ∙ reduced v;
+      region = λ v. c2 .made v ∙ ap₂ (λ (x y : Bool). x && not y) (level-same v) (after-set v ∙ sym (after-next v));
+      depth-is =
+          c2 .rest depth (inr (omega (arith, size, given .held-low))) ∙
+          getD-set-same w1 depth j 0 (omega (arith, c1 .long, given .depth-low, given .high));
+      rest =
+          λ i d o x.
+          c2 .rest i (⊎-elim (λ l. inl l) (λ l. inr (omega (arith, size))) o) ∙ getD-set-other w1 depth i j 0 d ∙ c1 .rest i x;
+    }
   where
-    abbrev n : ℕ
-    n = length owners
+    combined : Combined _-_ (level + s) held (words n) w0 w1
+    combined = subst (λ (x : ℕ). Combined _-_ (level + s) held x w0 w1) size c1
 
+    reduced : (v : ℕ) → setAt n (level + s) w1 v ≡ (setAt n (level + s) w0 v && not (setAt n held w0 v))
+    reduced v = set-reduced n (level + s) held w0 w1 combined v
+
+    -- the level after is not touched again
+    after-set : (v : ℕ) → setAt n (level + s) (set w1 depth j) v ≡ setAt n (level + s) w1 v
+    after-set =
+        set-kept n (level + s) w1 (set w1 depth j)
+        (λ i low high. getD-set-other w1 depth i j 0 (λ e. omega (arith, given .depth-low)))
+
+    after-next : (v : ℕ) → setAt n (level + s) w2 v ≡ setAt n (level + s) w1 v
+    after-next v =
+        set-kept n (level + s) (set w1 depth j) w2
+        (λ i low high. c2 .rest i (inr (omega (arith, size, given .held-low, given .depth-low)))) v ∙
+        after-set v
+
+    -- nor is level j
+    level-same : (v : ℕ) → setAt n level (set w1 depth j) v ≡ setAt n level w0 v
+    level-same =
+        set-kept n level w0 (set w1 depth j)
+        (λ i low high.
+        getD-set-other w1 depth i j 0 (λ e. omega (arith, given .depth-low)) ∙ c1 .rest i (inl (omega (arith, size))))
+
+module _ {n : ℕ} {priorities offsets targets : List ℕ} {s : ℕ} {w0 : List ℕ}
+    (ready : Ready n priorities offsets targets s w0) (j : ℕ)
+  where
     abbrev m : ℕ
     m = length targets
 
-    abbrev T : ℕ → ℕ
-    T = tableAt n m s w0
+    abbrev k : ℕ
+    k = depthIn n m s w0
 
-    abbrev Rg : ℕ
-    Rg = regionsAt n m s
+    abbrev H : ℕ
+    H = heldAt n m s
 
-    abbrev H : Set
-    H = setAt n (heldAt n m s) w0
+    abbrev X : ℕ
+    X = levelAt n m s j
+
+    abbrev L : ℕ → Set
+    L = levelIn n m s w0
+
+    abbrev R : Set
+    R = heldIn n m s w0
 
     size : s ≡ words n
     size = ready .size
 
-    as-many : length priorities ≡ n
-    as-many = accepted-sound (tablesOf owners priorities offsets targets) ok .priority-each
+    module _ (down : j < k) where
+      y-is : levelAt n m s (suc j) ≡ X + s
+      y-is = next-level n m s j
 
-    pub promote-ready : PromoteAll priorities q s (unsolvedAt n m s) (heldAt n m s) Rg (entries n m) w0
-    promote-ready =
-        subst (λ (k : ℕ). PromoteAllOf k priorities q s (unsolvedAt n m s) (heldAt n m s) Rg (entries n m) w0) (sym as-many)
-        (record {
-          size = size;
-          room = record { tallied = ready .tallied; order = omega arith };
-          between = record { low = omega arith; high = omega (arith, size) };
-          holds = record { low = omega arith; high = omega (arith, size) };
-          below = unsolved-small ready;
-          low =
-              λ v l.
-              let few = accepted-sound (tablesOf owners priorities offsets targets) ok .priority-small v l in omega arith;
-          most = most;
-        })
+      y-high : X + s + s ≤ length w0
+      y-high =
+          let high = level-high n m s (suc j) (omega (arith, ready .depth)) in
+          omega (arith, ready .room, y-is)
 
-    module _ {w1 : List ℕ} (made : PromotedAll priorities q (unsolvedAt n m s) (heldAt n m s) Rg (entries n m) w0 w1) where
-      c : PromotedAllOf n priorities q (unsolvedAt n m s) (heldAt n m s) Rg (entries n m) w0 w1
-      c = subst (λ (k : ℕ). PromotedAllOf k priorities q (unsolvedAt n m s) (heldAt n m s) Rg (entries n m) w0 w1) as-many made
+      pub promote-ready : Promotable s H (depthAt n m s) X w0
+      promote-ready = record { held-low = omega arith; depth-low = omega arith; high = y-high }
 
-      pub promoted-long : length w1 ≡ length w0
-      promoted-long = c .keeps .long
+      module _ {w1 : List ℕ} (c : PromotedTo n s H (depthAt n m s) X j w0 w1) where
+        abbrev L1 : ℕ → Set
+        L1 = levelIn n m s w1
 
-      pub promoted-tallied : Tallied n Rg w1
-      promoted-tallied = c .keeps .good
+        -- words that are not changed
+        same1 :
+            (i : ℕ) → (i ≡ depthAt n m s → ⊥) → (i < H) ⊎ (H + s ≤ i) → (i < X + s) ⊎ (X + s + s ≤ i) →
+            getD w1 i 0 ≡ getD w0 i 0
+        same1 i d o x = c .rest i d o x
 
-      -- words of the sets
-      pub promoted-sets :
-          (i : ℕ) → unsolvedAt n m s ≤ i → Elsewhere n Rg i → getD w1 i 0 ≡ getD w0 i 0
-      promoted-sets i l o = c .keeps .rest i (inr (omega arith), o)
+        low1 : (i : ℕ) → i < H → getD w1 i 0 ≡ getD w0 i 0
+        low1 i l = same1 i (λ e. omega arith) (inl l) (inl (omega arith))
 
-      pub promoted-listed : Listed n offsets targets w1
-      promoted-listed =
-          listed-kept n offsets targets w0 w1 promoted-long (λ i l. c .keeps .rest i (inl (omega arith), inl (omega arith)))
-          (ready .listed)
+        level1 : (i v : ℕ) → i ≤ j → L1 i v ≡ L i v
+        level1 i v l =
+            level-kept n m s i w0 w1
+            (λ x low high.
+            let a = level-apart n m s i (suc j) (omega arith) in
+            same1 x (λ e. omega arith) (inr (omega arith)) (inl (omega (arith, y-is, size)))) v
 
-      -- a vertex outside the unsolved set is solved
-      solved-region : (v : ℕ) → v < n → setAt n (unsolvedAt n m s) w0 v ≡ false → 256 ≤ T v
-      solved-region v l out =
-          ⊎-elim
-          (λ e. absurd (clash (lt-ltb v n l) e))
-          (λ e. ltb-false (T v) 256 e)
-          (and-false-cases (ltb v n) (ltb (T v) 256) (sym (ready .unsolved v) ∙ out))
+        top1 : (i : ℕ) → i ≤ j → topIn n m s w1 i ≡ topIn n m s w0 i
+        top1 i l =
+            same1 (topsAt n m s + i) (λ e. omega arith) (inr (omega arith)) (inl (omega (arith, ready .depth)))
 
-      -- **the region of each vertex**
-      pub promoted-region :
-          ((v : ℕ) → H v ≡ true → setAt n (unsolvedAt n m s) w0 v ≡ true) →
-          (v : ℕ) →
-          v < n →
-          regionAt Rg w1 v ≡ cond (H v) q (cond (ltb (T v) q) (getD priorities v 0) (T v))
-      promoted-region part v l =
-          ⊎-elim
-          (λ (i : setAt n (unsolvedAt n m s) w0 v ≡ true).
-          c .inside v i .0 ∙
-          ap (λ (x : ℕ). cond (H v) q (cond (ltb x q) (getD priorities v 0) x)) (sym (table-below n m s w0 v l)))
-          (λ (i : setAt n (unsolvedAt n m s) w0 v ≡ false).
-          ap (λ (x : ℕ × ℕ). x .0) (c .outside v l i) ∙ sym (table-below n m s w0 v l) ∙
-          sym (untouched i (bool-cases (H v))))
-          (bool-cases (setAt n (unsolvedAt n m s) w0 v))
-        where
-          untouched :
-              setAt n (unsolvedAt n m s) w0 v ≡ false →
-              (H v ≡ true) ⊎ (H v ≡ false) →
-              cond (H v) q (cond (ltb (T v) q) (getD priorities v 0) (T v)) ≡ T v
-          untouched i (inl h) = absurd (clash (part v h) i)
-          untouched i (inr h) =
-              let high = solved-region v l i in rw (h, le-ltb (T v) q (omega arith))
+        place : X + s ≡ levelAt n m s (suc j)
+        place = sym y-is
 
-      -- **and its entry**
-      pub promoted-entry :
-          ((v : ℕ) → H v ≡ true → setAt n (unsolvedAt n m s) w0 v ≡ true) →
-          (v : ℕ) →
-          v < n →
-          entryOf n m w1 v ≡ cond (H v) (entryOf n m w0 v) (cond (ltb (T v) q) noEntry (entryOf n m w0 v))
-      promoted-entry part v l =
-          ⊎-elim
-          (λ (i : setAt n (unsolvedAt n m s) w0 v ≡ true).
-          c .inside v i .1 ∙
-          ap (λ (x : ℕ). cond (H v) (entryOf n m w0 v) (cond (ltb x q) noEntry (entryOf n m w0 v)))
-          (sym (table-below n m s w0 v l)))
-          (λ (i : setAt n (unsolvedAt n m s) w0 v ≡ false).
-          ap (λ (x : ℕ × ℕ). x .1) (c .outside v l i) ∙ sym (untouched i (bool-cases (H v))))
-          (bool-cases (setAt n (unsolvedAt n m s) w0 v))
-        where
-          untouched :
-              setAt n (unsolvedAt n m s) w0 v ≡ false →
-              (H v ≡ true) ⊎ (H v ≡ false) →
-              cond (H v) (entryOf n m w0 v) (cond (ltb (T v) q) noEntry (entryOf n m w0 v)) ≡ entryOf n m w0 v
-          untouched i (inl h) = absurd (clash (part v h) i)
-          untouched i (inr h) =
-              let high = solved-region v l i in rw (h, le-ltb (T v) q (omega arith))
+        last1 : (v : ℕ) → L1 (suc j) v ≡ (L (suc j) v && not (R v))
+        last1 v = rw place at (c .next v)
+
+        depth1 : depthIn n m s w1 ≡ j
+        depth1 = c .depth-is
+
+        nests1 : Nesting n j L1 (topIn n m s w1) (λ v. getD priorities v 0)
+        nests1 = promoted-nests (ready .nests) {R = R} j down (ready .held) level1 top1 last1
+
+        q : ℕ
+        q = topIn n m s w0 j
+
+        T : ℕ → ℕ
+        T = regionIn n m s priorities w0
+
+        -- **the regions**
+        pub region-promoted :
+            (v : ℕ) →
+            regionIn n m s priorities w1 v ≡
+            cond (heldIn n m s w0 v) (topIn n m s w0 j)
+            (cond (ltb (regionIn n m s priorities w0 v) (topIn n m s w0 j)) (getD priorities v 0)
+            (regionIn n m s priorities w0 v))
+        region-promoted v =
+            ap (λ (i : ℕ). regionOf L1 (topIn n m s w1) (λ u. getD priorities u 0) i v) depth1 ∙
+            promoted-region (ready .nests) {R = R} j down (ready .held) level1 top1 last1 v
+
+        entry-word : (v : ℕ) → v < n → getD w1 (entries n m + v) 0 ≡ getD w0 (entries n m + v) 0
+        entry-word v l = low1 (entries n m + v) (omega arith)
+
+        -- **the entries**
+        pub entry-promoted :
+            (v : ℕ) → v < n →
+            entryIn n m s w1 v ≡
+            cond (heldIn n m s w0 v) (entryIn n m s w0 v)
+            (cond (ltb (regionIn n m s priorities w0 v) (topIn n m s w0 j)) noEntry (entryIn n m s w0 v))
+        entry-promoted v l =
+            ap (λ (i : ℕ). cond (L1 (suc i) v) noEntry (getD w1 (entries n m + v) 0)) depth1 ∙
+            go (bool-cases (R v)) (bool-cases (L (suc j) v))
+          where
+            go :
+                (R v ≡ true) ⊎ (R v ≡ false) → (L (suc j) v ≡ true) ⊎ (L (suc j) v ≡ false) →
+                cond (L1 (suc j) v) noEntry (getD w1 (entries n m + v) 0) ≡
+                cond (R v) (entryIn n m s w0 v)
+                (cond (ltb (regionIn n m s priorities w0 v) (topIn n m s w0 j)) noEntry (entryIn n m s w0 v))
+            go (inl r) x =
+                let out : L (suc k) v ≡ false = not-true (L (suc k) v) (and-right (L k v) _ (sym (ready .held v) ∙ r)) in
+                let gone : L1 (suc j) v ≡ false = last1 v ∙ rw r (and-false (L (suc j) v)) in
+                rw (gone, r, out) (entry-word v l)
+            go (inr r) (inl i) = rw (last1 v, i, r, below-is (ready .nests) j v (omega arith) ∙ i)
+            go (inr r) (inr i) =
+                let out = outside-all (ready .nests) (suc j) (suc k) v (omega arith) (le-refl (suc k)) i in
+                rw (last1 v, i, r, below-is (ready .nests) j v (omega arith) ∙ i, out) (entry-word v l)
+
+        -- **what holds between two steps holds again**
+        pub ready-promoted : Ready n priorities offsets targets s w1
+        ready-promoted =
+            record {
+              size = size;
+              edges = ready .edges;
+              listed = listed-kept n offsets targets w0 w1 (c .long) (λ i l. low1 i (omega arith)) (ready .listed);
+              room = omega (arith, ready .room, c .long);
+              depth = rw depth1 (omega (arith, ready .depth));
+              sorted = sets-kept n (free n m) priorities w0 w1 (λ i low high. low1 i (omega (arith, size))) (ready .sorted);
+              nests = rw depth1 nests1;
+              proper = rw depth1 (promoted-proper k L L1 (ready .proper) R j down level1 last1);
+              held = λ v. rw depth1 (c .region v ∙ rw (place, sym (level1 j v (le-refl j))));
+            }
+
+        pub won-promoted : (i : ℕ) → wonAt n m s Even ≤ i → i < depthAt n m s → getD w1 i 0 ≡ getD w0 i 0
+        won-promoted i low high = same1 i (λ e. omega arith) (inr (omega arith)) (inl (omega arith))
+
+        pub top-promoted : topIn n m s w1 (depthIn n m s w1) ≡ topIn n m s w0 j
+        top-promoted = rw depth1 (top1 j (le-refl j))
+
+        pub left-promoted : (v : ℕ) → levelIn n m s w1 0 v ≡ levelIn n m s w0 0 v
+        left-promoted v = level1 0 v (omega arith)

@@ -1,4 +1,2 @@
--- R, the region that is drawn in: what its steps ask for and leave, and that it is as a round of the rules asks.
-pub mod Sorting
-pub mod Claims
+-- What `query` asks for and leaves, and why.
 pub mod Query

@@ -1,79 +1,78 @@
--- R is attracted: what the calls of `query` ask for and leave behind, one after the other, and that R, its regions and entries
--- are then as a round of the rules asks.
-use mathlib.Core.Bool.{Bool, true, false, _&&_, cond}
+-- R is attracted within the current level, and leaves the level after it: R, the regions and the entries are then as a round of the
+-- rules asks.
+use mathlib.Core.Bool.{Bool, true, false, _&&_, not, cond, and-false}
 use mathlib.Core.List.{List}
 use mathlib.Core.Logic.{_⊎_, inl, inr, ⊎-elim}
-use mathlib.Core.Path.{_≡_, refl, sym, ap, ap₂, _∙_}
-use Prim.Native.Nat.{ℕ, _+_, _*_, _%_, _≤_, _<_}
+use mathlib.Core.Path.{_≡_, refl, sym, ap, _∙_}
+use Prim.Native.Nat.{ℕ, suc, _+_, _*_, _%_, _≤_, _<_}
+use native.Mathlib.Nat.{le-refl}
 use native.Mathlib.Omega.{arith}
-use borrow.Author.Tests.{eqb-true, le-leb, lt-ltb, le-ltb}
-use lib.Dec.{eqb, leb, ltb}
+use borrow.Author.Tests.{not-true}
 use lib.ListN.{length, getD}
 use Rattle.rules.specs.Counting.{Set}
-use Rattle.rules.specs.Game.{Game, parity}
+use Rattle.rules.specs.Game.{Game, Even, Odd, parity}
 use Rattle.rules.specs.Tables.{Tables, words, gameOf, Accepted, tablesOf}
+use Rattle.rules.specs.Words.{noEntry}
 use Rattle.rules.specs.Attractor.{attractor}
 use Rattle.rules.specs.Promotion.{unsolved}
-use Rattle.theory.specs.Basics.{bool-cases, clash, not-true-is-false, and-intro, and-left, and-right, lt-or-ge}
+use Rattle.theory.specs.Basics.{bool-cases, clash, not-true-is-false, not-false-is-true, and-left, and-right, lt-or-ge}
 use Rattle.theory.specs.AttractorRank.{Certificate}
 use Rattle.theory.specs.PromotionBasics.{atRegion, upTo}
 use Rattle.theory.specs.PromotionEntries.{Attracts}
-use Rattle.sets.specs.After.{Cleared}
 use Rattle.sets.specs.Laws.{bit-other}
-use Rattle.area.specs.Area.{entries, setAt, wordsAt}
+use Rattle.area.specs.Area.{entries, free, setAt, wordsAt}
+use Rattle.area.specs.SetsAt.{set-kept}
 use Rattle.attractor.specs.Attracted.{Nested, Attractable, Attracted, listed-kept}
-use Rattle.promotion_tables.specs.Regions.{regionAt, Elsewhere, tallied-kept}
-use Rattle.area.specs.SetsAt.{set-kept, set-cleared}
-use Rattle.promotion_region.specs.Sorting.{Collects, Collected}
-use Rattle.promotion_region.specs.Claims.{Claimable, Claimed}
-use Rattle.promotion_tables.specs.Layout.{unsolvedAt, lowerAt, heldAt, evenAt, regionsAt, tableAt, table-below, entryOf, Ready, unsolved-small}
-use Rattle.promotion_tables.specs.Pulled.{Pulled, pulled-as, attract-pulled}
+use Rattle.promotion_levels.specs.Nesting.{regionOf, Nesting, inside-all, drawn-nests, drawn-region, drawn-proper}
+use Rattle.promotion_levels.specs.Layout.{heldAt, wonAt, depthAt, topsAt, deep, levelsAt, levelAt, endAt, depthIn, topIn, levelIn, heldIn, regionIn, entryIn, Ready}
+use Rattle.promotion_levels.specs.Places.{next-level, level-apart, level-high, level-kept, sets-kept, upTo-is, at-region-is}
+use Rattle.promotion_levels.specs.Pulled.{Pulled, pulled-as, attract-pulled}
+use Rattle.promotion_levels.specs.Without.{WithoutAt}
 
--- what `query` asks for: the tables are accepted with some priorities
-pub record QueryReady (owners offsets targets : List ℕ) (s p : ℕ) (work : List ℕ) : Type 0 where
+-- what `query` asks for: the tables are accepted with some priorities, p is the current level's, and its set stands at `base`
+pub record QueryReady (owners offsets targets : List ℕ) (s p held base : ℕ) (work : List ℕ) : Type 0 where
   pub priorities : List ℕ
   pub accepted : Accepted (tablesOf owners priorities offsets targets)
-  pub ready : Ready (length owners) offsets targets s work
-  pub small : p < 256
+  pub ready : Ready (length owners) priorities offsets targets s work
+  pub current : p ≡ topIn (length owners) (length targets) s work (depthIn (length owners) (length targets) s work)
+  pub held-is : held ≡ heldAt (length owners) (length targets) s
+  pub base-is :
+      base ≡ levelAt (length owners) (length targets) s (depthIn (length owners) (length targets) s work)
 
--- R as it was drawn in: it is the attractor of region p, and has region p now
-pub record Drawn (owners priorities offsets targets : List ℕ) (s p : ℕ) (before after : List ℕ) : Type 0 where
-  pub long : length after ≡ length before
-  pub ready : Ready (length owners) offsets targets s after
-  pub below : (v : ℕ) → setAt (length owners) (heldAt (length owners) (length targets) s) after v ≡ true → v < length owners
-  pub region :
-      let n = length owners in
-      let m = length targets in
-      (v : ℕ) →
-      v < n →
-      regionAt (regionsAt n m s) after v ≡ cond (setAt n (heldAt n m s) after v) p (regionAt (regionsAt n m s) before v)
-  pub certificate :
-      let n = length owners in
-      let m = length targets in
-      let g = gameOf (tablesOf owners priorities offsets targets) in
-      let T = tableAt n m s before in
-      Certificate g (parity p) (upTo (unsolved g T) T p) (atRegion (unsolved g T) T p) (setAt n (heldAt n m s) after)
-  pub rest :
-      let n = length owners in
-      let m = length targets in
-      (i : ℕ) → evenAt n m s ≤ i → Elsewhere n (regionsAt n m s) i → getD after i 0 ≡ getD before i 0
-
--- what it leaves, with the entries
+-- what it leaves: R is the attractor of region p, and has region p now
 pub record Queried (owners priorities offsets targets : List ℕ) (s p : ℕ) (before after : List ℕ) : Type 0 where
-  pub drawn : Drawn owners priorities offsets targets s p before after
+  pub long : length after ≡ length before
+  pub ready : Ready (length owners) priorities offsets targets s after
+  pub depth : depthIn (length owners) (length targets) s after ≡ depthIn (length owners) (length targets) s before
+  pub tops :
+      (j : ℕ) →
+      j ≤ depthIn (length owners) (length targets) s before →
+      topIn (length owners) (length targets) s after j ≡ topIn (length owners) (length targets) s before j
+  pub levels :
+      (j v : ℕ) →
+      j ≤ depthIn (length owners) (length targets) s before →
+      levelIn (length owners) (length targets) s after j v ≡ levelIn (length owners) (length targets) s before j v
+  pub region :
+      (v : ℕ) →
+      regionIn (length owners) (length targets) s priorities after v ≡
+      cond (heldIn (length owners) (length targets) s after v) p
+      (regionIn (length owners) (length targets) s priorities before v)
   pub attracts :
       let n = length owners in
       let m = length targets in
       let g = gameOf (tablesOf owners priorities offsets targets) in
-      Attracts g (unsolved g (tableAt n m s before)) (tableAt n m s before) p (setAt n (heldAt n m s) after)
-      (entryOf n m before) (entryOf n m after)
-
-chosen-is : (b : Bool) → cond b true false ≡ b
-chosen-is true = refl
-chosen-is false = refl
+      let T = regionIn n m s priorities before in
+      Attracts g (unsolved g T) T p (heldIn n m s after) (entryIn n m s before) (entryIn n m s after)
+  pub won :
+      (i : ℕ) →
+      wonAt (length owners) (length targets) s Even ≤ i →
+      i < depthAt (length owners) (length targets) s →
+      getD after i 0 ≡ getD before i 0
+  -- behind the levels nothing is touched
+  pub rest : (i : ℕ) → endAt (length owners) (length targets) s ≤ i → getD after i 0 ≡ getD before i 0
 
 module _ (owners priorities : List ℕ) {offsets targets : List ℕ} (ok : Accepted (tablesOf owners priorities offsets targets))
-    {s : ℕ} (p : ℕ) {w0 : List ℕ} (ready : Ready (length owners) offsets targets s w0) (small : p < 256)
+    {s : ℕ} {w0 : List ℕ} (ready : Ready (length owners) priorities offsets targets s w0)
   where
     abbrev n : ℕ
     n = length owners
@@ -87,301 +86,281 @@ module _ (owners priorities : List ℕ) {offsets targets : List ℕ} (ok : Accep
     abbrev g : Game
     g = gameOf t
 
-    -- the bases
-    abbrev U : ℕ
-    U = unsolvedAt n m s
+    abbrev k : ℕ
+    k = depthIn n m s w0
 
+    abbrev p : ℕ
+    p = topIn n m s w0 k
+
+    -- the current level, the level after it, and R
     abbrev X : ℕ
-    X = lowerAt n m s
+    X = levelAt n m s k
+
+    abbrev Y : ℕ
+    Y = levelAt n m s (suc k)
 
     abbrev H : ℕ
     H = heldAt n m s
 
-    abbrev Rg : ℕ
-    Rg = regionsAt n m s
-
-    abbrev E : ℕ
-    E = entries n m
-
-    -- the table at first, and the unsolved vertices by it
-    abbrev T : ℕ → ℕ
-    T = tableAt n m s w0
+    abbrev L : ℕ → Set
+    L = levelIn n m s w0
 
     size : s ≡ words n
     size = ready .size
 
-    left-is : (v : ℕ) → unsolved g T v ≡ setAt n U w0 v
-    unfolding gameOf
-    left-is v = sym (ready .unsolved v)
+    y-is : Y ≡ X + s
+    y-is = next-level n m s k
 
-    room : Rg + n + 257 ≤ length w0
-    room = ready .tallied .room
+    y-high : Y + s ≤ length w0
+    y-high =
+        let high = level-high n m s (suc k) (omega (arith, ready .depth)) in
+        omega (arith, ready .room)
 
-    pub clear-fits : X + 2 * s ≤ length w0
-    clear-fits = omega (arith, room)
+    x-low : levelsAt n m s ≤ X
+    x-low = omega arith
 
-    module _ {w1 : List ℕ} (c1 : Cleared X (2 * s) w0 w1) where
-      set1 : (v : ℕ) → setAt n U w1 v ≡ setAt n U w0 v
-      set1 = set-kept n U w0 w1 (λ i low high. c1 .rest i (inl (omega (arith, size))))
+    part0 : (v : ℕ) → heldIn n m s w0 v ≡ true → L k v ≡ true
+    part0 v i = and-left (L k v) _ (sym (ready .held v) ∙ i)
 
-      region1 : (v : ℕ) → regionAt Rg w1 v ≡ regionAt Rg w0 v
-      region1 v = c1 .rest (Rg + v) (inr (omega arith))
+    in-small : (j v : ℕ) → j ≤ suc k → L j v ≡ true → v < n
+    in-small j v l i = ready .nests .below v (inside-all (ready .nests) 0 j v (omega arith) l i)
 
-      lower1 : (v : ℕ) → setAt n X w1 v ≡ false
-      lower1 = set-cleared n X (2 * s) X c1 (omega arith) (omega (arith, size))
+    nested0 : Nested n X H w0
+    nested0 = record { below = λ v i. in-small k v (omega arith) i; part = part0 }
 
-      held1 : (v : ℕ) → setAt n H w1 v ≡ false
-      held1 = set-cleared n X (2 * s) H c1 (omega arith) (omega (arith, size))
-
-      pub collect-ready : Collects n s U X H Rg w1
-      collect-ready =
-          record {
-            size = size;
-            few = ready .tallied .few;
-            below = λ v i. unsolved-small ready v (sym (set1 v) ∙ i);
-            unsolved-lower = omega (arith, size);
-            lower-held = omega (arith, size);
-            held-regions = omega (arith, size);
-            room = omega (arith, room, c1 .long);
-            bare = λ u l. (lower1 u, held1 u);
-          }
-
-      module _ {w2 : List ℕ}
-          (c2 : Collected n p U X H Rg w1 w2)
-        where
-          long2 : length w2 ≡ length w0
-          long2 = c2 .keeps .long ∙ c1 .long
-
-          -- words outside X and R
-          same2 : (i : ℕ) → (i < X) ⊎ (evenAt n m s ≤ i) → getD w2 i 0 ≡ getD w0 i 0
-          same2 i (inl l) = c2 .keeps .rest i (inl l, inl (omega arith)) ∙ c1 .rest i (inl l)
-          same2 i (inr l) =
-              c2 .keeps .rest i (inr (omega (arith, size)), inr (omega (arith, size))) ∙ c1 .rest i (inr (omega arith))
-
-          -- a set that was sorted into: the unsolved vertices that pass a test on their region
-          sorted2 :
-              (base : ℕ) (test : ℕ → Bool) →
-              ((v : ℕ) → setAt n base w1 v ≡ false) →
-              ((v : ℕ) → n ≤ v → setAt n base w2 v ≡ false) →
-              ((v : ℕ) → setAt n U w1 v ≡ true → setAt n base w2 v ≡ cond (test (regionAt Rg w1 v)) true (setAt n base w1 v)) →
-              ((v : ℕ) → v < n → setAt n U w1 v ≡ false → setAt n base w2 v ≡ setAt n base w1 v) →
-              (v : ℕ) →
-              setAt n base w2 v ≡ (unsolved g T v && test (T v))
-          sorted2 base test none bare inside outside v = go (bool-cases (setAt n U w0 v)) (lt-or-ge v n)
-            where
-              go :
-                  (setAt n U w0 v ≡ true) ⊎ (setAt n U w0 v ≡ false) →
-                  (v < n) ⊎ (n ≤ v) →
-                  setAt n base w2 v ≡ (unsolved g T v && test (T v))
-              go (inl i) l =
-                  inside v (set1 v ∙ i) ∙
-                  ap₂ (λ (x : ℕ) (b : Bool). cond (test x) true b)
-                  (region1 v ∙ sym (table-below n m s w0 v (unsolved-small ready v i))) (none v) ∙
-                  chosen-is (test (T v)) ∙
-                  sym (ap (λ (b : Bool). b && test (T v)) (left-is v ∙ i))
-              go (inr i) (inl l) =
-                  outside v l (set1 v ∙ i) ∙ none v ∙ sym (ap (λ (b : Bool). b && test (T v)) (left-is v ∙ i))
-              go (inr i) (inr l) = bare v l ∙ sym (ap (λ (b : Bool). b && test (T v)) (left-is v ∙ i))
-
-          lower2 : (v : ℕ) → setAt n X w2 v ≡ upTo (unsolved g T) T p v
-          lower2 =
-              sorted2 X (λ x. leb x p) lower1 (λ v l. c2 .keeps .good v l .0) (λ v i. c2 .inside v i .0)
-              (λ v l i. ap (λ (c : Bool × Bool). c .0) (c2 .outside v l i))
-
-          held2 : (v : ℕ) → setAt n H w2 v ≡ atRegion (unsolved g T) T p v
-          held2 =
-              sorted2 H (λ x. eqb x p) held1 (λ v l. c2 .keeps .good v l .1) (λ v i. c2 .inside v i .1)
-              (λ v l i. ap (λ (c : Bool × Bool). c .1) (c2 .outside v l i))
-
-          lower-small : (v : ℕ) → setAt n X w2 v ≡ true → v < n
-          lower-small v i =
-              unsolved-small ready v (sym (left-is v) ∙ and-left (unsolved g T v) (leb (T v) p) (sym (lower2 v) ∙ i))
-
-          nested2 : Nested n X H w2
-          nested2 =
+    pub attract-ready : Attractable owners offsets targets (p % 2) X H w0
+    attract-ready =
+        record {
+          placed =
               record {
-                below = lower-small;
-                part =
-                    λ v i.
-                    let at = sym (held2 v) ∙ i in
-                    let is = eqb-true (T v) p (and-right (unsolved g T v) (eqb (T v) p) at) in
-                    lower2 v ∙ and-intro (and-left (unsolved g T v) (eqb (T v) p) at) (le-leb (T v) p (omega arith));
-              }
+                within-low = omega (arith, size);
+                within-high = omega (arith, size, y-is, y-high);
+                set-low = omega (arith, size);
+                set-high = omega (arith, size, y-is, y-high);
+                apart = inr (omega (arith, size));
+              };
+          nested = nested0;
+          edges = ready .edges;
+          listed = ready .listed;
+          side = omega arith;
+        }
 
-          pub attract-ready : Attractable owners offsets targets (p % 2) X H w2
-          attract-ready =
-              record {
-                placed =
-                    record {
-                      within-low = omega (arith, size);
-                      within-high = omega (arith, size, room, long2);
-                      set-low = omega (arith, size);
-                      set-high = omega (arith, size, room, long2);
-                      apart = inl (omega (arith, size));
-                    };
-                nested = nested2;
-                edges = ready .edges;
-                listed = listed-kept n offsets targets w0 w2 long2 (λ i l. same2 i (inl (omega arith))) (ready .listed);
-                side = omega arith;
-              }
+    module _ {w1 : List ℕ} {looks : ℕ} (c1 : Attracted t (parity p) X H w0 w1 looks) where
+      abbrev S : Set
+      S = attractor g (parity p) (setAt n X w0) (setAt n H w0)
 
-          module _ {w3 : List ℕ} {looks : ℕ}
-              (c3 : Attracted t (parity p) X H w2 w3 looks)
-            where
-              long3 : length w3 ≡ length w0
-              long3 = c3 .long ∙ long2
+      pulled1 : Pulled g (parity p) (L k) (heldIn n m s w0) S (λ v. getD w0 (entries n m + v) 0) (λ v. getD w1 (entries n m + v) 0)
+      pulled1 = attract-pulled ok nested0 c1
 
-              abbrev S : Set
-              S = attractor g (parity p) (setAt n X w2) (setAt n H w2)
+      bare1 : (v : ℕ) → n ≤ v → heldIn n m s w1 v ≡ false
+      bare1 v l = bit-other (wordsAt n H w1) v (c1 .holds .clear v l)
 
-              drawn3 : Pulled g (parity p) (setAt n X w2) (setAt n H w2) S (entryOf n m w2) (entryOf n m w3)
-              drawn3 = attract-pulled ok nested2 c3
+      held1 : (v : ℕ) → S v ≡ heldIn n m s w1 v
+      held1 v =
+          ⊎-elim
+          (λ l. sym (c1 .holds .bits v l))
+          (λ l.
+          not-true-is-false (S v) (λ i. let b = in-small k v (omega arith) (pulled1 .certificate .inside v i) in omega arith) ∙
+          sym (bare1 v l))
+          (lt-or-ge v n)
 
-              held-bare : (v : ℕ) → n ≤ v → setAt n H w3 v ≡ false
-              held-bare v l = bit-other (wordsAt n H w3) v (c3 .holds .clear v l)
+      -- free words outside R are as they were
+      same1 : (i : ℕ) → free n m ≤ i → (i < H) ⊎ (H + s ≤ i) → getD w1 i 0 ≡ getD w0 i 0
+      same1 i low (inl l) = c1 .rest i low (inl l)
+      same1 i low (inr l) = c1 .rest i low (inr (omega (arith, size)))
 
-              pub held-small : (v : ℕ) → setAt n H w3 v ≡ true → v < n
-              held-small v i = ⊎-elim (λ l. l) (λ l. absurd (clash i (held-bare v l))) (lt-or-ge v n)
+      level1 : (j v : ℕ) → levelIn n m s w1 j v ≡ L j v
+      level1 j = level-kept n m s j w0 w1 (λ i low high. same1 i (omega arith) (inr (omega arith)))
 
-              held3 : (v : ℕ) → S v ≡ setAt n H w3 v
-              held3 v =
-                  ⊎-elim
-                  (λ l. sym (c3 .holds .bits v l))
-                  (λ l.
-                  not-true-is-false (S v) (λ i. let k = lower-small v (drawn3 .certificate .inside v i) in omega arith) ∙
-                  sym (held-bare v l))
-                  (lt-or-ge v n)
+      pub without-fits : Y + s ≤ length w1
+      without-fits = omega (arith, y-high, c1 .long)
 
-              -- words behind R
-              same3 : (i : ℕ) → evenAt n m s ≤ i → getD w3 i 0 ≡ getD w0 i 0
-              same3 i l = c3 .rest i (omega (arith, size)) (inr (omega (arith, size))) ∙ same2 i (inr l)
+      module _ {w2 : List ℕ} (c2 : WithoutAt n Y X H w1 w2) where
+        long2 : length w2 ≡ length w0
+        long2 = c2 .long ∙ c1 .long
 
-              unsolved3 : (i : ℕ) → U ≤ i → i < X → getD w3 i 0 ≡ getD w0 i 0
-              unsolved3 i low high = c3 .rest i (omega (arith, size)) (inl (omega arith)) ∙ same2 i (inl high)
+        -- words that neither R nor the level after is
+        same2 : (i : ℕ) → (i < Y) ⊎ (Y + s ≤ i) → getD w2 i 0 ≡ getD w1 i 0
+        same2 i (inl l) = c2 .rest i (inl l)
+        same2 i (inr l) = c2 .rest i (inr (omega (arith, size)))
 
-              region3 : (v : ℕ) → regionAt Rg w3 v ≡ regionAt Rg w0 v
-              region3 v = same3 (Rg + v) (omega arith)
+        low2 : (i : ℕ) → free n m ≤ i → (i < H) ⊎ (H + s ≤ i) → i < Y → getD w2 i 0 ≡ getD w0 i 0
+        low2 i low o l = same2 i (inl l) ∙ same1 i low o
 
-              entry2 : (v : ℕ) → v < n → entryOf n m w2 v ≡ entryOf n m w0 v
-              entry2 v l = same2 (E + v) (inl (omega arith))
+        depth2 : depthIn n m s w2 ≡ k
+        depth2 = low2 (depthAt n m s) (omega arith) (inr (omega arith)) (omega (arith, y-is))
 
-              pub claim-ready : Claimable n p s H Rg w3
-              claim-ready =
+        top2 : (j : ℕ) → j ≤ k → topIn n m s w2 j ≡ topIn n m s w0 j
+        top2 j l =
+            low2 (topsAt n m s + j) (omega arith) (inr (omega arith)) (omega (arith, y-is, ready .depth))
+
+        held2 : (v : ℕ) → heldIn n m s w2 v ≡ heldIn n m s w1 v
+        held2 = set-kept n H w1 w2 (λ i low high. same2 i (inl (omega (arith, size, y-is))))
+
+        abbrev R : Set
+        R = heldIn n m s w2
+
+        abbrev L2 : ℕ → Set
+        L2 = levelIn n m s w2
+
+        level2 : (j v : ℕ) → j ≤ k → L2 j v ≡ L j v
+        level2 j v l =
+            level-kept n m s j w1 w2
+            (λ i low high.
+            same2 i (inl (let a = level-apart n m s j (suc k) (omega arith) in omega (arith, size)))) v ∙
+            level1 j v
+
+        last2 : (v : ℕ) → L2 (suc k) v ≡ (L k v && not (R v))
+        last2 v =
+            c2 .made v ∙ ap (λ (b : Bool). b && not (setAt n H w1 v)) (level1 k v) ∙
+            ap (λ (b : Bool). L k v && not b) (sym (held2 v))
+
+        R-is : (v : ℕ) → S v ≡ R v
+        R-is v = held1 v ∙ sym (held2 v)
+
+        cert2 : Pulled g (parity p) (L k) (heldIn n m s w0) R (λ v. getD w0 (entries n m + v) 0) (λ v. getD w1 (entries n m + v) 0)
+        cert2 = pulled-as (λ v. refl) (λ v. refl) R-is pulled1
+
+        part2 : (v : ℕ) → R v ≡ true → L k v ≡ true
+        part2 v i = cert2 .certificate .inside v i
+
+        gained2 : (v : ℕ) → L k v ≡ true → L (suc k) v ≡ false → R v ≡ true
+        gained2 v i out = cert2 .certificate .closed .target v (ready .held v ∙ rw (i, out))
+
+        nests2 : Nesting n k L2 (topIn n m s w2) (λ v. getD priorities v 0)
+        nests2 = drawn-nests (ready .nests) {R = R} gained2 part2 level2 top2 last2
+
+        -- the level after has lost R, and R is what lies between
+        held-between : (v : ℕ) → R v ≡ (L2 k v && not (L2 (suc k) v))
+        held-between v = go (bool-cases (R v)) (bool-cases (L k v))
+          where
+            go : (R v ≡ true) ⊎ (R v ≡ false) → (L k v ≡ true) ⊎ (L k v ≡ false) → R v ≡ (L2 k v && not (L2 (suc k) v))
+            go (inl r) x = r ∙ sym (rw (level2 k v (le-refl k), last2 v, part2 v r, r))
+            go (inr r) (inl i) = r ∙ sym (rw (level2 k v (le-refl k), last2 v, i, r))
+            go (inr r) (inr i) = r ∙ sym (rw (level2 k v (le-refl k), i))
+
+        -- an entry by the levels, before and after
+        entry0 : (v : ℕ) → L (suc k) v ≡ false → entryIn n m s w0 v ≡ getD w0 (entries n m + v) 0
+        entry0 v out = rw out
+
+        entry2 : (v : ℕ) → v < n → L2 (suc k) v ≡ false → entryIn n m s w2 v ≡ getD w1 (entries n m + v) 0
+        entry2 v l out =
+            ap (λ (j : ℕ). cond (L2 (suc j) v) noEntry (getD w2 (entries n m + v) 0)) depth2 ∙ rw out (same2 (entries n m + v) (inl (omega (arith, y-is))))
+
+        none0 : (v : ℕ) → L (suc k) v ≡ true → entryIn n m s w0 v ≡ noEntry
+        none0 v i = rw i
+
+        none2 : (v : ℕ) → L2 (suc k) v ≡ true → entryIn n m s w2 v ≡ noEntry
+        none2 v i = ap (λ (j : ℕ). cond (L2 (suc j) v) noEntry (getD w2 (entries n m + v) 0)) depth2 ∙ rw i
+
+        gone2 : (v : ℕ) → R v ≡ true → L2 (suc k) v ≡ false
+        gone2 v r = last2 v ∙ rw r (and-false (L k v))
+
+        -- the table of regions before
+        abbrev T : ℕ → ℕ
+        T = regionIn n m s priorities w0
+
+        pulled2 :
+            Pulled g (parity p) (upTo (unsolved g T) T p) (atRegion (unsolved g T) T p) R (λ v. getD w0 (entries n m + v) 0)
+            (λ v. getD w1 (entries n m + v) 0)
+        pulled2 =
+            pulled-as (λ v. sym (upTo-is owners priorities offsets targets (ready .nests) v))
+            (λ v. ready .held v ∙ sym (at-region-is owners priorities offsets targets (ready .nests) v)) (λ v. refl) cert2
+
+        -- who is in region p was in R's place, and not in the level after
+        at-held : (v : ℕ) → atRegion (unsolved g T) T p v ≡ true → L (suc k) v ≡ false
+        at-held v i =
+            not-true (L (suc k) v)
+            (and-right (L k v) _ (sym (at-region-is owners priorities offsets targets (ready .nests) v) ∙ i))
+
+        small2 : (v : ℕ) → R v ≡ true → v < n
+        small2 v i = in-small k v (omega arith) (part2 v i)
+
+        attracts2 : Attracts g (unsolved g T) T p R (entryIn n m s w0) (entryIn n m s w2)
+        unfolding gameOf
+        attracts2 =
+            record {
+              certificate = pulled2 .certificate;
+              near = λ v i out o. pulled2 .near v;
+              pulled = λ v i out o. entry2 v (small2 v i) (gone2 v i) ∙ pulled2 .entered v i out o;
+              kept =
+                  λ v i o.
+                  let r = pulled2 .certificate .closed .target v i in
+                  entry2 v (small2 v r) (gone2 v r) ∙
+                  pulled2 .kept v (small2 v r) (λ x out. absurd (clash i out)) ∙
+                  sym (entry0 v (at-held v i));
+              elsewhere = λ v l out. elsewhere v l out (bool-cases (L k v));
+            }
+          where
+            elsewhere :
+                (v : ℕ) → v < n → R v ≡ false → (L k v ≡ true) ⊎ (L k v ≡ false) → entryIn n m s w2 v ≡ entryIn n m s w0 v
+            elsewhere v l out (inl i) =
+                none2 v (last2 v ∙ rw (i, out)) ∙
+                sym (none0 v (not-false-is-true (L (suc k) v) (λ gone. clash (gained2 v i gone) out)))
+            elsewhere v l out (inr i) =
+                entry2 v l (last2 v ∙ rw i) ∙
+                pulled2 .kept v l (λ r. absurd (clash r out)) ∙
+                sym (entry0 v (not-true-is-false (L (suc k) v) (λ h. clash (ready .nests .inside k v (le-refl k) h) i)))
+
+        -- **all is as a round of the rules asks**
+        pub queried : Queried owners priorities offsets targets s p w0 w2
+        queried =
+            record {
+              long = long2;
+              ready =
                   record {
                     size = size;
-                    tallied = tallied-kept long3 (λ i low high. same3 i (omega arith)) (ready .tallied);
-                    order = omega (arith, size);
-                    below = held-small;
-                    most = omega arith;
-                  }
+                    edges = ready .edges;
+                    listed =
+                        listed-kept n offsets targets w0 w2 long2
+                        (λ i l. same2 i (inl (omega (arith, y-is))) ∙ c1 .table i l) (ready .listed);
+                    room = omega (arith, ready .room, long2);
+                    depth = rw depth2 (ready .depth);
+                    sorted =
+                        sets-kept n (free n m) priorities w0 w2
+                        (λ i low high. low2 i low (inl (omega (arith, size))) (omega (arith, size, y-is))) (ready .sorted);
+                    nests = rw depth2 nests2;
+                    proper = rw depth2 (drawn-proper k L L2 (ready .proper) R gained2 level2 last2);
+                    held = λ v. rw depth2 (held-between v);
+                  };
+              depth = depth2;
+              tops = top2;
+              levels = level2;
+              region =
+                  λ v. ap (λ (j : ℕ). regionOf L2 (topIn n m s w2) (λ u. getD priorities u 0) j v) depth2 ∙
+                  drawn-region (ready .nests) {R = R} gained2 part2 level2 top2 last2 v;
+              attracts = attracts2;
+              won = λ i low high. low2 i (omega arith) (inr (omega arith)) (omega (arith, y-is));
+              rest =
+                  λ i l.
+                  let high = level-high n m s (suc k) (omega (arith, ready .depth)) in
+                  same2 i (inr (omega arith)) ∙ same1 i (omega arith) (inr (omega arith));
+            }
 
-              module _ {w4 : List ℕ} (c4 : Claimed n p H Rg w3 w4) where
-                abbrev R : Set
-                R = setAt n H w4
+-- ---- the same for the numbers that the code has
 
-                held4-at : (v : ℕ) → setAt n H w3 v ≡ R v
-                held4-at v =
-                    sym (set-kept n H w3 w4 (λ i low high. c4 .keeps .rest i (inl (omega (arith, size)))) v)
+module _ {owners offsets targets : List ℕ} {s p held base : ℕ} {w0 : List ℕ}
+    (q : QueryReady owners offsets targets s p held base w0)
+  where
+    pub given-attract : Attractable owners offsets targets (p % 2) base held w0
+    given-attract =
+        rw (q .current, q .base-is, q .held-is) (attract-ready owners (q .priorities) (q .accepted) (q .ready))
 
-                long4 : length w4 ≡ length w0
-                long4 = c4 .keeps .long ∙ long3
+    -- the places of `without`
+    pub given-fits : (base + s + s ≤ length w0) × (held + s ≤ base)
+    given-fits =
+        let high = y-high owners (q .priorities) (q .accepted) (q .ready) in
+        let is = y-is owners (q .priorities) (q .accepted) (q .ready) in
+        (omega (arith, q .base-is), omega (arith, q .base-is, q .held-is))
 
-                pulled4 :
-                    Pulled g (parity p) (upTo (unsolved g T) T p) (atRegion (unsolved g T) T p) R (entryOf n m w2)
-                    (entryOf n m w3)
-                pulled4 = pulled-as lower2 held2 (λ v. held3 v ∙ held4-at v) drawn3
-
-                small4 : (v : ℕ) → R v ≡ true → v < n
-                small4 v i = held-small v (held4-at v ∙ i)
-
-                -- the region of v, where b says whether it is in R
-                abbrev regionWhere : Bool → ℕ → ℕ
-                regionWhere b v = cond b p (regionAt Rg w0 v)
-
-                region4 : (v : ℕ) → v < n → regionAt Rg w4 v ≡ regionWhere (R v) v
-                region4 v l =
-                    ⊎-elim
-                    (λ (i : R v ≡ true).
-                    c4 .inside v (held4-at v ∙ i) ∙ sym (ap (λ (b : Bool). regionWhere b v) i))
-                    (λ (i : R v ≡ false).
-                    c4 .outside v l (held4-at v ∙ i) ∙ region3 v ∙
-                    sym (ap (λ (b : Bool). regionWhere b v) i))
-                    (bool-cases (R v))
-
-                -- words of the table of predecessors, of the unsolved set, and behind R
-                same4 : (i : ℕ) → evenAt n m s ≤ i → Elsewhere n Rg i → getD w4 i 0 ≡ getD w0 i 0
-                same4 i l o = c4 .keeps .rest i o ∙ same3 i l
-
-                table4 : (i : ℕ) → i < n + 1 + m → getD w4 i 0 ≡ getD w0 i 0
-                table4 i l =
-                    c4 .keeps .rest i (inl (omega arith)) ∙ c3 .table i l ∙ same2 i (inl (omega arith))
-
-                set4 : (v : ℕ) → setAt n U w4 v ≡ setAt n U w0 v
-                set4 =
-                    set-kept n U w0 w4
-                    (λ i low high.
-                    c4 .keeps .rest i (inl (omega (arith, size))) ∙ unsolved3 i low (omega (arith, size)))
-
-                unsolved4 : (v : ℕ) → setAt n U w4 v ≡ (ltb v n && ltb (tableAt n m s w4 v) 256)
-                unsolved4 v =
-                    set4 v ∙ ready .unsolved v ∙
-                    ⊎-elim
-                    (λ l. ap (λ (b : Bool). ltb v n && b) (same-side l (bool-cases (R v))))
-                    (λ l. rw (le-ltb v n l))
-                    (lt-or-ge v n)
-                  where
-                    now : v < n → {b : Bool} → R v ≡ b → tableAt n m s w4 v ≡ regionWhere b v
-                    now l i = table-below n m s w4 v l ∙ region4 v l ∙ ap (λ (b : Bool). regionWhere b v) i
-
-                    same-side : v < n → (R v ≡ true) ⊎ (R v ≡ false) → ltb (T v) 256 ≡ ltb (tableAt n m s w4 v) 256
-                    same-side l (inl i) =
-                        let up = pulled4 .certificate .inside v i in
-                        let at = ready .unsolved v ∙ refl in
-                        let low =
-                        and-right (ltb v n) (ltb (T v) 256)
-                        (sym at ∙ sym (left-is v) ∙ and-left (unsolved g T v) (leb (T v) p) up) in
-                        low ∙ sym (lt-ltb (tableAt n m s w4 v) 256 (rw (now l i) small))
-                    same-side l (inr i) =
-                        ap (λ (x : ℕ). ltb x 256)
-                        (table-below n m s w0 v l ∙ sym (now l i))
-
-                entry4 : (v : ℕ) → v < n → entryOf n m w4 v ≡ entryOf n m w3 v
-                entry4 v l = c4 .keeps .rest (E + v) (inl (omega arith))
-
-                attracts4 : Attracts g (unsolved g T) T p R (entryOf n m w0) (entryOf n m w4)
-                unfolding gameOf
-                attracts4 =
-                    record {
-                      certificate = pulled4 .certificate;
-                      near = λ v i out o. pulled4 .near v;
-                      pulled = λ v i out o. entry4 v (small4 v i) ∙ pulled4 .entered v i out o;
-                      kept =
-                          λ v i o.
-                          let l = small4 v (pulled4 .certificate .closed .target v i) in
-                          entry4 v l ∙ pulled4 .kept v l (λ r out. absurd (clash i out)) ∙ entry2 v l;
-                      elsewhere =
-                          λ v l out. entry4 v l ∙ pulled4 .kept v l (λ i. absurd (clash i out)) ∙ entry2 v l;
-                    }
-
-                -- **R, its regions and entries are as a round of the rules asks**
-                pub queried : Queried owners priorities offsets targets s p w0 w4
-                queried =
-                    record {
-                      drawn =
-                          record {
-                            long = long4;
-                            ready =
-                                record {
-                                  size = size;
-                                  edges = ready .edges;
-                                  tallied = c4 .keeps .good;
-                                  listed = listed-kept n offsets targets w0 w4 long4 table4 (ready .listed);
-                                  unsolved = unsolved4;
-                                };
-                            below = small4;
-                            region = region4;
-                            certificate = pulled4 .certificate;
-                            rest = same4;
-                          };
-                      attracts = attracts4;
-                    }
+    module _ (priorities : List ℕ) (ok : Accepted (tablesOf owners priorities offsets targets))
+        (ready : Ready (length owners) priorities offsets targets s w0) {w1 w2 : List ℕ} {looks : ℕ}
+      where
+        pub given-queried :
+            Attracted (tablesOf owners priorities offsets targets) (parity p) base held w0 w1 looks →
+            ((n : ℕ) → s ≡ words n → WithoutAt n (base + s) base held w1 w2) →
+            Queried owners priorities offsets targets s p w0 w2
+        given-queried c1 c2 =
+            let drawn = rw (q .current, q .base-is, q .held-is) at c1 in
+            let made = rw (q .base-is, q .held-is, ← y-is owners priorities ok ready) at (c2 (length owners) (ready .size)) in
+            rw (q .current) (queried owners priorities ok ready drawn made)

@@ -1,29 +1,27 @@
 -- The region counts always add up to the unsolved vertices: in whatever state the work area shows, so in all that the loop
 -- reaches.
-use mathlib.Core.Bool.{Bool, _&&_}
 use mathlib.Core.List.{List}
 use mathlib.Core.Logic.{⊎-elim}
-use mathlib.Core.Path.{_≡_, refl, sym, ap, _∙_}
+use mathlib.Core.Path.{_≡_, refl, sym, _∙_}
 use Prim.Native.Nat.{ℕ, zero, suc, _+_, _≤_, _<_}
 use native.Mathlib.Omega.{arith}
 use borrow.Author.Tests.{eq-eqb, ne-eqb, lt-ltb, le-ltb}
 use lib.Dec.{eqb, ltb}
-use lib.ListN.{length, getD}
+use lib.ListN.{length}
 use Rattle.rules.specs.Counting.{count}
 use Rattle.rules.specs.Tables.{gameOf, tablesOf}
 use Rattle.rules.specs.Promotion.{Regions, unsolved, roundOf, afterRounds}
 use Rattle.theory.specs.Basics.{count-cong, count-none, lt-or-ge}
 use Rattle.predecessors.specs.Stages.{sumTo}
-use Rattle.area.specs.Area.{setAt}
-use Rattle.promotion_tables.specs.Regions.{regionAt, Tallied}
-use Rattle.promotion_tables.specs.Layout.{unsolvedAt, regionsAt, tableAt, table-below, Ready}
+use Rattle.promotion_levels.specs.Nesting.{unsolved-is}
+use Rattle.promotion_levels.specs.Layout.{levelIn, regionIn, Ready}
 use Rattle.promotion_rounds.specs.Shown.{Shows}
 use Rattle.promotion_rounds.specs.Rounds.{RoundReady, RoundDone}
 use Rattle.promotion_rounds.specs.Solve.{Reached, left-is}
 
--- the counts of the regions 0 to 255 in the work area, added up
-abbrev pub countsAt : ℕ → ℕ → ℕ → List ℕ → ℕ
-countsAt n m s work = sumTo (λ q. getD work (regionsAt n m s + n + q) 0) 256
+-- how many vertices each of the regions 0 to 255 has by the levels, added up
+abbrev pub countsIn : ℕ → ℕ → ℕ → List ℕ → List ℕ → ℕ
+countsIn n m s priorities work = sumTo (λ q. count n (λ v. eqb (regionIn n m s priorities work v) q)) 256
 
 -- those below k + 1 are those below k and those at k
 count-next :
@@ -47,37 +45,26 @@ count-next (suc n) f k =
 
 -- the counts below region k are the vertices of a region below k
 counts-below :
-    (n regions : ℕ) (work : List ℕ) →
-    Tallied n regions work →
-    (k : ℕ) →
-    k ≤ 256 →
-    sumTo (λ q. getD work (regions + n + q) 0) k ≡ count n (λ v. ltb (regionAt regions work v) k)
+    (n : ℕ) (f : ℕ → ℕ) (k : ℕ) → sumTo (λ q. count n (λ v. eqb (f v) q)) k ≡ count n (λ v. ltb (f v) k)
 unfolding sumTo
-counts-below n regions work t zero l =
-    sym (count-none n (λ v. ltb (regionAt regions work v) 0) (λ v b. le-ltb (regionAt regions work v) 0 (omega arith)))
-counts-below n regions work t (suc k) l =
-    let before = counts-below n regions work t k (omega arith) in
-    let here = t .counts k (omega arith) in
-    let next = count-next n (regionAt regions work) k in
+counts-below n f zero = sym (count-none n (λ v. ltb (f v) 0) (λ v b. le-ltb (f v) 0 (omega arith)))
+counts-below n f (suc k) =
+    let before = counts-below n f k in
+    let next = count-next n f k in
     omega arith
 
 -- **The region counts add up to the unsolved vertices.**
 pub counts-add-up :
-    {n : ℕ} {offsets targets : List ℕ} {s : ℕ} {work : List ℕ} →
-    Ready n offsets targets s work →
-    countsAt n (length targets) s work ≡ count n (setAt n (unsolvedAt n (length targets) s) work)
-counts-add-up {n} {offsets} {targets} {s} {work} ready =
-    counts-below n (regionsAt n (length targets) s) work (ready .tallied) 256 (omega arith) ∙
-    count-cong n _ _
-    (λ v l.
-    sym
-    (ready .unsolved v ∙
-    ap (λ (b : Bool). b && ltb (tableAt n (length targets) s work v) 256) (lt-ltb v n l) ∙
-    ap (λ (x : ℕ). ltb x 256) (table-below n (length targets) s work v l)))
+    {n : ℕ} {priorities offsets targets : List ℕ} {s : ℕ} {work : List ℕ} →
+    Ready n priorities offsets targets s work →
+    countsIn n (length targets) s priorities work ≡ count n (levelIn n (length targets) s work 0)
+counts-add-up {n} {priorities} {offsets} {targets} {s} {work} ready =
+    counts-below n (regionIn n (length targets) s priorities work) 256 ∙
+    count-cong n _ _ (λ v l. unsolved-is (ready .nests) v)
 
 -- the counts add up to the small state's number, and this is how many vertices are unsolved by the rules
 pub record AddUp (owners priorities offsets targets : List ℕ) (s : ℕ) (r : Regions) (many : ℕ) (work : List ℕ) : Type 0 where
-  pub counts : countsAt (length owners) (length targets) s work ≡ many
+  pub counts : countsIn (length owners) (length targets) s priorities work ≡ many
   pub unsolved : many ≡ count (length owners) (unsolved (gameOf (tablesOf owners priorities offsets targets)) (r .region))
 
 module _ (owners priorities offsets targets : List ℕ) (s : ℕ) where

@@ -1,8 +1,11 @@
--- What a round, and the rounds under a budget, make of the work area.
+-- What the work area shows of the rules' state, and what each round makes of it.
 pub mod Shown
+pub mod Opened
 pub mod Filled
-pub mod Round
+pub mod Above
+pub mod Promoted
+pub mod Solved
 pub mod Rounds
+pub mod Round
 pub mod Solve
 pub mod Counts
-pub mod Beginning

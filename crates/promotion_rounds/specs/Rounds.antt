@@ -7,7 +7,7 @@ use lib.ListN.{length, getD}
 use Rattle.rules.specs.Tables.{gameOf, Accepted, tablesOf}
 use Rattle.rules.specs.Promotion.{roundOf, afterRounds}
 use Rattle.theory.specs.PromotionEntries.{RoundEntries}
-use Rattle.promotion_tables.specs.Layout.{regionsAt, entryOf}
+use Rattle.promotion_levels.specs.Layout.{endAt, entryIn}
 use Rattle.promotion_rounds.specs.Shown.{Shows}
 
 -- the work area and the small state show the state after some number of rounds
@@ -34,6 +34,6 @@ pub record RoundDone (owners priorities offsets targets : List ℕ) (s current l
       current' left' after ×
       RoundEntries (gameOf (tablesOf owners priorities offsets targets))
       (afterRounds (gameOf (tablesOf owners priorities offsets targets)) k)
-      (entryOf (length owners) (length targets) before) (entryOf (length owners) (length targets) after)
+      (entryIn (length owners) (length targets) s before) (entryIn (length owners) (length targets) s after)
   pub rest :
-      (i : ℕ) → regionsAt (length owners) (length targets) s + length owners + 257 ≤ i → getD after i 0 ≡ getD before i 0
+      (i : ℕ) → endAt (length owners) (length targets) s ≤ i → getD after i 0 ≡ getD before i 0

@@ -16,8 +16,8 @@ use Rattle.rules.specs.Promotion.{Regions, unsolved, afterRounds, allSolved, ro
 use Rattle.theory.specs.Basics.{clash, lt-or-ge, some-intro, false-some, count-zero, count-some}
 use Rattle.theory.specs.PromotionAccepted.{accepted-finishes, accepted-needed}
 use Rattle.theory.specs.PromotionEntries.{Rounded, rounds}
-use Rattle.area.specs.Area.{setAt}
-use Rattle.promotion_tables.specs.Layout.{unsolvedAt, regionsAt, table-below, entryOf}
+use Rattle.promotion_levels.specs.Layout.{endAt, levelIn, entryIn}
+use Rattle.promotion_levels.specs.Places.{left-is as levels-left}
 use Rattle.promotion_rounds.specs.Shown.{Shows}
 use Rattle.promotion_rounds.specs.Rounds.{RoundReady, RoundDone}
 
@@ -38,7 +38,7 @@ pub record Reached (owners priorities offsets targets : List ℕ) (s at many mad
       work
   pub entries :
       Rounded (gameOf (tablesOf owners priorities offsets targets))
-      (afterRounds (gameOf (tablesOf owners priorities offsets targets)) made) (entryOf (length owners) (length targets) work)
+      (afterRounds (gameOf (tablesOf owners priorities offsets targets)) made) (entryIn (length owners) (length targets) s work)
   pub unfinished :
       (j : ℕ) → j < made →
       allSolved (gameOf (tablesOf owners priorities offsets targets))
@@ -51,7 +51,7 @@ pub record Ended (owners priorities offsets targets : List ℕ) (s budget at man
   pub within : made ≤ budget
   pub over : 0 < many → made ≡ budget
   pub rest :
-      (i : ℕ) → regionsAt (length owners) (length targets) s + length owners + 257 ≤ i → getD after i 0 ≡ getD before i 0
+      (i : ℕ) → endAt (length owners) (length targets) s ≤ i → getD after i 0 ≡ getD before i 0
 
 module _ {owners priorities offsets targets : List ℕ} {s : ℕ} where
   -- whether all are solved, by the number of unsolved vertices
@@ -64,7 +64,7 @@ module _ {owners priorities offsets targets : List ℕ} {s : ℕ} where
 
     -- the unsolved vertices, in the work area and by the rules
     abbrev left : Set
-    left = setAt n (unsolvedAt n m s) work
+    left = levelIn n m s work 0
 
     abbrev leftBy : Set
     leftBy = unsolved (gameBy owners priorities offsets targets) (r .region)
@@ -72,8 +72,8 @@ module _ {owners priorities offsets targets : List ℕ} {s : ℕ} where
     pub left-is : (v : ℕ) → v < n → left v ≡ leftBy v
     unfolding gameOf
     left-is v l =
-        shows .ready .unsolved v ∙
-        ap (λ (x : ℕ). ltb v n && ltb x 256) (table-below n m s work v l ∙ shows .region v l)
+        sym (levels-left owners priorities offsets targets (shows .ready .nests) v) ∙
+        ap (λ (x : ℕ). ltb v n && ltb x 256) (shows .region v l)
 
     pub none-left : many ≡ 0 → allSolved (gameOf (tablesOf owners priorities offsets targets)) r ≡ true
     unfolding allSolved gameOf

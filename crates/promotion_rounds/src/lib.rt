@@ -1,6 +1,4 @@
-// The rounds of priority promotion on tables already accepted: the first state, one round, and rounds until all is
-// solved.
-pub mod begin;
+// The rounds of priority promotion on tables already accepted: one round, and rounds until all is solved.
 pub mod round;
 pub mod solve;
 pub mod step;

@@ -1,10 +1,13 @@
 // One round on plain slices, with the small state by value.
+use highest_priority::one_less;
 use parity_game::Priority;
+use promotion_levels::descend;
+use promotion_levels::held_at;
+use promotion_levels::levels_at;
 use promotion_moves::dominion::solve_dominion;
 use promotion_moves::fill::assign_missing_strategies;
-use promotion_moves::promote::apply_priority_promotion;
+use promotion_moves::promote::promote;
 use promotion_region::query;
-use promotion_tables::regions::next_priority;
 use promotion_tests::escape::best_escape;
 use promotion_tests::open::is_open;
 ghost use Rattle.promotion_rounds.specs.Rounds.{RoundReady, RoundDone};
@@ -35,35 +38,41 @@ pub fn round(
 {
     let n = owners.len();
     let m = targets.len();
-    let entries = n + 1 + m + n + n;
-    let unsolved = entries + n + 2 * (s + 1) + s;
-    let held = unsolved + s + s;
-    let regions = held + 3 * s;
+    let held = held_at(n, m, s);
+    let depth = held + 3 * s;
+    let levels = levels_at(n, depth);
+    let k = work[depth] as usize;
+    let base = levels + k * s;
     let p = state.current.0;
     let alpha = (p % 2) as u8;
+    let unsolved = state.unsolved;
     let rounds = state.rounds + 1;
-    query(owners, offsets, targets, p, s, work);
-    if is_open(owners, offsets, targets, alpha, p, s, work, held, regions) {
-        let current = next_priority(n, work, regions, p);
+    query(owners, offsets, targets, p, s, work, held, base);
+    if is_open(owners, offsets, targets, alpha, s, work, held, base + s) {
+        let bound = one_less(p);
+        let current = descend(priorities, m, s, work, held, levels, k + 1, bound);
         return State {
             current,
-            unsolved: state.unsolved,
+            unsolved,
             rounds,
         };
     }
+    let entries = n + 1 + m + n + n;
     assign_missing_strategies(owners, offsets, targets, alpha, s, work, held, entries);
-    let q = best_escape(owners, offsets, targets, alpha, p, s, work, held, regions);
-    if q < 256 {
-        apply_priority_promotion(priorities, q, s, work, unsolved, held, regions, entries);
+    let j = best_escape(owners, offsets, targets, alpha, s, work, held, levels, k);
+    if 0 < j {
+        let q = work[depth + j] as usize;
+        promote(s, work, held, depth, levels + (j - 1) * s, j - 1);
+        let current = Priority(q);
         return State {
-            current: Priority(q),
-            unsolved: state.unsolved,
+            current,
+            unsolved,
             rounds,
         };
     }
-    solve_dominion(owners, priorities, offsets, targets, p, s, work);
-    let left = sets::size(&work[unsolved..unsolved + s]);
-    let current = next_priority(n, work, regions, 256);
+    solve_dominion(owners, offsets, targets, p, s, work, held, levels);
+    let current = descend(priorities, m, s, work, held, levels, 0, 255);
+    let left = sets::size(&work[levels..levels + s]);
     State {
         current,
         unsolved: left,

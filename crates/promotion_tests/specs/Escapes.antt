@@ -1,21 +1,21 @@
--- Looking at R without changing anything: what such a walk asks for, and the lowest region above p that the opponent can go to.
-use mathlib.Core.Bool.{true}
-use mathlib.Core.List.{List, List·Memᴰ}
-use mathlib.Core.Logic.{_⊎_, inl, inr, ⊎-elim}
-use mathlib.Core.Path.{_≡_, refl, sym, subst}
-use Prim.Native.Nat.{ℕ, _+_, _-_, _≤_, _<_}
-use native.Mathlib.Decide.{ℕ-discrete}
-use native.Mathlib.Nat.{le-refl}
+-- Looking at R without changing anything: what such a walk asks for, and the sets and levels that it looks into.
+use mathlib.Core.Bool.{Bool, true, _&&_, not}
+use mathlib.Core.List.{List}
+use mathlib.Core.Path.{_≡_, sym, ap, ap₂, subst}
+use Prim.Native.Nat.{ℕ, _+_, _-_, _*_, _≤_, _<_}
+use native.Mathlib.Nat.{le-refl, mul-le-mul-right}
 use native.Mathlib.Omega.{arith}
-use lib.ListN.{length, getD}
-use Rattle.rules.specs.Tables.{words, targetsOf}
+use lib.ListN.{length, getD, take, drop}
+use Rattle.rules.specs.Counting.{Set}
+use Rattle.rules.specs.Tables.{words}
+use Rattle.rules.specs.Words.{setOf}
 use Rattle.theory.specs.Tables.{never-falls}
 use Rattle.predecessors.specs.Table.{SoundEdges}
 use Rattle.walk.specs.declared.members.Members.{Members}
 use Rattle.area.specs.Area.{setAt}
+use Rattle.area.specs.Lent.{part-is, part-length, part-set, words-enough}
 use Rattle.area.specs.Walked.{Walkable, Always, Turn, same-turn, WalkedTo}
-use Rattle.promotion_tables.specs.Regions.{regionAt}
-use Rattle.successors.specs.Edges.{target-place, place-target}
+use Rattle.promotion_tests.specs.Highest.{Nested}
 
 -- ---- a walk that changes nothing
 
@@ -41,36 +41,73 @@ pub passed-weaker :
 passed-weaker h c =
     record { walking = c .walking; keeps = c .keeps; seen = λ u m gone. h u (c .seen u m gone); unseen = c .unseen }
 
+-- ---- sets in parts of the work area
+
+-- level j of those that stand from `levels` on, s words each
+abbrev pub levelFrom : ℕ → ℕ → ℕ → List ℕ → ℕ → Set
+levelFrom n s levels work j = setAt n (levels + j * s) work
+
+-- the same by the number of words
+abbrev pub setsFrom : ℕ → ℕ → ℕ → List ℕ → ℕ → Set
+setsFrom k s levels work j = setOf (take k (drop (levels + j * s) work))
+
+pub levels-same :
+    (n s levels : ℕ) (work : List ℕ) → s ≡ words n → setsFrom s s levels work ≡ levelFrom n s levels work
+levels-same n s levels work size = ap (λ (k : ℕ). setsFrom k s levels work) size
+
+-- each has its room where the last has
+pub level-room : (s levels j k : ℕ) → j ≤ k → levels + j * s + s ≤ levels + k * s + s
+level-room s levels j k l = let most = mul-le-mul-right s l in omega arith
+
+-- a part has a bit for each number below 64 times its words
+pub part-bit :
+    (s a v : ℕ) (xs : List ℕ) → a + s ≤ length xs → v < 64 * s → v < 64 * length (take ((a + s) - a) (drop a xs))
+part-bit s a v xs high l = rw (part-is a s xs, part-length a s xs high) l
+
+-- a bit of a part, as the code lends it
+pub part-asked : (s a v : ℕ) (xs : List ℕ) → setOf (take ((a + s) - a) (drop a xs)) v ≡ setOf (take s (drop a xs)) v
+part-asked s a v xs = ap (λ (ys : List ℕ). setOf ys v) (part-is a s xs)
+
+pub set-asked :
+    (n s a v : ℕ) (xs : List ℕ) → s ≡ words n → setOf (take ((a + s) - a) (drop a xs)) v ≡ setAt n a xs v
+set-asked n s a v xs size = ap (λ (S : Set). S v) (part-set n s a xs size)
+
+-- in one part and not in the other, as the code asks
+pub parts-asked :
+    (s a b v : ℕ) (xs : List ℕ) →
+    (setOf (take ((a + s) - a) (drop a xs)) v && not (setOf (take ((b + s) - b) (drop b xs)) v)) ≡
+    (setOf (take s (drop a xs)) v && not (setOf (take s (drop b xs)) v))
+parts-asked s a b v xs = ap₂ (λ (x y : Bool). x && not y) (part-asked s a v xs) (part-asked s b v xs)
+
 -- ---- R and its edges
 
-pub record Escapes (owners offsets targets : List ℕ) (s held regions : ℕ) (work : List ℕ) : Type 0 where
+pub record Escapes (owners offsets targets : List ℕ) (s held : ℕ) (work : List ℕ) : Type 0 where
   pub size : s ≡ words (length owners)
   pub edges : SoundEdges (length owners) offsets targets
   pub high : held + words (length owners) ≤ length work
   pub below : (v : ℕ) → setAt (length owners) held work v ≡ true → v < length owners
-  pub room : regions + length owners ≤ length work
 
 pub escape-walkable :
-    {owners offsets targets : List ℕ} {s held regions : ℕ} {work : List ℕ} →
-    Escapes owners offsets targets s held regions work →
+    {owners offsets targets : List ℕ} {s held : ℕ} {work : List ℕ} →
+    Escapes owners offsets targets s held work →
     Walkable (length owners) s held anything work
 escape-walkable e =
     record { size = e .size; few = e .edges .few-vertices; high = e .high; below = e .below; out = λ i low high. tt }
 
--- the edges of one vertex
-pub record Looks (offsets targets : List ℕ) (regions v : ℕ) (work : List ℕ) : Type 0 where
+-- the edges of one vertex, each with a bit in s words
+pub record EdgesIn (offsets targets : List ℕ) (s v : ℕ) : Type 0 where
   pub each : v + 1 < length offsets
   pub rising : getD offsets v 0 ≤ getD offsets (v + 1) 0
   pub top : getD offsets (v + 1) 0 ≤ length targets
-  pub inside : (e : ℕ) → e < length targets → regions + getD targets e 0 < length work
+  pub bits : (e : ℕ) → e < length targets → getD targets e 0 < 64 * s
 
-pub looks-ready :
-    {owners offsets targets : List ℕ} {s held regions : ℕ} {work : List ℕ} →
-    Escapes owners offsets targets s held regions work →
+pub edges-ready :
+    {owners offsets targets : List ℕ} {s held : ℕ} {work : List ℕ} →
+    Escapes owners offsets targets s held work →
     (v : ℕ) →
     v < length owners →
-    Looks offsets targets regions v work
-looks-ready {owners} {offsets} {targets} e v small =
+    EdgesIn offsets targets s v
+edges-ready {owners} {offsets} {targets} e v small =
     record {
       each = omega (arith, e .edges .offset-each);
       rising = e .edges .offset-next v small;
@@ -79,172 +116,46 @@ looks-ready {owners} {offsets} {targets} e v small =
           never-falls (λ i. getD offsets i 0) (length owners) (e .edges .offset-next) (v + 1) (length owners) (omega arith)
           (le-refl (length owners)) in
           omega (arith, e .edges .offset-last);
-      inside = λ k l. omega (arith, e .edges .target-below k l, e .room);
+      bits = λ k l. rw (e .size) (words-enough (length owners) (getD targets k 0) (e .edges .target-below k l));
     }
 
--- ---- the lowest region above p along the edges of v, or `best`
+-- ---- what the two tests ask for
 
-pub record LowestOf (offsets targets : List ℕ) (regions p v : ℕ) (work : List ℕ) (best r : ℕ) : Type 0 where
-  pub most : r ≤ best
-  pub reached :
-      (r ≡ best) ⊎
-      ((w : ℕ) × List·Memᴰ w (targetsOf offsets targets v) × (p < regionAt regions work w) × (regionAt regions work w ≡ r))
-  pub lowest :
-      (w : ℕ) → List·Memᴰ w (targetsOf offsets targets v) → p < regionAt regions work w → r ≤ regionAt regions work w
+-- the last level stands at `below`
+pub record Openable (owners offsets targets : List ℕ) (s held below : ℕ) (work : List ℕ) : Type 0 where
+  pub escapes : Escapes owners offsets targets s held work
+  pub room : below + words (length owners) ≤ length work
 
--- of the edges before place e
-pub record LowestTo (offsets targets : List ℕ) (regions p v : ℕ) (work : List ℕ) (best e r : ℕ) : Type 0 where
-  pub from : getD offsets v 0 ≤ e
-  pub upto : e ≤ getD offsets (v + 1) 0
-  pub most : r ≤ best
-  pub reached :
-      (r ≡ best) ⊎
-      ((w : ℕ) × List·Memᴰ w (targetsOf offsets targets v) × (p < regionAt regions work w) × (regionAt regions work w ≡ r))
-  pub lowest :
-      (k : ℕ) →
-      getD offsets v 0 ≤ k →
-      k < e →
-      p < regionAt regions work (getD targets k 0) →
-      r ≤ regionAt regions work (getD targets k 0)
+-- levels 0 to k stand from `levels` on
+pub record Escapable (owners offsets targets : List ℕ) (s held levels k : ℕ) (work : List ℕ) : Type 0 where
+  pub escapes : Escapes owners offsets targets s held work
+  pub room : levels + k * s + s ≤ length work
+  pub nested : Nested (levelFrom (length owners) s levels work) k
 
-module _ {offsets targets : List ℕ} {regions p v : ℕ} {work : List ℕ} {best : ℕ}
-    (given : Looks offsets targets regions v work)
-  where
-    pub lowest-none : LowestTo offsets targets regions p v work best (getD offsets v 0) best
-    lowest-none =
-        record {
-          from = le-refl (getD offsets v 0);
-          upto = given .rising;
-          most = le-refl best;
-          reached = inl refl;
-          lowest = λ k low high. absurd (omega arith);
-        }
+pub record Climbable (s levels k w best : ℕ) (work : List ℕ) : Type 0 where
+  pub bit : w < 64 * s
+  pub low : best ≤ k
+  pub room : levels + k * s + s ≤ length work
 
-    module _ {e r : ℕ} (c : LowestTo offsets targets regions p v work best e r) where
-      pub lowest-all : getD offsets (v + 1) 0 ≤ e → LowestOf offsets targets regions p v work best r
-      lowest-all end =
-          record {
-            most = c .most;
-            reached = c .reached;
-            lowest =
-                λ w m above.
-                let (k, low, high, top, is) = target-place offsets targets v w m in
-                subst (λ (x : ℕ). p < regionAt regions work x → r ≤ regionAt regions work x) is (c .lowest k low (omega arith))
-                above;
-          }
+pub record Looks (offsets targets : List ℕ) (s levels k v best : ℕ) (work : List ℕ) : Type 0 where
+  pub edges : EdgesIn offsets targets s v
+  pub low : best ≤ k
+  pub room : levels + k * s + s ≤ length work
+  pub nested : Nested (setsFrom s s levels work) k
 
-      module _ (more : e < getD offsets (v + 1) 0) where
-        -- the edge does not lead lower
-        pub lowest-same :
-            (p < regionAt regions work (getD targets e 0) → r ≤ regionAt regions work (getD targets e 0)) →
-            LowestTo offsets targets regions p v work best (e + 1) r
-        lowest-same here =
-            record {
-              from = omega (arith, c .from);
-              upto = omega arith;
-              most = c .most;
-              reached = c .reached;
-              lowest = λ k low high. go k low high (ℕ-discrete k e);
-            }
-          where
-            go :
-                (k : ℕ) →
-                getD offsets v 0 ≤ k →
-                k < e + 1 →
-                Dec (k ≡ e) →
-                p < regionAt regions work (getD targets k 0) →
-                r ≤ regionAt regions work (getD targets k 0)
-            go k low high (yes q) =
-                subst
-                (λ (x : ℕ). p < regionAt regions work (getD targets x 0) → r ≤ regionAt regions work (getD targets x 0))
-                (sym q)
-                here
-            go k low high (no d) = c .lowest k low (omega (arith, d))
-
-        -- it does
-        pub lowest-new :
-            p < regionAt regions work (getD targets e 0) →
-            regionAt regions work (getD targets e 0) < r →
-            LowestTo offsets targets regions p v work best (e + 1) (regionAt regions work (getD targets e 0))
-        lowest-new above less =
-            record {
-              from = omega (arith, c .from);
-              upto = omega arith;
-              most = omega (arith, c .most);
-              reached =
-                  inr
-                  (getD targets e 0, place-target offsets targets v e (c .from) more (omega (arith, given .top)), above, refl);
-              lowest = λ k low high. go k low high (ℕ-discrete k e);
-            }
-          where
-            go :
-                (k : ℕ) →
-                getD offsets v 0 ≤ k →
-                k < e + 1 →
-                Dec (k ≡ e) →
-                p < regionAt regions work (getD targets k 0) →
-                regionAt regions work (getD targets e 0) ≤ regionAt regions work (getD targets k 0)
-            go k low high (yes q) up = rw q (le-refl (regionAt regions work (getD targets e 0)))
-            go k low high (no d) up = let old = c .lowest k low (omega (arith, d)) up in omega arith
-
--- ---- over all of R
-
--- r is at most every region above p that the opponent's vertex u leads to
-abbrev pub NotAbove : List ℕ → List ℕ → List ℕ → ℕ → ℕ → ℕ → List ℕ → ℕ → ℕ → Type 0
-NotAbove owners offsets targets alpha p regions work r u =
-    (getD owners u 0 ≡ alpha → ⊥) →
-    (w : ℕ) →
-    List·Memᴰ w (targetsOf offsets targets u) →
-    p < regionAt regions work w →
-    r ≤ regionAt regions work w
-
--- some opponent's vertex of R leads to region r above p
-pub record Reaches (owners offsets targets : List ℕ) (alpha p held regions : ℕ) (work : List ℕ) (r : ℕ) : Type 0 where
-  pub from : ℕ
-  pub to : ℕ
-  pub member : setAt (length owners) held work from ≡ true
-  pub others : getD owners from 0 ≡ alpha → ⊥
-  pub edge : List·Memᴰ to (targetsOf offsets targets from)
-  pub above : p < regionAt regions work to
-  pub is : regionAt regions work to ≡ r
-
-pub record LowestAbove (owners offsets targets : List ℕ) (alpha p held regions : ℕ) (work : List ℕ) (r : ℕ) : Type 0 where
-  pub most : r ≤ 256
-  pub reached : (r ≡ 256) ⊎ Reaches owners offsets targets alpha p held regions work r
-  pub lowest : (u : ℕ) → setAt (length owners) held work u ≡ true → NotAbove owners offsets targets alpha p regions work r u
-
--- the walk has come to `walk`
-pub record LowestSoFar (owners offsets targets : List ℕ) (alpha p held regions : ℕ) (work : List ℕ) (walk : Members)
-    (r : ℕ) : Type 0 where
-  pub most : r ≤ 256
-  pub reached : (r ≡ 256) ⊎ Reaches owners offsets targets alpha p held regions work r
-  pub passed : Passed (length owners) held (NotAbove owners offsets targets alpha p regions work r) work walk
-
-module _ {owners offsets targets : List ℕ} {alpha p held regions : ℕ} {work : List ℕ} where
-  -- one vertex of the opponent's more
-  pub lowest-further :
-      {walk : Members} {v best r : ℕ} →
-      LowestSoFar owners offsets targets alpha p held regions work walk best →
-      setAt (length owners) held work v ≡ true →
-      (getD owners v 0 ≡ alpha → ⊥) →
-      LowestOf offsets targets regions p v work best r →
-      (r ≤ 256) × ((r ≡ 256) ⊎ Reaches owners offsets targets alpha p held regions work r) ×
-      Passed (length owners) held (NotAbove owners offsets targets alpha p regions work r) work walk ×
-      NotAbove owners offsets targets alpha p regions work r v
-  lowest-further {walk} {v} {best} {r} c member other l = (
-    omega (arith, l .most, c .most),
-    ⊎-elim
-        (λ same.
-        subst (λ (x : ℕ). (x ≡ 256) ⊎ Reaches owners offsets targets alpha p held regions work x) (sym same) (c .reached))
-        (λ found.
-        let (w, m, up, is) = found in
-        inr (record { from = v; to = w; member = member; others = other; edge = m; above = up; is = is }))
-        (l .reached),
-    passed-weaker
-        (λ u h o w m up.
-        let low = l .most in
-        let old = h o w m up in
-        omega arith)
-        (c .passed),
-    λ o w m up. l .lowest w m up,
-  )
+pub looks-ready :
+    {owners offsets targets : List ℕ} {s held levels k : ℕ} {work : List ℕ} →
+    Escapable owners offsets targets s held levels k work →
+    {v best : ℕ} →
+    v < length owners →
+    best ≤ k →
+    Looks offsets targets s levels k v best work
+looks-ready {owners} {offsets} {targets} {s} {held} {levels} {k} {work} given {v} small low =
+    record {
+      edges = edges-ready (given .escapes) v small;
+      low = low;
+      room = given .room;
+      nested =
+          subst (λ (L : ℕ → Set). Nested L k) (sym (levels-same (length owners) s levels work (given .escapes .size)))
+          (given .nested);
+    }

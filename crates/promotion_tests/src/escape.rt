@@ -1,61 +1,83 @@
-// The lowest region above p that the opponent can go to from R.
+// The highest level below k that the opponent can go to from R, as one more than its number, 0 if there is none.
 use walk::Members;
 use walk::Next;
-ghost use Rattle.promotion_tests.specs.Escapes.{Looks, LowestOf, Escapes, LowestAbove};
+ghost use lib.ListN.{length};
+ghost use Rattle.area.specs.Area.{setAt};
+ghost use Rattle.promotion_tests.specs.Escapes.{setsFrom, levelFrom, Climbable, Looks, Escapable};
+ghost use Rattle.promotion_tests.specs.Highest.{Climbed, HighestOf, HighestLevel};
 
-// The lowest of `best` and the regions above p that the edges of v lead to.
+// From level `best` up to the first that does not hold w, or to level k.
+fn climb(s: usize, work: &[u64], levels: usize, k: usize, w: usize, best: usize) -> usize
+    requires { ⌜ Climbable s levels k w best (now work) ⌝ }
+    ensures { λ r. ⌜ Climbed (setsFrom s s levels (now (work .entry))) k w best r ⌝ }
+{
+    let mut level = best;
+    while level < k {
+        let at = levels + level * s;
+        if !sets::contains(&work[at..at + s], w) {
+            return level;
+        }
+        level += 1;
+    }
+    level
+}
+
+// Up from `best` along the edges of v that leave level k. One test of both levels: most edges do not lead higher.
 fn best_of(
     offsets: &[u16],
     targets: &[u16],
+    s: usize,
     work: &[u64],
-    regions: usize,
-    p: usize,
+    levels: usize,
+    k: usize,
     v: usize,
     best: usize,
 ) -> usize
-    requires { ⌜ Looks (now offsets) (now targets) regions v (now work) ⌝ }
-    ensures { λ r. ⌜ LowestOf (now (offsets .entry)) (now (targets .entry)) regions p v (now (work .entry)) best r ⌝ }
+    requires { ⌜ Looks (now offsets) (now targets) s levels k v best (now work) ⌝ }
+    ensures { λ r.
+        ⌜ HighestOf (now (offsets .entry)) (now (targets .entry)) (setsFrom s s levels (now (work .entry))) k v best r ⌝ }
 {
-    let mut lowest = best;
+    let base = levels + k * s;
+    let mut highest = best;
     for e in offsets[v] as usize..offsets[v + 1] as usize {
         let w = targets[e] as usize;
-        let region = work[regions + w] as usize;
-        if p < region {
-            if region < lowest {
-                lowest = region;
-            }
+        let at = levels + highest * s;
+        if sets::in_difference(&work[at..at + s], &work[base..base + s], w) {
+            highest = climb(s, work, levels, k, w, highest);
         }
     }
-    lowest
+    highest
 }
 
-// The lowest region above p among those that the opponent's vertices of R lead to, 256 if there is none.
+// One more than the highest level below k that a target, outside level k, of an opponent's vertex of R lies in; 0 if
+// there is none.
 pub fn best_escape(
     owners: &[u8],
     offsets: &[u16],
     targets: &[u16],
     alpha: u8,
-    p: usize,
     s: usize,
     work: &[u64],
     held: usize,
-    regions: usize,
+    levels: usize,
+    k: usize,
 ) -> usize
-    requires { ⌜ Escapes (now owners) (now offsets) (now targets) s held regions (now work) ⌝ }
+    requires { ⌜ Escapable (now owners) (now offsets) (now targets) s held levels k (now work) ⌝ }
     ensures { λ r.
-        ⌜ LowestAbove (now (owners .entry)) (now (offsets .entry)) (now (targets .entry)) alpha p held regions
-        (now (work .entry)) r ⌝ }
+        ⌜ HighestLevel (now (owners .entry)) (now (offsets .entry)) (now (targets .entry)) alpha
+        (setAt (length (now (owners .entry))) held (now (work .entry)))
+        (levelFrom (length (now (owners .entry))) s levels (now (work .entry))) k r ⌝ }
 {
-    let mut lowest = 256;
+    let mut highest = 0;
     let mut walk = Members::new(&work[held..held + s]);
     loop {
         let next = walk.next(&work[held..held + s]);
         let Next::Member(index, rest) = next else {
-            return lowest;
+            return highest;
         };
         let v = index.0;
         if owners[v] != alpha {
-            lowest = best_of(offsets, targets, work, regions, p, v, lowest);
+            highest = best_of(offsets, targets, s, work, levels, k, v, highest);
         }
         walk = rest;
     }

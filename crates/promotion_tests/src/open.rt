@@ -2,24 +2,23 @@
 use walk::Members;
 use walk::Next;
 ghost use mathlib.Core.Path.{_≡_};
-ghost use Rattle.promotion_tests.specs.Opening.{isOpenAt};
-ghost use Rattle.promotion_tests.specs.Escapes.{Escapes};
+ghost use Rattle.promotion_tests.specs.Opening.{isOpenIn};
+ghost use Rattle.promotion_tests.specs.Escapes.{Openable};
 
-// An opponent's vertex of R has an edge to a region below p, or an own one has none to region p.
+// An opponent's vertex of R has an edge into the last level, which stands at `below`, or an own one has none into R.
 pub fn is_open(
     owners: &[u8],
     offsets: &[u16],
     targets: &[u16],
     alpha: u8,
-    p: usize,
     s: usize,
     work: &[u64],
     held: usize,
-    regions: usize,
+    below: usize,
 ) -> bool
-    requires { ⌜ Escapes (now owners) (now offsets) (now targets) s held regions (now work) ⌝ }
+    requires { ⌜ Openable (now owners) (now offsets) (now targets) s held below (now work) ⌝ }
     ensures { λ r.
-        ⌜ r ≡ isOpenAt (now (owners .entry)) (now (offsets .entry)) (now (targets .entry)) alpha p held regions
+        ⌜ r ≡ isOpenIn (now (owners .entry)) (now (offsets .entry)) (now (targets .entry)) alpha held below
         (now (work .entry)) ⌝ }
 {
     let mut walk = Members::new(&work[held..held + s]);
@@ -31,14 +30,13 @@ pub fn is_open(
         walk = rest;
         let v = index.0;
         let own = owners[v] == alpha;
+        let place = if own { held } else { below };
         for e in offsets[v] as usize..offsets[v + 1] as usize {
             let w = targets[e] as usize;
-            let region = work[regions + w] as usize;
-            if own {
-                if region == p {
+            if sets::contains(&work[place..place + s], w) {
+                if own {
                     continue 'vertices;
                 }
-            } else if region < p {
                 return true;
             }
         }

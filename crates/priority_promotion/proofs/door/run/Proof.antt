@@ -1,7 +1,7 @@
 -- `run` meets its contract: the rounds from the first state are those of the rules, and what they found is written out.
 use mathlib.Core.List.{List}
-use mathlib.Core.Path.{_≡_, refl, _∙_}
-use Prim.Native.Nat.{ℕ, _≤_}
+use mathlib.Core.Path.{_≡_, refl, sym, subst, _∙_}
+use Prim.Native.Nat.{ℕ, _+_, _*_, _≤_}
 use native.Mathlib.Omega.{arith}
 use lib.ListN.{length}
 use Rattle.rules.specs.Tables.{Tables, words, tablesOf}
@@ -9,8 +9,12 @@ use Rattle.theory.specs.Tables.{accepted-sound}
 use Rattle.area.specs.Lent.{words-few}
 use Rattle.sets.specs.Laws.{cleared-all}
 use Rattle.solver.specs.Outputs.{Found, found-writable, found-finished}
-use Rattle.promotion_tables.specs.Layout.{evenAt}
-use Rattle.priority_promotion.specs.Running.{wonIn, entriesIn, run-preparable, run-beginnable, run-reached, run-over, run-rounds, run-found}
+use Rattle.area.specs.Area.{entries}
+use Rattle.kept_numbers.specs.Reading.{kept-long}
+use Rattle.promotion_levels.specs.Layout.{heldAt}
+use Rattle.promotion_begin.specs.Beginning.{Begun}
+use Rattle.priority_promotion.specs.Running.{wonIn, entriesIn, run-preparable, run-beginnable, run-begun, run-reached}
+use Rattle.priority_promotion.specs.Running.{run-over, run-rounds, run-found}
 use borrow.Author.Needs.{needs}
 use Rattle.priority_promotion.proofs.door.run.Statement.{statement}
 use Rattle.priority_promotion.proofs.door.run.Tie as tie
@@ -28,7 +32,45 @@ few g =
     let f = accepted-sound (tables g) (g .pre .0 .accepted) in
     (f .few-vertices, f .few-edges, words-few (length (g .args .owners .now)) (f .few-vertices))
 
--- the rounds have ended: where each call stands
+-- where each call stands: first the size of a set, then R's place
+abbrev start-at : tie.After-set-words → tie.Start
+start-at c = c .before .before .before .before .before .before .before .before .before .before
+
+abbrev size-at : tie.After-set-words → ℕ
+size-at c = c .set-words .result
+
+abbrev held-in : tie.After-set-words → ℕ
+held-in c =
+    let n = length (start-at c .args .owners .now) in
+    entries n (length (start-at c .args .targets .now)) + n + 2 * (size-at c + 1) + size-at c + 256 * size-at c
+
+held-at :
+    (c : tie.After-set-words) →
+    held-in c ≡ heldAt (length (start-at c .args .owners .now)) (length (start-at c .args .targets .now)) (size-at c)
+held-at c = omega (arith, c .set-words .ensures)
+
+-- the first level has begun
+abbrev prepared-at : tie.After-begin → tie.After-prepare
+prepared-at b = b .before .before .before .before .before
+
+first-begun :
+    (b : tie.After-begin) →
+    let d = prepared-at b in
+    let c = d .before .before .before in
+    let a = start-at c .args in
+    Begun (a .priorities .now) (a .offsets .now) (a .targets .now) (size-at c) (b .begin .result .0)
+    (d .prepare .last .1 .1 .1 .1 .0) (b .begin .last .1 .1 .1 .0)
+first-begun b =
+    let d = prepared-at b in
+    let l = d .before .before in
+    let c = l .before in
+    let g = start-at c in
+    let a = g .args in
+    run-begun (a .owners .now) (a .priorities .now) (a .offsets .now) (a .targets .now) (g .pre .0 .accepted)
+    (c .set-words .ensures) (a .work .now) (g .pre .0 .room) (held-at c) (l .levels-at .ensures) (d .prepare .ensures)
+    (b .begin .ensures)
+
+-- the rounds have ended
 abbrev ended : tie.After-struct-known → tie.After-solve
 ended d = d .before .before .before
 
@@ -36,13 +78,10 @@ abbrev begun : tie.After-struct-known → tie.After-begin
 begun d = ended d .before .before .before .before
 
 abbrev prepared : tie.After-struct-known → tie.After-prepare
-prepared d = begun d .before .before .before .before
+prepared d = prepared-at (begun d)
 
 abbrev sized : tie.After-struct-known → tie.After-set-words
-sized d = prepared d .before .before
-
-abbrev start-at : tie.After-set-words → tie.Start
-start-at c = c .before .before .before .before .before .before .before .before .before .before
+sized d = prepared d .before .before .before
 
 abbrev start : tie.After-struct-known → tie.Start
 start d = start-at (sized d)
@@ -58,18 +97,23 @@ solved w = w .before .before .before .before .before .before
 abbrev left : tie.After-struct-known → List ℕ
 left d = ended d .solve .last .1 .1 .1 .1 .1 .1 .0
 
-kept-long : (d : tie.After-struct-known) → length (left d) ≡ length (start d .args .work .now)
-kept-long d = ended d .solve .ensures .long ∙ begun d .begin .ensures .0 .long ∙ prepared d .prepare .ensures .long
+same-long : (d : tie.After-struct-known) → length (left d) ≡ length (start d .args .work .now)
+same-long d = ended d .solve .ensures .long ∙ first-begun (begun d) .long ∙ prepared d .prepare .ensures .long
 
 -- where all are solved, the rounds have found what is to be written
 found :
     (d : tie.After-struct-known) →
     ended d .solve .result .unsolved ≡ 0 →
     let g = start d in
-    let s = sized d .set-words .result in
-    Found (tables g) (wonIn (tables g)) (entriesIn (tables g)) s
-    (evenAt (length (g .args .owners .now)) (length (g .args .targets .now)) s) (left d)
-found d z = run-found (ended d .solve .ensures) z
+    Found (tables g) (wonIn (tables g)) (entriesIn (tables g)) (size-at (sized d)) (held-in (sized d) + size-at (sized d))
+    (left d)
+found d z =
+    let g = start d in
+    subst
+    (λ (h : ℕ).
+    Found (tables g) (wonIn (tables g)) (entriesIn (tables g)) (size-at (sized d)) (h + size-at (sized d)) (left d))
+    (sym (held-at (sized d)))
+    (run-found (ended d .solve .ensures) z)
 
 set-words-requires : tie.Need-set-words-requires
 set-words-requires c κs = search needs
@@ -86,49 +130,74 @@ add-entries-3 c = search needs
 add-entries-4 : tie.Need-add-entries-4
 add-entries-4 c = search needs
 
-add-unsolved : tie.Need-add-unsolved
-add-unsolved c = omega (arith, few (start-at c))
+add-held : tie.Need-add-held
+add-held c = omega (arith, few (start-at c), c .set-words .ensures)
 
-add-unsolved-2 : tie.Need-add-unsolved-2
-add-unsolved-2 c = omega (arith, few (start-at c), c .set-words .ensures)
+add-held-2 : tie.Need-add-held-2
+add-held-2 c = omega (arith, few (start-at c), c .set-words .ensures)
 
-mul-unsolved : tie.Need-mul-unsolved
-mul-unsolved c = omega (arith, few (start-at c), c .set-words .ensures)
+mul-held : tie.Need-mul-held
+mul-held c = omega (arith, few (start-at c), c .set-words .ensures)
 
-add-unsolved-3 : tie.Need-add-unsolved-3
-add-unsolved-3 c = omega (arith, few (start-at c), c .set-words .ensures)
+add-held-3 : tie.Need-add-held-3
+add-held-3 c = omega (arith, few (start-at c), c .set-words .ensures)
 
-add-unsolved-4 : tie.Need-add-unsolved-4
-add-unsolved-4 c = omega (arith, few (start-at c), c .set-words .ensures)
+add-held-4 : tie.Need-add-held-4
+add-held-4 c = omega (arith, few (start-at c), c .set-words .ensures)
+
+mul-held-2 : tie.Need-mul-held-2
+mul-held-2 c = omega (arith, few (start-at c), c .set-words .ensures)
+
+add-held-5 : tie.Need-add-held-5
+add-held-5 c = omega (arith, few (start-at c), c .set-words .ensures)
+
+mul-levels-at : tie.Need-mul-levels-at
+mul-levels-at c = omega (arith, few (start-at c), c .set-words .ensures)
+
+add-levels-at : tie.Need-add-levels-at
+add-levels-at c = omega (arith, few (start-at c), c .set-words .ensures)
+
+levels-at-requires : tie.Need-levels-at-requires
+levels-at-requires c κs = omega (arith, few (start-at c), c .set-words .ensures)
 
 prepare-requires : tie.Need-prepare-requires
-prepare-requires c κs =
-    let g = c .before .before .before .before .before .before .before .before .before .before .before in
-    let s = c .before .set-words in
+prepare-requires p κs =
+    let l = p .before in
+    let c = l .before in
+    let g = start-at c in
     let a = g .args in
-    run-preparable (a .owners .now) (a .priorities .now) (a .offsets .now) (a .targets .now) (g .pre .0 .accepted) (s .ensures)
-    (a .work .now) (g .pre .0 .room)
+    run-preparable (a .owners .now) (a .priorities .now) (a .offsets .now) (a .targets .now) (g .pre .0 .accepted)
+    (c .set-words .ensures) (a .work .now) (g .pre .0 .room) (held-at c) (l .levels-at .ensures)
+
+shared-slice-read-top : tie.Need-shared-slice-read-top
+shared-slice-read-top k =
+    let d = k .before .before .before in
+    let g = start-at (d .before .before .before) in
+    omega (arith, kept-long (g .pre .1))
 
 begin-requires : tie.Need-begin-requires
-begin-requires c κs =
-    let d = c .before .before .before in
-    let g = d .before .before .before .before .before .before .before .before .before .before .before .before in
-    let s = d .before .before .set-words in
+begin-requires k κs =
+    let d = k .before .before .before .before in
+    let l = d .before .before in
+    let c = l .before in
+    let g = start-at c in
     let a = g .args in
-    run-beginnable (a .owners .now) (a .priorities .now) (a .offsets .now) (a .targets .now) (g .pre .0 .accepted) (s .ensures)
-    (a .work .now) (g .pre .0 .room) (d .prepare .ensures) (g .pre .1)
+    run-beginnable (a .owners .now) (a .priorities .now) (a .offsets .now) (a .targets .now) (g .pre .0 .accepted)
+    (c .set-words .ensures) (a .work .now) (g .pre .0 .room) (held-at c) (l .levels-at .ensures) (d .prepare .ensures)
+    (g .pre .1)
 
 solve-requires : tie.Need-solve-requires
-solve-requires c κs =
-    let b = c .before .before .before in
-    let d = b .before .before .before .before in
-    let g = d .before .before .before .before .before .before .before .before .before .before .before .before in
-    let s = d .before .before .set-words in
-    let a = g .args in
-    let (first, all, none) = b .begin .ensures in (
-      run-reached (a .owners .now) (a .priorities .now) (a .offsets .now) (a .targets .now) (g .pre .0 .accepted) (s .ensures)
-          (a .work .now) (g .pre .0 .room) (d .prepare .ensures) first all none,
-      omega (arith, none),
+solve-requires k κs =
+    let b = k .before .before .before in
+    let d = prepared-at b in
+    let l = d .before .before in
+    let c = l .before in
+    let g = start-at c in
+    let a = g .args in (
+      run-reached (a .owners .now) (a .priorities .now) (a .offsets .now) (a .targets .now) (g .pre .0 .accepted)
+          (c .set-words .ensures) (a .work .now) (g .pre .0 .room) (held-at c) (l .levels-at .ensures) (d .prepare .ensures)
+          (first-begun b),
+      omega arith,
     )
 
 clear-requires : tie.Need-clear-requires
@@ -142,18 +211,12 @@ returns c =
     let d = c .before .before .before .before .before in
     let g = start d in
     let a = g .args in (
-      cleared-all (a .work .now) (left d) (kept-long d) (c .before .before .clear .ensures),
+      cleared-all (a .work .now) (left d) (same-long d) (c .before .before .clear .ensures),
       record {
         over = run-over (ended d .solve .ensures) (c .before .before .before .before .if1 .taken);
         same = refl;
       },
     )
-
-add-held : tie.Need-add-held
-add-held c = let d = c .before in omega (arith, few (start d), sized d .set-words .ensures)
-
-add-held-2 : tie.Need-add-held-2
-add-held-2 c = let d = c .before in omega (arith, few (start d), sized d .set-words .ensures)
 
 add-write-out : tie.Need-add-write-out
 add-write-out c = let d = c .before in omega (arith, few (start d), sized d .set-words .ensures)
@@ -178,7 +241,7 @@ same-length-4 : tie.Need-same-length-4
 same-length-4 c = search needs
 
 same-length-5 : tie.Need-same-length-5
-same-length-5 c = c .before .before .clear2 .ensures .long ∙ kept-long (solved (written c))
+same-length-5 c = c .before .before .clear2 .ensures .long ∙ same-long (solved (written c))
 
 returns-2 : tie.Need-returns-2
 returns-2 c =
@@ -187,7 +250,7 @@ returns-2 c =
     let g = start d in
     let a = g .args in
     let none : ended d .solve .result .unsolved ≡ 0 = omega (arith, w .before .before .before .before .before .if1 .left) in (
-      cleared-all (a .work .now) (left d) (kept-long d) (c .before .before .clear2 .ensures),
+      cleared-all (a .work .now) (left d) (same-long d) (c .before .before .clear2 .ensures),
       found-finished (found d none) (g .pre .0 .strategy-size) (w .write-out .ensures)
           (run-rounds (ended d .solve .ensures) none)
           (ended d .solve .ensures .within),
@@ -202,19 +265,23 @@ run-spec =
     add-entries-2
     add-entries-3
     add-entries-4
-    add-unsolved
-    add-unsolved-2
-    mul-unsolved
-    add-unsolved-3
-    add-unsolved-4
+    add-held
+    add-held-2
+    mul-held
+    add-held-3
+    add-held-4
+    mul-held-2
+    add-held-5
+    mul-levels-at
+    add-levels-at
+    levels-at-requires
     prepare-requires
+    shared-slice-read-top
     begin-requires
     solve-requires
     clear-requires
     same-length
     returns
-    add-held
-    add-held-2
     add-write-out
     write-out-requires
     clear-requires-2

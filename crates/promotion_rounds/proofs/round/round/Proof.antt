@@ -1,41 +1,175 @@
 -- `round` meets its contract: each call finds what it asks for, and the three ways out are the three kinds of round.
-use mathlib.Core.Logic.{inr}
-use mathlib.Core.Path.{_≡_, refl, _∙_}
+use mathlib.Core.Path.{_≡_, refl}
+use Prim.Native.Nat.{ℕ, _+_, _-_, _*_, _≤_, _<_}
 use native.Mathlib.Omega.{arith}
-use lib.ListN.{length}
+use lib.ListN.{length, getD}
+use Rattle.promotion_levels.specs.Layout.{endAt, Ready}
 use Rattle.promotion_region.specs.Query.{Queried}
-use Rattle.promotion_rounds.specs.Shown.{current-small}
-use Rattle.promotion_rounds.specs.Filled.{fill-ready}
-use Rattle.promotion_rounds.specs.Round.{round-query, escapes, round-opens, filled-same, filled-escapes}
-use Rattle.promotion_rounds.specs.Round.{round-promote-ready}
-use Rattle.promotion_rounds.specs.Round.{promoted-same, round-promotes, round-dominion-ready, left-few, left-counted}
-use Rattle.promotion_rounds.specs.Round.{round-solves}
+use Rattle.promotion_moves.specs.Promotion.{Promotable}
+use Rattle.promotion_rounds.specs.Round.{Placed, placed-by, round-places, round-depth, base-room, round-query}
+use Rattle.promotion_rounds.specs.Round.{round-openable, round-descend, opened-same, round-opens, round-fill}
+use Rattle.promotion_rounds.specs.Round.{filled-long, round-escapable, top-fits, round-promotable, promoted-same}
+use Rattle.promotion_rounds.specs.Round.{round-promotes, round-dominion, round-first, solved-same, round-solves}
+use Rattle.promotion_rounds.specs.Round.{solved-ready, first-room, left-few, left-counted}
 use borrow.Author.Needs.{needs}
 use Rattle.promotion_rounds.proofs.round.round.Statement.{statement}
 use Rattle.promotion_rounds.proofs.round.round.Tie as tie
 
--- where the function begins
-abbrev first : tie.After-query → tie.Start
-first c = c .before .before .before .before .before .before .before .before
+-- where the function begins, and where the places are known
+abbrev first : tie.After-held-at → tie.Start
+first h = h .before .before .before .before .before .before
+
+abbrev placed : tie.After-query → tie.After-levels-at
+placed q = q .before .before .before .before
+
+-- R, the levels and the current level's number are where they should be
+at :
+    (l : tie.After-levels-at) →
+    let a = first (l .before) .args in
+    let h = l .before .held-at .result in
+    Placed (length (a .owners .now)) (length (a .targets .now)) (a .s) h (l .levels-at .result)
+    (getD (a .work .now) (h + 3 * a .s) 0) (a .work .now)
+at l =
+    let a = first (l .before) .args in
+    placed-by (length (a .owners .now)) (length (a .targets .now)) (a .s) (a .work .now) (l .before .held-at .ensures)
+    (l .levels-at .ensures)
+
+-- the level after the current one has room
+room :
+    (l : tie.After-levels-at) →
+    let a = first (l .before) .args in
+    let k = getD (a .work .now) (l .before .held-at .result + 3 * a .s) 0 in
+    l .levels-at .result + k * a .s + a .s + a .s ≤ length (a .work .now)
+room l = let g = first (l .before) in base-room (g .pre .accepted) (g .pre .made) (g .pre .shows) (at l)
 
 -- the query, where it is known whether R is open
 abbrev asked : tie.After-is-open → tie.After-query
-asked c = c .before .before .before .before
+asked o = o .before .before .before .before
 
--- the same where the entries are filled, and where the escape is known
+-- the same where the entries are filled, where the escape is known, and where the first level has begun again
 abbrev told : tie.After-assign-missing-strategies → tie.After-is-open
 told f = f .before .before .before
 
 abbrev filled : tie.After-best-escape → tie.After-assign-missing-strategies
 filled b = b .before .before .before .before
 
+abbrev solved : tie.After-descend2 → tie.After-solve-dominion
+solved t = t .before .before .before .before
+
 -- what the query did
 queried :
-    (c : tie.After-query) →
-    let a = first c .args in
+    (q : tie.After-query) →
+    let a = first (placed q .before) .args in
     Queried (a .owners .now) (a .priorities .now) (a .offsets .now) (a .targets .now) (a .s) (a .state .current .0) (a .work .now)
-    (c .query .last .1 .1 .1 .1 .1 .0)
-queried c = let g = first c in c .query .ensures (g .args .priorities .now) (g .pre .accepted)
+    (q .query .last .1 .1 .1 .1 .1 .0)
+queried q =
+    let g = first (placed q .before) in q .query .ensures (g .args .priorities .now) (g .pre .accepted) (g .pre .shows .ready)
+
+held-at-requires : tie.Need-held-at-requires
+held-at-requires c κs =
+    let g = c .before .before .before .before .before in round-places (g .pre .accepted) (g .pre .made) (g .pre .shows)
+
+mul-depth : tie.Need-mul-depth
+mul-depth c =
+    let g = first c in
+    let low = round-depth (g .pre .accepted) (g .pre .made) (g .pre .shows) (c .held-at .ensures) in omega (arith, low)
+
+add-depth : tie.Need-add-depth
+add-depth c =
+    let g = first c in
+    let low = round-depth (g .pre .accepted) (g .pre .made) (g .pre .shows) (c .held-at .ensures) in omega (arith, low)
+
+levels-at-requires : tie.Need-levels-at-requires
+levels-at-requires c κs =
+    let g = first c in round-depth (g .pre .accepted) (g .pre .made) (g .pre .shows) (c .held-at .ensures)
+
+mul-k : tie.Need-mul-k
+mul-k c = search needs
+
+slice-read-k : tie.Need-slice-read-k
+slice-read-k c = search needs
+
+mul-base : tie.Need-mul-base
+mul-base c =
+    let l = c .before in
+    omega (arith, room l, first (l .before) .good)
+
+add-base : tie.Need-add-base
+add-base c =
+    let l = c .before in
+    omega (arith, room l, first (l .before) .good)
+
+cast-alpha : tie.Need-cast-alpha
+cast-alpha c = search needs
+
+add-rounds : tie.Need-add-rounds
+add-rounds c = search needs
+
+query-requires : tie.Need-query-requires
+query-requires c κs =
+    let l = c .before .before .before in
+    let g = first (l .before) in
+    round-query (g .pre .accepted) (g .pre .made) (g .pre .shows) (at l)
+
+add-is-open : tie.Need-add-is-open
+add-is-open c =
+    let l = placed (c .before .before .before) in
+    omega (arith, room l, first (l .before) .good)
+
+is-open-requires : tie.Need-is-open-requires
+is-open-requires c κs =
+    let q = c .before .before .before in
+    let l = placed q in
+    let g = first (l .before) in
+    round-openable (g .pre .accepted) (g .pre .made) (g .pre .shows) (at l) (queried q)
+
+one-less-requires : tie.Need-one-less-requires
+one-less-requires c κs = search needs
+
+add-descend : tie.Need-add-descend
+add-descend c =
+    let i = c .before .before in
+    let o = i .before in
+    let q = asked o in
+    let l = placed q in
+    let g = first (l .before) in
+    let down =
+    round-descend (g .pre .accepted) (g .pre .made) (g .pre .shows) (at l) (queried q) (o .is-open .ensures) (i .if1 .taken)
+    refl in
+    omega (arith, down .depth, l .levels-at .ensures, room l, g .good)
+
+descend-requires : tie.Need-descend-requires
+descend-requires c κs =
+    let i = c .before .before in
+    let o = i .before in
+    let q = asked o in
+    let l = placed q in
+    let g = first (l .before) in
+    round-descend (g .pre .accepted) (g .pre .made) (g .pre .shows) (at l) (queried q) (o .is-open .ensures) (i .if1 .taken)
+    (c .before .one-less .ensures)
+
+same-length : tie.Need-same-length
+same-length c = search needs
+
+returns : tie.Need-returns
+returns c =
+    let d = c .before .before in
+    let i = d .before .before .before in
+    let o = i .before in
+    let q = asked o in
+    let l = placed q in
+    let g = first (l .before) in
+    let same =
+    opened-same (g .pre .accepted) (g .pre .made) (g .pre .shows) (at l) (queried q) (o .is-open .ensures) (i .if1 .taken)
+    (d .descend .ensures) in
+    record {
+      long = same .0;
+      counted = refl;
+      shown =
+          λ k sh.
+          round-opens (g .pre .accepted) k sh (at l) (queried q) (o .is-open .ensures) (i .if1 .taken) (d .descend .ensures);
+      rest = same .1;
+    }
 
 add-entries : tie.Need-add-entries
 add-entries c = search needs
@@ -49,95 +183,99 @@ add-entries-3 c = search needs
 add-entries-4 : tie.Need-add-entries-4
 add-entries-4 c = search needs
 
-add-unsolved : tie.Need-add-unsolved
-add-unsolved c = search needs
-
-add-unsolved-2 : tie.Need-add-unsolved-2
-add-unsolved-2 c = search needs
-
-mul-unsolved : tie.Need-mul-unsolved
-mul-unsolved c = search needs
-
-add-unsolved-3 : tie.Need-add-unsolved-3
-add-unsolved-3 c = search needs
-
-add-unsolved-4 : tie.Need-add-unsolved-4
-add-unsolved-4 c = search needs
-
-add-held : tie.Need-add-held
-add-held c = search needs
-
-add-held-2 : tie.Need-add-held-2
-add-held-2 c = search needs
-
-mul-regions : tie.Need-mul-regions
-mul-regions c = search needs
-
-add-regions : tie.Need-add-regions
-add-regions c = search needs
-
-cast-alpha : tie.Need-cast-alpha
-cast-alpha c = search needs
-
-add-rounds : tie.Need-add-rounds
-add-rounds c = search needs
-
-query-requires : tie.Need-query-requires
-query-requires c κs =
-    let g = c .before .before .before .before .before .before .before in
-    round-query (g .pre .accepted) (g .pre .made) (g .pre .shows)
-
-is-open-requires : tie.Need-is-open-requires
-is-open-requires c κs =
-    let q = c .before .before .before in
-    let g = first q in
-    escapes (g .pre .accepted) (g .pre .made) (g .pre .shows) (queried q)
-
-next-priority-requires : tie.Need-next-priority-requires
-next-priority-requires c κs =
-    let q = asked (c .before .before) in
-    let g = first q in
-    let small = current-small (g .pre .accepted) (g .pre .made) (g .pre .shows) in
-    (queried q .drawn .ready .tallied, omega arith)
-
-same-length : tie.Need-same-length
-same-length c = search needs
-
-returns : tie.Need-returns
-returns c =
-    let d = c .before .before .before in
-    let q = asked d in
-    let g = first q in
-    record {
-      long = queried q .drawn .long;
-      counted = refl;
-      shown =
-          λ k sh.
-          round-opens (g .pre .accepted) k sh (queried q) (d .is-open .ensures) (c .before .before .if1 .taken)
-          (c .next-priority .ensures);
-      rest = λ i l. queried q .drawn .rest i (omega arith) (inr l);
-    }
-
 assign-missing-strategies-requires : tie.Need-assign-missing-strategies-requires
 assign-missing-strategies-requires c κs =
-    let q = asked (c .before .before) in fill-ready (first q .pre .accepted) (queried q .drawn)
+    let q = asked (c .before .before) in
+    let l = placed q in
+    let g = first (l .before) in
+    round-fill (g .pre .accepted) (g .pre .made) (g .pre .shows) (at l) (queried q)
 
 best-escape-requires : tie.Need-best-escape-requires
 best-escape-requires c κs =
     let f = c .before .before .before in
     let q = asked (told f) in
-    let g = first q in
-    filled-escapes (g .pre .accepted) (g .pre .made) (g .pre .shows) (queried q) (f .assign-missing-strategies .ensures)
+    let l = placed q in
+    let g = first (l .before) in
+    round-escapable (g .pre .accepted) (g .pre .made) (g .pre .shows) (at l) (queried q) (f .assign-missing-strategies .ensures)
 
-apply-priority-promotion-requires : tie.Need-apply-priority-promotion-requires
-apply-priority-promotion-requires c κs =
-    let b = c .before .before in
+-- the entries are filled: the work area is as long as it was
+long2 :
+    (f : tie.After-assign-missing-strategies) →
+    length (f .assign-missing-strategies .last .1 .1 .1 .1 .1 .0) ≡
+    length (first (placed (asked (told f)) .before) .args .work .now)
+long2 f =
+    let q = asked (told f) in
+    let l = placed q in
+    let g = first (l .before) in
+    filled-long (g .pre .accepted) (g .pre .made) (g .pre .shows) (at l) (queried q) (f .assign-missing-strategies .ensures)
+
+-- there is a region to promote to: its priority stands before the levels, and `promote` may run
+fits :
+    (c : tie.Then2) →
+    let l = placed (asked (told (filled (c .before)))) in
+    l .before .held-at .result + 3 * first (l .before) .args .s + c .before .best-escape .result < l .levels-at .result
+fits c =
+    let b = c .before in
     let f = filled b in
-    let d = told f in
-    let q = asked d in
-    let g = first q in
-    round-promote-ready (g .pre .accepted) (g .pre .made) (g .pre .shows) (queried q) (f .assign-missing-strategies .ensures)
-    (d .is-open .ensures) (f .before .before .if1 .left) (b .best-escape .ensures)
+    let o = told f in
+    let q = asked o in
+    let l = placed q in
+    let g = first (l .before) in
+    top-fits (g .pre .accepted) (g .pre .made) (g .pre .shows) (at l) (queried q) (f .assign-missing-strategies .ensures)
+    (o .is-open .ensures) (f .before .before .if1 .left) (b .best-escape .ensures) (c .if2 .taken)
+
+able :
+    (c : tie.Then2) →
+    let f = filled (c .before) in
+    let l = placed (asked (told f)) in
+    let h = l .before .held-at .result in
+    let s = first (l .before) .args .s in
+    Promotable s h (h + 3 * s) (l .levels-at .result + (c .before .best-escape .result - 1) * s)
+    (f .assign-missing-strategies .last .1 .1 .1 .1 .1 .0)
+able c =
+    let b = c .before in
+    let f = filled b in
+    let o = told f in
+    let q = asked o in
+    let l = placed q in
+    let g = first (l .before) in
+    round-promotable (g .pre .accepted) (g .pre .made) (g .pre .shows) (at l) (queried q) (f .assign-missing-strategies .ensures)
+    (o .is-open .ensures) (f .before .before .if1 .left) (b .best-escape .ensures) (c .if2 .taken)
+
+add-q : tie.Need-add-q
+add-q c =
+    let l = placed (asked (told (filled (c .before)))) in omega (arith, fits c, room l, first (l .before) .good)
+
+mul-q : tie.Need-mul-q
+mul-q c =
+    let l = placed (asked (told (filled (c .before)))) in omega (arith, fits c, room l, first (l .before) .good)
+
+slice-read-q : tie.Need-slice-read-q
+slice-read-q c =
+    let f = filled (c .before .before) in omega (arith, fits (c .before), room (placed (asked (told f))), long2 f)
+
+sub-promote : tie.Need-sub-promote
+sub-promote c = search needs
+
+mul-promote : tie.Need-mul-promote
+mul-promote c =
+    let i = c .before .before in
+    let f = filled (i .before) in
+    let more = able i in
+    omega (arith, more .high, long2 f, first (placed (asked (told f)) .before) .good)
+
+add-promote : tie.Need-add-promote
+add-promote c =
+    let i = c .before .before in
+    let f = filled (i .before) in
+    let more = able i in
+    omega (arith, more .high, long2 f, first (placed (asked (told f)) .before) .good)
+
+sub-promote-2 : tie.Need-sub-promote-2
+sub-promote-2 c = search needs
+
+promote-requires : tie.Need-promote-requires
+promote-requires c κs = able (c .before .before)
 
 same-length-2 : tie.Need-same-length-2
 same-length-2 c = search needs
@@ -145,61 +283,107 @@ same-length-2 c = search needs
 returns-2 : tie.Need-returns-2
 returns-2 c =
     let e = c .before .before in
-    let b = e .before .before .before in
+    let i = e .before .before .before in
+    let b = i .before in
     let f = filled b in
-    let d = told f in
-    let q = asked d in
-    let g = first q in
-    let made = f .assign-missing-strategies .ensures in
-    let fills = filled-same (g .pre .accepted) (g .pre .made) (g .pre .shows) (queried q) made in
+    let o = told f in
+    let q = asked o in
+    let l = placed q in
+    let g = first (l .before) in
+    let done = e .promote .ensures (length (g .args .owners .now)) (g .pre .shows .ready .size) in
     let same =
-    promoted-same (g .pre .accepted) (g .pre .made) (g .pre .shows) (queried q) made
-    (d .is-open .ensures) (f .before .before .if1 .left) (b .best-escape .ensures)
-    (e .before .before .if2 .taken) (e .apply-priority-promotion .ensures) in
+    promoted-same (g .pre .accepted) (g .pre .made) (g .pre .shows) (at l) (queried q) (f .assign-missing-strategies .ensures)
+    (o .is-open .ensures) (f .before .before .if1 .left) (b .best-escape .ensures) (i .if2 .taken) done in
     record {
-      long = same .0 ∙ fills .0;
+      long = same .0;
       counted = refl;
       shown =
           λ k sh.
-          round-promotes (g .pre .accepted) k sh (queried q) made
-          (d .is-open .ensures) (f .before .before .if1 .left) (b .best-escape .ensures)
-          (e .before .before .if2 .taken) (e .apply-priority-promotion .ensures);
-      rest = λ i l. same .1 i l ∙ fills .1 i l ∙ queried q .drawn .rest i (omega arith) (inr l);
+          round-promotes (g .pre .accepted) k sh (at l) (queried q) (f .assign-missing-strategies .ensures)
+          (o .is-open .ensures) (f .before .before .if1 .left) (b .best-escape .ensures) (i .if2 .taken) done;
+      rest = same .1;
     }
 
 solve-dominion-requires : tie.Need-solve-dominion-requires
 solve-dominion-requires c κs =
     let b = c .before .before in
     let f = filled b in
-    let d = told f in
-    let q = asked d in
-    let g = first q in
-    round-dominion-ready (g .pre .accepted) (g .pre .made) (g .pre .shows) (queried q) (f .assign-missing-strategies .ensures)
-    (d .is-open .ensures) (f .before .before .if1 .left) (b .best-escape .ensures)
+    let o = told f in
+    let q = asked o in
+    let l = placed q in
+    let g = first (l .before) in
+    round-dominion (g .pre .accepted) (g .pre .made) (g .pre .shows) (at l) (queried q) (f .assign-missing-strategies .ensures)
+    (o .is-open .ensures) (f .before .before .if1 .left) (b .best-escape .ensures)
 
--- the work area is as long after a dominion as it was
-solved-long :
-    (e : tie.After-solve-dominion) →
-    length (e .solve-dominion .last .1 .1 .1 .1 .1 .1 .0) ≡
-    length (first (asked (told (filled (e .before .before .before)))) .args .work .now)
-solved-long e =
-    let f = filled (e .before .before .before) in
-    let q = asked (told f) in
-    let g = first q in
-    e .solve-dominion .ensures .long ∙
-    filled-same (g .pre .accepted) (g .pre .made) (g .pre .shows) (queried q) (f .assign-missing-strategies .ensures) .0
+descend-requires-2 : tie.Need-descend-requires-2
+descend-requires-2 c κs =
+    let e = c .before .before .before in
+    let i = e .before .before in
+    let b = i .before in
+    let f = filled b in
+    let o = told f in
+    let q = asked o in
+    let l = placed q in
+    let g = first (l .before) in
+    round-first (g .pre .accepted) (g .pre .made) (g .pre .shows) (at l) (queried q) (f .assign-missing-strategies .ensures)
+    (o .is-open .ensures) (f .before .before .if1 .left) (b .best-escape .ensures) (i .if2 .left)
+    (e .solve-dominion .ensures (g .args .priorities .now) (g .pre .accepted))
+
+-- where the function began, from where the first level has begun again
+abbrev origin : tie.After-descend2 → tie.Start
+origin t = first (placed (asked (told (filled (solved t .before .before .before)))) .before)
+
+-- what the work area is then
+ready4 :
+    (t : tie.After-descend2) →
+    let a = origin t .args in
+    Ready (length (a .owners .now)) (a .priorities .now) (a .offsets .now) (a .targets .now) (a .s)
+    (t .descend2 .last .1 .1 .1 .0)
+ready4 t =
+    let e = solved t in
+    let i = e .before .before in
+    let b = i .before in
+    let f = filled b in
+    let o = told f in
+    let q = asked o in
+    let l = placed q in
+    let g = first (l .before) in
+    solved-ready (g .pre .accepted) (g .pre .made) (g .pre .shows) (at l) (queried q) (f .assign-missing-strategies .ensures)
+    (o .is-open .ensures) (f .before .before .if1 .left) (b .best-escape .ensures) (i .if2 .left)
+    (e .solve-dominion .ensures (g .args .priorities .now) (g .pre .accepted)) (t .descend2 .ensures)
+
+same4 :
+    (t : tie.After-descend2) →
+    let a = origin t .args in
+    (length (t .descend2 .last .1 .1 .1 .0) ≡ length (a .work .now)) ×
+    ((i : ℕ) → endAt (length (a .owners .now)) (length (a .targets .now)) (a .s) ≤ i →
+    getD (t .descend2 .last .1 .1 .1 .0) i 0 ≡ getD (a .work .now) i 0)
+same4 t =
+    let e = solved t in
+    let i = e .before .before in
+    let b = i .before in
+    let f = filled b in
+    let o = told f in
+    let q = asked o in
+    let l = placed q in
+    let g = first (l .before) in
+    solved-same (g .pre .accepted) (g .pre .made) (g .pre .shows) (at l) (queried q) (f .assign-missing-strategies .ensures)
+    (o .is-open .ensures) (f .before .before .if1 .left) (b .best-escape .ensures) (i .if2 .left)
+    (e .solve-dominion .ensures (g .args .priorities .now) (g .pre .accepted)) (t .descend2 .ensures)
 
 add-size : tie.Need-add-size
 add-size c =
-    let e = c .before .before in
-    let q = asked (told (filled (e .before .before .before))) in
-    omega (arith, e .solve-dominion .ensures .ready .tallied .room, solved-long e, first q .good)
+    let t = c .before .before in
+    let l = placed (asked (told (filled (solved t .before .before .before)))) in
+    let room = first-room (ready4 t) (at l .levels-is) in
+    omega (arith, room, same4 t .0, origin t .good)
 
 mul-size : tie.Need-mul-size
 mul-size c =
-    let e = c .before .before in
-    let q = asked (told (filled (e .before .before .before))) in
-    omega (arith, e .solve-dominion .ensures .ready .tallied .room, solved-long e, first q .good)
+    let t = c .before .before in
+    let l = placed (asked (told (filled (solved t .before .before .before)))) in
+    let room = first-room (ready4 t) (at l .levels-is) in
+    omega (arith, room, same4 t .0, origin t .good)
 
 sub-size : tie.Need-sub-size
 sub-size c = search needs
@@ -208,75 +392,88 @@ part-size-start : tie.Need-part-size-start
 part-size-start c = search needs
 
 part-size-end : tie.Need-part-size-end
-part-size-end c = search needs
+part-size-end c =
+    let t = c .before .before .before in
+    let l = placed (asked (told (filled (solved t .before .before .before)))) in
+    first-room (ready4 t) (at l .levels-is)
 
 size-requires : tie.Need-size-requires
-size-requires c κs = left-few (c .before .before .before .before .solve-dominion .ensures .ready)
-
-next-priority-requires-2 : tie.Need-next-priority-requires-2
-next-priority-requires-2 c κs = search needs
+size-requires c κs =
+    let t = c .before .before .before .before in
+    let l = placed (asked (told (filled (solved t .before .before .before)))) in
+    left-few (ready4 t) (at l .levels-is)
 
 same-length-3 : tie.Need-same-length-3
-same-length-3 c = solved-long (c .before .before .before .before .before .before .before)
+same-length-3 c = same4 (c .before .before .before .before .before) .0
 
 returns-3 : tie.Need-returns-3
 returns-3 c =
-    let e = c .before .before .before .before .before .before .before in
-    let b = e .before .before .before in
+    let t = c .before .before .before .before .before in
+    let e = solved t in
+    let i = e .before .before in
+    let b = i .before in
     let f = filled b in
-    let d = told f in
-    let q = asked d in
-    let g = first q in
-    let made = f .assign-missing-strategies .ensures in
-    let fills = filled-same (g .pre .accepted) (g .pre .made) (g .pre .shows) (queried q) made in
-    let done = e .solve-dominion .ensures in
+    let o = told f in
+    let q = asked o in
+    let l = placed q in
+    let g = first (l .before) in
     record {
-      long = solved-long e;
+      long = same4 t .0;
       counted = refl;
       shown =
           λ k sh.
-          round-solves (g .pre .accepted) k sh (queried q) made
-          (d .is-open .ensures) (f .before .before .if1 .left) (b .best-escape .ensures) (e .before .before .if2 .left) done
-          (c .next-priority2 .ensures) (left-counted (done .ready) (c .before .before .size .ensures));
-      rest = λ i l. done .rest i l ∙ fills .1 i l ∙ queried q .drawn .rest i (omega arith) (inr l);
+          round-solves (g .pre .accepted) k sh (at l) (queried q) (f .assign-missing-strategies .ensures)
+          (o .is-open .ensures) (f .before .before .if1 .left) (b .best-escape .ensures) (i .if2 .left)
+          (e .solve-dominion .ensures (g .args .priorities .now) (g .pre .accepted)) (t .descend2 .ensures)
+          (left-counted (ready4 t) (at l .levels-is) (c .size .ensures));
+      rest = same4 t .1;
     }
 
 pub round-spec : {M : Type 1} → statement M
 round-spec =
     tie.close
     (tie.spec
+    held-at-requires
+    mul-depth
+    add-depth
+    levels-at-requires
+    mul-k
+    slice-read-k
+    mul-base
+    add-base
+    cast-alpha
+    add-rounds
+    query-requires
+    add-is-open
+    is-open-requires
+    one-less-requires
+    add-descend
+    descend-requires
+    same-length
+    returns
     add-entries
     add-entries-2
     add-entries-3
     add-entries-4
-    add-unsolved
-    add-unsolved-2
-    mul-unsolved
-    add-unsolved-3
-    add-unsolved-4
-    add-held
-    add-held-2
-    mul-regions
-    add-regions
-    cast-alpha
-    add-rounds
-    query-requires
-    is-open-requires
-    next-priority-requires
-    same-length
-    returns
     assign-missing-strategies-requires
     best-escape-requires
-    apply-priority-promotion-requires
+    add-q
+    mul-q
+    slice-read-q
+    sub-promote
+    mul-promote
+    add-promote
+    sub-promote-2
+    promote-requires
     same-length-2
     returns-2
     solve-dominion-requires
+    descend-requires-2
     add-size
     mul-size
     sub-size
     part-size-start
     part-size-end
     size-requires
-    next-priority-requires-2
     same-length-3
     returns-3)

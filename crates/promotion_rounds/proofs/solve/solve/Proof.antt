@@ -50,7 +50,7 @@ use denote.Triple.Walked.{says, needs, Stays, stay-none, stay-none-slice, stay-s
 use denote.Exit.{yes}
 use borrow.Rule.Slice.Lend.{keptF, sl-relend, sl-relent-backˡ}
 use Rattle.promotion_rounds.specs.declared.round.State.{State}
-use Rattle.promotion_tables.specs.Layout.{regionsAt}
+use Rattle.promotion_levels.specs.Layout.{endAt}
 use Rattle.promotion_rounds.specs.Rounds.{RoundReady, RoundDone}
 use Rattle.promotion_rounds.specs.Solve.{Reached, reached-ready, reached-more}
 use Rattle.promotion_rounds.proofs.Bare.{Bare, bared, valued}
@@ -148,7 +148,7 @@ module _ {M : Type 1} (𝓤 : URA M) (H : Heap 𝓤) (A : Atoms 𝓤) (W : Given
       reached : Reached (owners .now) (priorities .now) (offsets .now) (targets .now) s (at .current .0) (at .unsolved)
           (at .rounds) list
       within : at .rounds ≤ budget
-      rest : (i : ℕ) → regionsAt (length (owners .now)) (length (targets .now)) s + length (owners .now) + 257 ≤ i
+      rest : (i : ℕ) → endAt (length (owners .now)) (length (targets .now)) s ≤ i
           → getD list i 0 ≡ getD (work .now) i 0
 
     -- what the tests of a turn say

@@ -1,26 +1,31 @@
--- `best_escape` meets its contract: the lowest region above p of the opponent's vertices of R that the walk has passed.
+-- `best_escape` meets its contract: no opponent's vertex of R that the walk has passed leads higher than level `highest` - 1.
 use Prim.Native.Nat.{ℕ, _+_, _-_, _≤_, _<_}
 use mathlib.Core.Bool.{true}
 use mathlib.Core.List.{List, _∷_}
-use mathlib.Core.Logic.{inl}
-use mathlib.Core.Path.{_≡_, refl, subst}
-use native.Mathlib.Nat.{le-refl}
+use mathlib.Core.Path.{_≡_, subst}
 use lib.ListN.{length, take, drop}
+use Rattle.rules.specs.Counting.{Set}
 use Rattle.walk.specs.declared.members.Members.{Members}
 use Rattle.walk.specs.Walk.{left, Walks}
 use Rattle.area.specs.Area.{wordsAt, setAt}
 use Rattle.area.specs.Walked.{walked-none, walked-few, walked-all, walked-small, walked-member, walked-shorter, walked-more}
-use Rattle.promotion_tests.specs.Escapes.{looks-ready, escape-walkable, passes, LowestSoFar, lowest-further}
+use Rattle.promotion_tests.specs.Escapes.{Passed, passes, passed-weaker, escape-walkable}
+use Rattle.promotion_tests.specs.Escapes.{levelFrom, levels-same, looks-ready}
+use Rattle.promotion_tests.specs.Highest.{NoneFrom, HighestSoFar, HighestOf}
+use Rattle.promotion_tests.specs.Highest.{outside-later, highest-start, highest-further, highest-done}
 use borrow.Author.Needs.{needs}
 use Rattle.promotion_tests.proofs.escape.best_escape.Statement.{statement}
 use Rattle.promotion_tests.proofs.escape.best_escape.Tie as tie
 
 abbrev Inv-loop : tie.InvT-loop
-Inv-loop owners offsets targets alpha p s work held regions lowest₀ walk₀ lowest walk =
-    LowestSoFar owners offsets targets alpha p held regions work walk lowest
+Inv-loop owners offsets targets alpha s work held levels k highest₀ walk₀ highest walk =
+    let n = length owners in
+    let L = levelFrom n s levels work in
+    HighestSoFar owners offsets targets alpha (setAt n held work) L k highest ×
+    Passed n held (NoneFrom owners offsets targets alpha L k highest) work walk
 
 abbrev μ-loop : tie.MeasureT-loop
-μ-loop owners offsets targets alpha p s work held regions lowest₀ walk₀ lowest walk =
+μ-loop owners offsets targets alpha s work held levels k highest₀ walk₀ highest walk =
     length (left (wordsAt (length owners) held work) walk)
 
 -- where the function begins, and the loop's head of a turn
@@ -50,20 +55,20 @@ moved :
 moved c = subst (Walks (part (first c)) (turn c .loop .walk)) (c .next2 .given .1) (c .before .before .next .ensures)
 
 small : (c : tie.After-next2 Inv-loop μ-loop) → vertex c < length (first c .args .owners .now)
-small c = walked-small (escape-walkable (first c .pre)) (turn c .loop .inv .passed) (after c) (moved c)
+small c = walked-small (escape-walkable (first c .pre .escapes)) (turn c .loop .inv .1) (after c) (moved c)
 
 member :
     (c : tie.After-next2 Inv-loop μ-loop) →
     let a = first c .args in
     setAt (length (a .owners .now)) (a .held) (a .work .now) (vertex c) ≡ true
-member c = walked-member (escape-walkable (first c .pre)) (turn c .loop .inv .passed) (after c) (moved c)
+member c = walked-member (escape-walkable (first c .pre .escapes)) (turn c .loop .inv .1) (after c) (moved c)
 
 shorter :
     (c : tie.After-next2 Inv-loop μ-loop) →
     let a = first c .args in
     let xs = wordsAt (length (a .owners .now)) (a .held) (a .work .now) in
     length (left xs (after c)) < length (left xs (turn c .loop .walk))
-shorter c = walked-shorter (escape-walkable (first c .pre)) (turn c .loop .inv .passed) (after c) (moved c)
+shorter c = walked-shorter (escape-walkable (first c .pre .escapes)) (turn c .loop .inv .1) (after c) (moved c)
 
 add-new : tie.Need-add-new Inv-loop μ-loop
 add-new c = search needs
@@ -86,11 +91,7 @@ new-requires c κs = search needs
 loop-holds : tie.Need-loop-holds Inv-loop μ-loop
 loop-holds c =
     let g = c .before .before .before .before .before .before in
-    record {
-      most = le-refl 256;
-      reached = inl refl;
-      passed = walked-none (escape-walkable (g .pre)) tt (c .new .result) (c .new .ensures);
-    }
+    (highest-start, walked-none (escape-walkable (g .pre .escapes)) tt (c .new .result) (c .new .ensures))
 
 add-next : tie.Need-add-next Inv-loop μ-loop
 add-next c = search needs
@@ -108,7 +109,7 @@ part-next-end : tie.Need-part-next-end Inv-loop μ-loop
 part-next-end c = search needs
 
 next-requires : tie.Need-next-requires Inv-loop μ-loop
-next-requires c κs = let d = c .before in walked-few (escape-walkable (start-of d .pre)) (d .loop .inv .passed)
+next-requires c κs = let d = c .before in walked-few (escape-walkable (start-of d .pre .escapes)) (d .loop .inv .1)
 
 enum-known-next : tie.Need-enum-known-next Inv-loop μ-loop
 enum-known-next c = search needs
@@ -120,19 +121,17 @@ returns : tie.Need-returns Inv-loop μ-loop
 returns c =
     let d = c .before .before .before .before in
     let g = start-of d in
-    record {
-      most = d .loop .inv .most;
-      reached = d .loop .inv .reached;
-      lowest =
-          walked-all (escape-walkable (g .pre)) (d .loop .inv .passed)
-          (subst (Walks (part g) (d .loop .walk)) (c .enum-told .given .1) (c .before .before .next .ensures)) .inside;
-    }
+    highest-done (g .pre .nested) (d .loop .inv .0)
+    (walked-all (escape-walkable (g .pre .escapes)) (d .loop .inv .1)
+    (subst (Walks (part g) (d .loop .walk)) (c .enum-told .given .1) (c .before .before .next .ensures)) .inside)
 
 shared-slice-read-if1 : tie.Need-shared-slice-read-if1 Inv-loop μ-loop
 shared-slice-read-if1 c = small (c .before .before)
 
 best-of-requires : tie.Need-best-of-requires Inv-loop μ-loop
-best-of-requires c κs = let d = c .before .before .before in looks-ready (first d .pre) (vertex d) (small d)
+best-of-requires c κs =
+    let d = c .before .before .before in
+    looks-ready (first d .pre) (small d) (turn d .loop .inv .0 .top)
 
 loop-less : tie.Need-loop-less Inv-loop μ-loop
 loop-less c = shorter (c .before .before .before .before)
@@ -141,28 +140,30 @@ loop-again : tie.Need-loop-again Inv-loop μ-loop
 loop-again c =
     let d = c .before .before .before .before in
     let g = first d in
-    let (most, reached, passed, here) =
-    lowest-further (turn d .loop .inv)
-    (member d) (c .before .if1 .taken) (c .best-of .ensures) in
-    record {
-      most = most;
-      reached = reached;
-      passed = walked-more (escape-walkable (g .pre)) passed (after d) (moved d) (passes here);
-    }
+    let a = g .args in
+    let same = levels-same (length (a .owners .now)) (a .s) (a .levels) (a .work .now) (g .pre .escapes .size) in
+    let best = turn d .loop .highest in
+    let r = c .best-of .result in
+    let Of : (ℕ → Set) → Type 0 = λ L. HighestOf (a .offsets .now) (a .targets .now) L (a .k) (vertex d) best r in
+    let here = subst Of same (c .best-of .ensures) in (
+      highest-further (turn d .loop .inv .0) (member d) (c .before .if1 .taken) here,
+      walked-more (escape-walkable (g .pre .escapes))
+          (passed-weaker
+          (λ u none other w m out. outside-later (g .pre .nested) best r w (here .up) (here .top) (none other w m out))
+          (turn d .loop .inv .1))
+          (after d) (moved d) (passes (λ other w m out. here .none w m out)),
+    )
 
 loop-less-2 : tie.Need-loop-less-2 Inv-loop μ-loop
 loop-less-2 c = shorter (c .before .before .before)
 
 loop-again-2 : tie.Need-loop-again-2 Inv-loop μ-loop
 loop-again-2 c =
-    let d = c .before .before .before in
-    record {
-      most = turn d .loop .inv .most;
-      reached = turn d .loop .inv .reached;
-      passed =
-          walked-more (escape-walkable (first d .pre)) (turn d .loop .inv .passed) (after d) (moved d)
-          (passes (λ other w m up. absurd (other (c .if1 .left))));
-    }
+    let d = c .before .before .before in (
+      turn d .loop .inv .0,
+      walked-more (escape-walkable (first d .pre .escapes)) (turn d .loop .inv .1) (after d) (moved d)
+          (passes (λ other w m out. absurd (other (c .if1 .left)))),
+    )
 
 pub best-escape-spec : {M : Type 1} → statement M
 best-escape-spec =

@@ -1,51 +1,41 @@
 -- `is_open` meets its contract: no vertex of R that the walk has passed makes it open, and no edge before place e decides.
-use Prim.Native.Nat.{ℕ, _<_}
+use Prim.Native.Nat.{ℕ, _+_, _-_, _≤_, _<_}
 use native.Mathlib.Nat.{le-refl}
-use mathlib.Core.List.{List, _∷_}
-use mathlib.Core.Logic.{⊎-elim}
-use mathlib.Core.Path.{subst}
-use borrow.Author.Tests.{eq-eqb, ne-eqb, lt-ltb, le-ltb}
-use lib.ListN.{take, drop}
-use Rattle.theory.specs.Basics.{clash}
-use Rattle.walk.specs.declared.members.Members.{Members}
-use Rattle.area.specs.Area.{setAt}
-use Rattle.rules.specs.Counting.{Set}
-use Rattle.promotion_tests.specs.Escapes.{Looks, looks-ready, escape-walkable, passes}
-use Rattle.successors.specs.Edges.{none-first, none-more, none-at-all, some-at}
-use Rattle.promotion_tests.specs.Opening.{open-found, open-none, shut-own, shut-other, open-own, open-other}
-use Prim.Native.Nat.{_+_, _-_, _≤_}
-use mathlib.Core.Bool.{true, false}
-use mathlib.Core.Path.{_≡_}
 use native.Mathlib.Omega.{arith}
-use lib.Dec.{eqb, ltb}
-use lib.ListN.{length, getD}
+use mathlib.Core.Bool.{true, false}
+use mathlib.Core.List.{List, _∷_}
+use mathlib.Core.Logic.{⊎-elim, inl, inr}
+use mathlib.Core.Path.{_≡_, sym, subst, _∙_}
+use lib.Dec.{eqb}
+use lib.ListN.{length, getD, take, drop}
+use Rattle.rules.specs.Counting.{Set, someOf}
+use Rattle.rules.specs.Tables.{targetsOf}
+use Rattle.walk.specs.declared.members.Members.{Members}
 use Rattle.walk.specs.Walk.{left, Walks}
-use Rattle.area.specs.Area.{wordsAt}
+use Rattle.area.specs.Area.{wordsAt, setAt}
 use Rattle.area.specs.Walked.{walked-none, walked-few, walked-all, walked-small, walked-member, walked-shorter, walked-more}
-use Rattle.promotion_tables.specs.Regions.{regionAt}
-use Rattle.promotion_tests.specs.Escapes.{Passed}
-use Rattle.successors.specs.Edges.{NoneBefore}
-use Rattle.promotion_tests.specs.Opening.{Shut}
+use Rattle.successors.specs.Edges.{NoneBefore, none-first, none-more, none-at-all, some-at}
+use Rattle.promotion_tests.specs.Escapes.{Passed, EdgesIn, edges-ready, escape-walkable, passes, part-bit, set-asked}
+use Rattle.promotion_tests.specs.Opening.{Shut, Looked, open-found, open-none, shut-own, shut-other, open-own, open-other}
 use borrow.Author.Needs.{needs}
 use Rattle.promotion_tests.proofs.open.is_open.Statement.{statement}
 use Rattle.promotion_tests.proofs.open.is_open.Tie as tie
 
 abbrev Inv-loop : tie.InvT-loop
-Inv-loop owners offsets targets alpha p s work held regions walk v own e₀ e-end e =
+Inv-loop owners offsets targets alpha s work held below walk v own place e₀ e-end e =
     (getD offsets v 0 ≤ e) ×
     (e ≤ getD offsets (v + 1) 0) ×
-    (own ≡ true → NoneBefore offsets targets v (λ w. eqb (regionAt regions work w) p) e) ×
-    (own ≡ false → NoneBefore offsets targets v (λ w. ltb (regionAt regions work w) p) e)
+    NoneBefore offsets targets v (setAt (length owners) place work) e
 
 abbrev μ-loop : tie.MeasureT-loop
-μ-loop owners offsets targets alpha p s work held regions walk v own e₀ e-end e = e-end - e
+μ-loop owners offsets targets alpha s work held below walk v own place e₀ e-end e = e-end - e
 
 abbrev Inv-vertices : tie.InvT-vertices
-Inv-vertices owners offsets targets alpha p s work held regions walk₀ walk =
-    Passed (length owners) held (Shut owners offsets targets alpha p regions work) work walk
+Inv-vertices owners offsets targets alpha s work held below walk₀ walk =
+    Passed (length owners) held (Shut owners offsets targets alpha held below work) work walk
 
 abbrev μ-vertices : tie.MeasureT-vertices
-μ-vertices owners offsets targets alpha p s work held regions walk₀ walk = length (left (wordsAt (length owners) held work) walk)
+μ-vertices owners offsets targets alpha s work held below walk₀ walk = length (left (wordsAt (length owners) held work) walk)
 
 -- where the function begins, and the outer loop's head of a turn
 abbrev start-of : tie.At-vertices Inv-loop μ-loop Inv-vertices μ-vertices → tie.Start Inv-loop μ-loop Inv-vertices μ-vertices
@@ -64,9 +54,15 @@ vertex c = c .next2 .given .0 .0 .0
 abbrev after : tie.After-next2 Inv-loop μ-loop Inv-vertices μ-vertices → Members
 after c = c .next2 .given .0 .1 .0
 
--- the turn of the outer loop that the inner one stands in
+-- where the vertex has its place to look, and the turn of the outer loop that the inner one stands in
+abbrev joined : tie.At-loop Inv-loop μ-loop Inv-vertices μ-vertices → tie.Joined1 Inv-loop μ-loop Inv-vertices μ-vertices
+joined c = c .before .before .before
+
+abbrev told : tie.Joined1 Inv-loop μ-loop Inv-vertices μ-vertices → tie.After-next2 Inv-loop μ-loop Inv-vertices μ-vertices
+told c = c .before .before .before
+
 abbrev outer : tie.At-loop Inv-loop μ-loop Inv-vertices μ-vertices → tie.After-next2 Inv-loop μ-loop Inv-vertices μ-vertices
-outer c = c .before .before .before .before .before
+outer c = told (joined c)
 
 -- the words of R as they are lent
 abbrev part : tie.Start Inv-loop μ-loop Inv-vertices μ-vertices → List ℕ
@@ -78,56 +74,79 @@ moved :
 moved c = subst (Walks (part (first c)) (turn c .vertices .walk)) (c .next2 .given .1) (c .before .before .next .ensures)
 
 small : (c : tie.After-next2 Inv-loop μ-loop Inv-vertices μ-vertices) → vertex c < length (first c .args .owners .now)
-small c = walked-small (escape-walkable (first c .pre)) (turn c .vertices .inv) (after c) (moved c)
+small c = walked-small (escape-walkable (first c .pre .escapes)) (turn c .vertices .inv) (after c) (moved c)
 
 member :
     (c : tie.After-next2 Inv-loop μ-loop Inv-vertices μ-vertices) →
     let a = first c .args in
     setAt (length (a .owners .now)) (a .held) (a .work .now) (vertex c) ≡ true
-member c = walked-member (escape-walkable (first c .pre)) (turn c .vertices .inv) (after c) (moved c)
+member c = walked-member (escape-walkable (first c .pre .escapes)) (turn c .vertices .inv) (after c) (moved c)
 
 -- its edges
-looks :
+edges :
     (c : tie.After-next2 Inv-loop μ-loop Inv-vertices μ-vertices) →
     let a = first c .args in
-    Looks (a .offsets .now) (a .targets .now) (a .regions) (vertex c) (a .work .now)
-looks c = looks-ready (first c .pre) (vertex c) (small c)
+    EdgesIn (a .offsets .now) (a .targets .now) (a .s) (vertex c)
+edges c = edges-ready (first c .pre .escapes) (vertex c) (small c)
 
--- the vertices of region p, and those of a region below it
-abbrev at-p : tie.Start Inv-loop μ-loop Inv-vertices μ-vertices → Set
-at-p g = let a = g .args in λ w. eqb (regionAt (a .regions) (a .work .now) w) (a .p)
+-- the set that it looks into
+looked :
+    (c : tie.Joined1 Inv-loop μ-loop Inv-vertices μ-vertices) →
+    let a = first (told c) .args in
+    Looked (eqb (getD (a .owners .now) (vertex (told c)) 0) (a .alpha)) (a .held) (a .below) (c .if1 .place)
+looked c = ⊎-elim (λ y. inl (y .0 .taken, y .1)) (λ y. inr (y .0 .left, y .1)) (c .if1 .came)
 
-abbrev under-p : tie.Start Inv-loop μ-loop Inv-vertices μ-vertices → Set
-under-p g = let a = g .args in λ w. ltb (regionAt (a .regions) (a .work .now) w) (a .p)
+fits :
+    (c : tie.Joined1 Inv-loop μ-loop Inv-vertices μ-vertices) →
+    let a = first (told c) .args in
+    c .if1 .place + a .s ≤ length (a .work .now)
+fits c =
+    let g = first (told c) in
+    ⊎-elim
+    (λ y. omega (arith, y .1, g .pre .escapes .size, g .pre .escapes .high))
+    (λ y. omega (arith, y .1, g .pre .escapes .size, g .pre .room))
+    (looked c)
+
+abbrev there : tie.Joined1 Inv-loop μ-loop Inv-vertices μ-vertices → Set
+there c = let a = first (told c) .args in setAt (length (a .owners .now)) (c .if1 .place) (a .work .now)
 
 -- the edge that the inner loop came to
 edge-inside :
     (c : tie.In-loop Inv-loop μ-loop Inv-vertices μ-vertices) →
     c .before .loop .e < length (first (outer (c .before)) .args .targets .now)
-edge-inside c = omega (arith, looks (outer (c .before)) .top, c .loop-test .taken)
+edge-inside c = omega (arith, edges (outer (c .before)) .top, c .loop-test .taken)
 
-region-inside :
-    (c : tie.In-loop Inv-loop μ-loop Inv-vertices μ-vertices) →
-    let a = first (outer (c .before)) .args in
-    a .regions + getD (a .targets .now) (c .before .loop .e) 0 < length (a .work .now)
-region-inside c = looks (outer (c .before)) .inside (c .before .loop .e) (edge-inside c)
+-- what the test said of its end
+asked :
+    (c : tie.After-contains Inv-loop μ-loop Inv-vertices μ-vertices) →
+    let l = c .before .before .before .before .before in
+    there (joined l) (getD (first (outer l) .args .targets .now) (l .loop .e) 0) ≡ c .contains .result
+asked c =
+    let l = c .before .before .before .before .before in
+    let g = first (outer l) in
+    let a = g .args in
+    sym
+    (c .contains .ensures ∙
+    set-asked (length (a .owners .now)) (a .s) (joined l .if1 .place) (getD (a .targets .now) (l .loop .e) 0) (a .work .now)
+    (g .pre .escapes .size))
 
 -- a vertex that does not make R open is passed
 passed :
     (c : tie.After-next2 Inv-loop μ-loop Inv-vertices μ-vertices) →
     let a = first c .args in
-    Shut (a .owners .now) (a .offsets .now) (a .targets .now) (a .alpha) (a .p) (a .regions) (a .work .now) (vertex c) →
+    Shut (a .owners .now) (a .offsets .now) (a .targets .now) (a .alpha) (a .held) (a .below) (a .work .now) (vertex c) →
     Passed (length (a .owners .now)) (a .held)
-    (Shut (a .owners .now) (a .offsets .now) (a .targets .now) (a .alpha) (a .p) (a .regions) (a .work .now))
+    (Shut (a .owners .now) (a .offsets .now) (a .targets .now) (a .alpha) (a .held) (a .below) (a .work .now))
     (a .work .now) (after c)
-passed c shut = walked-more (escape-walkable (first c .pre)) (turn c .vertices .inv) (after c) (moved c) (passes shut)
+passed c shut =
+    walked-more (escape-walkable (first c .pre .escapes)) (turn c .vertices .inv) (after c) (moved c) (passes shut)
 
 shorter :
     (c : tie.After-next2 Inv-loop μ-loop Inv-vertices μ-vertices) →
     let a = first c .args in
     let xs = wordsAt (length (a .owners .now)) (a .held) (a .work .now) in
     length (left xs (after c)) < length (left xs (turn c .vertices .walk))
-shorter c = walked-shorter (escape-walkable (first c .pre)) (turn c .vertices .inv) (after c) (moved c)
+shorter c = walked-shorter (escape-walkable (first c .pre .escapes)) (turn c .vertices .inv) (after c) (moved c)
 
 add-new : tie.Need-add-new Inv-loop μ-loop Inv-vertices μ-vertices
 add-new c = search needs
@@ -150,7 +169,7 @@ new-requires c κs = search needs
 vertices-holds : tie.Need-vertices-holds Inv-loop μ-loop Inv-vertices μ-vertices
 vertices-holds c =
     let g = c .before .before .before .before .before .before in
-    walked-none (escape-walkable (g .pre)) tt (c .new .result) (c .new .ensures)
+    walked-none (escape-walkable (g .pre .escapes)) tt (c .new .result) (c .new .ensures)
 
 add-next : tie.Need-add-next Inv-loop μ-loop Inv-vertices μ-vertices
 add-next c = search needs
@@ -168,7 +187,7 @@ part-next-end : tie.Need-part-next-end Inv-loop μ-loop Inv-vertices μ-vertices
 part-next-end c = search needs
 
 next-requires : tie.Need-next-requires Inv-loop μ-loop Inv-vertices μ-vertices
-next-requires c κs = let d = c .before in walked-few (escape-walkable (start-of d .pre)) (d .vertices .inv)
+next-requires c κs = let d = c .before in walked-few (escape-walkable (start-of d .pre .escapes)) (d .vertices .inv)
 
 enum-known-next : tie.Need-enum-known-next Inv-loop μ-loop Inv-vertices μ-vertices
 enum-known-next c = search needs
@@ -181,42 +200,42 @@ returns c =
     let d = c .before .before .before .before in
     let g = start-of d in
     let a = g .args in
-    open-none (a .owners .now) (a .offsets .now) (a .targets .now) (a .alpha) (a .p) (a .held) (a .regions) (a .work .now)
-    (walked-all (escape-walkable (g .pre)) (d .vertices .inv)
+    open-none (a .owners .now) (a .offsets .now) (a .targets .now) (a .alpha) (a .held) (a .below) (a .work .now)
+    (walked-all (escape-walkable (g .pre .escapes)) (d .vertices .inv)
     (subst (Walks (part g) (d .vertices .walk)) (c .enum-told .given .1) (c .before .before .next .ensures)))
 
 shared-slice-read-own : tie.Need-shared-slice-read-own Inv-loop μ-loop Inv-vertices μ-vertices
 shared-slice-read-own c = small (c .before .before)
 
 mul-e : tie.Need-mul-e Inv-loop μ-loop Inv-vertices μ-vertices
-mul-e c = let d = c .before .before in omega (arith, looks d .each, first d .good)
+mul-e c = let d = told c in omega (arith, edges d .each, first d .good)
 
 shared-slice-read-e : tie.Need-shared-slice-read-e Inv-loop μ-loop Inv-vertices μ-vertices
-shared-slice-read-e c = let d = c .before .before .before in omega (arith, looks d .each)
+shared-slice-read-e c = let d = told (c .before) in omega (arith, edges d .each)
 
 cast-e : tie.Need-cast-e Inv-loop μ-loop Inv-vertices μ-vertices
-cast-e c = omega (arith, c .shared-slice-known6 .given (vertex (c .before .before .before)))
+cast-e c = omega (arith, c .shared-slice-known6 .given (vertex (told (c .before))))
 
 add-e-end : tie.Need-add-e-end Inv-loop μ-loop Inv-vertices μ-vertices
-add-e-end c = let d = c .before .before .before in omega (arith, looks d .each, first d .good)
+add-e-end c = let d = told (c .before) in omega (arith, edges d .each, first d .good)
 
 mul-e-end : tie.Need-mul-e-end Inv-loop μ-loop Inv-vertices μ-vertices
-mul-e-end c = let d = c .before .before .before in omega (arith, looks d .each, first d .good)
+mul-e-end c = let d = told (c .before) in omega (arith, edges d .each, first d .good)
 
 shared-slice-read-e-end : tie.Need-shared-slice-read-e-end Inv-loop μ-loop Inv-vertices μ-vertices
-shared-slice-read-e-end c = let d = c .before .before .before .before in omega (arith, looks d .each)
+shared-slice-read-e-end c = let d = told (c .before .before) in omega (arith, edges d .each)
 
 cast-e-end : tie.Need-cast-e-end Inv-loop μ-loop Inv-vertices μ-vertices
-cast-e-end c = omega (arith, c .shared-slice-known7 .given (vertex (c .before .before .before .before) + 1))
+cast-e-end c = omega (arith, c .shared-slice-known7 .given (vertex (told (c .before .before)) + 1))
 
 loop-holds : tie.Need-loop-holds Inv-loop μ-loop Inv-vertices μ-vertices
 loop-holds c =
-    let d = c .before .before .before .before in
+    let j = c .before .before in
+    let d = told j in
     let a = first d .args in (
       le-refl (getD (a .offsets .now) (vertex d) 0),
-      looks d .rising,
-      λ own. none-first (a .offsets .now) (a .targets .now) (vertex d) (at-p (first d)),
-      λ other. none-first (a .offsets .now) (a .targets .now) (vertex d) (under-p (first d)),
+      edges d .rising,
+      none-first (a .offsets .now) (a .targets .now) (vertex d) (there j),
     )
 
 mul-w : tie.Need-mul-w Inv-loop μ-loop Inv-vertices μ-vertices
@@ -228,66 +247,95 @@ shared-slice-read-w c = edge-inside (c .before)
 cast-w : tie.Need-cast-w Inv-loop μ-loop Inv-vertices μ-vertices
 cast-w c = omega (arith, c .shared-slice-known8 .given (c .before .before .loop .e))
 
-add-region : tie.Need-add-region Inv-loop μ-loop Inv-vertices μ-vertices
-add-region c = omega (arith, region-inside (c .before), first (outer (c .before .before)) .good)
+add-contains : tie.Need-add-contains Inv-loop μ-loop Inv-vertices μ-vertices
+add-contains c =
+    let l = c .before .before .before in omega (arith, fits (joined l), first (outer l) .good)
 
-mul-region : tie.Need-mul-region Inv-loop μ-loop Inv-vertices μ-vertices
-mul-region c = omega (arith, region-inside (c .before), first (outer (c .before .before)) .good)
+mul-contains : tie.Need-mul-contains Inv-loop μ-loop Inv-vertices μ-vertices
+mul-contains c =
+    let l = c .before .before .before in omega (arith, fits (joined l), first (outer l) .good)
 
-shared-slice-read-region :
-    tie.Need-shared-slice-read-region Inv-loop μ-loop Inv-vertices μ-vertices
-shared-slice-read-region c = region-inside (c .before .before)
+sub-contains : tie.Need-sub-contains Inv-loop μ-loop Inv-vertices μ-vertices
+sub-contains c = search needs
+
+part-contains-start : tie.Need-part-contains-start Inv-loop μ-loop Inv-vertices μ-vertices
+part-contains-start c = search needs
+
+part-contains-end : tie.Need-part-contains-end Inv-loop μ-loop Inv-vertices μ-vertices
+part-contains-end c = fits (joined (c .before .before .before))
+
+contains-requires : tie.Need-contains-requires Inv-loop μ-loop Inv-vertices μ-vertices
+contains-requires c κs =
+    let i = c .before .before .before in
+    let l = i .before in
+    let a = first (outer l) .args in
+    part-bit (a .s) (joined l .if1 .place) (getD (a .targets .now) (l .loop .e) 0) (a .work .now) (fits (joined l))
+    (edges (outer l) .bits (l .loop .e) (edge-inside i))
+
+-- an edge into the set was found
+found :
+    (c : tie.Then2 Inv-loop μ-loop Inv-vertices μ-vertices) →
+    let l = c .before .before .before .before .before .before in
+    let a = first (outer l) .args in
+    someOf (targetsOf (a .offsets .now) (a .targets .now) (vertex (outer l))) (there (joined l)) ≡ true
+found c =
+    let i = c .before .before .before .before .before in
+    let l = i .before in
+    let a = first (outer l) .args in
+    some-at (a .offsets .now) (a .targets .now) (vertex (outer l)) (there (joined l)) (l .loop .e) (l .loop .inv .0)
+    (i .loop-test .taken) (edge-inside i) (asked (c .before) ∙ c .if2 .taken)
+
+-- none was
+none :
+    (c : tie.After-loop Inv-loop μ-loop Inv-vertices μ-vertices) →
+    let l = c .before in
+    let a = first (outer l) .args in
+    someOf (targetsOf (a .offsets .now) (a .targets .now) (vertex (outer l))) (there (joined l)) ≡ false
+none c =
+    let l = c .before in
+    let a = first (outer l) .args in
+    none-at-all (a .offsets .now) (a .targets .now) (vertex (outer l)) (there (joined l)) (l .loop .e)
+    (c .loop-test .left) (l .loop .inv .2)
 
 vertices-less : tie.Need-vertices-less Inv-loop μ-loop Inv-vertices μ-vertices
-vertices-less c = shorter (outer (c .before .before .before .before .before))
+vertices-less c = shorter (outer (c .before .before .before .before .before .before .before))
 
 vertices-again : tie.Need-vertices-again Inv-loop μ-loop Inv-vertices μ-vertices
 vertices-again c =
-    let i = c .before .before .before .before in
-    let l = i .before in
+    let l = c .before .before .before .before .before .before .before in
     let d = outer l in
     let a = first d .args in
     passed d
-    (shut-own (a .owners .now) (a .offsets .now) (a .targets .now) (a .alpha) (a .p) (a .regions) (a .work .now) (vertex d)
-    (c .before .if1 .taken)
-    (some-at (a .offsets .now) (a .targets .now) (vertex d) (at-p (first d)) (l .loop .e)
-    (l .loop .inv .0) (i .loop-test .taken) (edge-inside i) (eq-eqb _ _ (c .if2 .taken))))
+    (shut-own (a .owners .now) (a .offsets .now) (a .targets .now) (a .alpha) (a .held) (a .below) (a .work .now) (vertex d)
+    (joined l .if1 .place) (c .if3 .taken) (looked (joined l)) (found (c .before)))
 
 returns-2 : tie.Need-returns-2 Inv-loop μ-loop Inv-vertices μ-vertices
 returns-2 c =
-    let i = c .before .before .before .before in
-    let l = i .before in
+    let l = c .before .before .before .before .before .before .before in
     let d = outer l in
     let a = first d .args in
-    open-found (a .owners .now) (a .offsets .now) (a .targets .now) (a .alpha) (a .p) (a .held) (a .regions) (a .work .now)
+    open-found (a .owners .now) (a .offsets .now) (a .targets .now) (a .alpha) (a .held) (a .below) (a .work .now)
     (vertex d) (small d) (member d)
-    (open-other (a .owners .now) (a .offsets .now) (a .targets .now) (a .alpha) (a .p) (a .regions) (a .work .now) (vertex d)
-    (c .before .if1 .left)
-    (some-at (a .offsets .now) (a .targets .now) (vertex d) (under-p (first d)) (l .loop .e)
-    (l .loop .inv .0) (i .loop-test .taken) (edge-inside i) (lt-ltb _ _ (c .if3 .taken))))
+    (open-other (a .owners .now) (a .offsets .now) (a .targets .now) (a .alpha) (a .held) (a .below) (a .work .now) (vertex d)
+    (joined l .if1 .place) (c .if3 .left) (looked (joined l)) (found (c .before)))
 
 add-e : tie.Need-add-e Inv-loop μ-loop Inv-vertices μ-vertices
-add-e c = omega (arith, edge-inside (c .before .before .before), first (outer (c .before .before .before .before)) .good)
+add-e c =
+    let i = c .before .before .before .before .before in omega (arith, edge-inside i, first (outer (i .before)) .good)
 
 loop-less : tie.Need-loop-less Inv-loop μ-loop Inv-vertices μ-vertices
 loop-less c = search needs
 
 loop-again : tie.Need-loop-again Inv-loop μ-loop Inv-vertices μ-vertices
 loop-again c =
-    let i = c .before .before .before in
+    let i = c .before .before .before .before .before in
     let l = i .before in
     let d = outer l in
     let a = first d .args in (
       omega (arith, l .loop .inv .0),
       omega (arith, i .loop-test .taken),
-      λ own.
-          none-more (a .offsets .now) (a .targets .now) (vertex d) (at-p (first d)) (l .loop .e)
-          (l .loop .inv .2 own)
-          (⊎-elim (λ y. ne-eqb _ _ (y .1 .left)) (λ y. absurd (clash own (y .0 .left))) (c .if1 .came)),
-      λ other.
-          none-more (a .offsets .now) (a .targets .now) (vertex d) (under-p (first d)) (l .loop .e)
-          (l .loop .inv .3 other)
-          (⊎-elim (λ y. absurd (clash (y .0 .taken) other)) (λ y. le-ltb _ _ (y .1 .left)) (c .if1 .came)),
+      none-more (a .offsets .now) (a .targets .now) (vertex d) (there (joined l)) (l .loop .e) (l .loop .inv .2)
+          (asked (c .before) ∙ c .if2 .left),
     )
 
 returns-3 : tie.Need-returns-3 Inv-loop μ-loop Inv-vertices μ-vertices
@@ -295,12 +343,10 @@ returns-3 c =
     let l = c .before .before in
     let d = outer l in
     let a = first d .args in
-    open-found (a .owners .now) (a .offsets .now) (a .targets .now) (a .alpha) (a .p) (a .held) (a .regions) (a .work .now)
+    open-found (a .owners .now) (a .offsets .now) (a .targets .now) (a .alpha) (a .held) (a .below) (a .work .now)
     (vertex d) (small d) (member d)
-    (open-own (a .owners .now) (a .offsets .now) (a .targets .now) (a .alpha) (a .p) (a .regions) (a .work .now) (vertex d)
-    (c .if4 .taken)
-    (none-at-all (a .offsets .now) (a .targets .now) (vertex d) (at-p (first d)) (l .loop .e)
-    (c .before .loop-test .left) (l .loop .inv .2 (c .if4 .taken))))
+    (open-own (a .owners .now) (a .offsets .now) (a .targets .now) (a .alpha) (a .held) (a .below) (a .work .now) (vertex d)
+    (joined l .if1 .place) (c .if4 .taken) (looked (joined l)) (none (c .before)))
 
 vertices-less-2 : tie.Need-vertices-less-2 Inv-loop μ-loop Inv-vertices μ-vertices
 vertices-less-2 c = shorter (outer (c .before .before))
@@ -311,10 +357,8 @@ vertices-again-2 c =
     let d = outer l in
     let a = first d .args in
     passed d
-    (shut-other (a .owners .now) (a .offsets .now) (a .targets .now) (a .alpha) (a .p) (a .regions) (a .work .now) (vertex d)
-    (c .if4 .left)
-    (none-at-all (a .offsets .now) (a .targets .now) (vertex d) (under-p (first d)) (l .loop .e)
-    (c .before .loop-test .left) (l .loop .inv .3 (c .if4 .left))))
+    (shut-other (a .owners .now) (a .offsets .now) (a .targets .now) (a .alpha) (a .held) (a .below) (a .work .now) (vertex d)
+    (joined l .if1 .place) (c .if4 .left) (looked (joined l)) (none (c .before)))
 
 pub is-open-spec : {M : Type 1} → statement M
 is-open-spec =
@@ -352,9 +396,12 @@ is-open-spec =
     mul-w
     shared-slice-read-w
     cast-w
-    add-region
-    mul-region
-    shared-slice-read-region
+    add-contains
+    mul-contains
+    sub-contains
+    part-contains-start
+    part-contains-end
+    contains-requires
     vertices-less
     vertices-again
     returns-2

@@ -1,0 +1,77 @@
+-- `begin` meets its contract: nothing is won, the sets of the priorities are made, and the first level begins.
+use mathlib.Core.Logic.{inl, inr, ⊎-elim}
+use Prim.Native.Nat.{_+_, _*_}
+use native.Mathlib.Omega.{arith}
+use Rattle.sets.specs.After.{Cleared}
+use Rattle.promotion_begin.specs.Beginning.{begin-sortable, begin-descends, begun}
+use borrow.Author.Needs.{needs}
+use Rattle.promotion_begin.proofs.start.begin.Statement.{statement}
+use Rattle.promotion_begin.proofs.start.begin.Tie as tie
+
+-- where the function begins, and where the sets of what is won were cleared
+abbrev first : tie.After-clear → tie.Start
+first c = c .before .before .before .before
+
+-- nobody has won anything
+won-cleared :
+    (c : tie.After-clear) →
+    let a = first c .args in
+    Cleared (a .held + a .s) (2 * a .s) (a .work .now) (c .clear .last .0)
+won-cleared c =
+    let gone = c .clear .ensures in
+    record {
+      long = gone .long;
+      zeros = λ i low high. gone .zeros i low (omega arith);
+      rest = λ i out. gone .rest i (⊎-elim (λ l. inl l) (λ l. inr (omega arith)) out);
+    }
+
+abbrev cleared : tie.After-sort → tie.After-clear
+cleared c = c .before .before .before .before
+
+add-clear : tie.Need-add-clear
+add-clear c = search needs
+
+mul-clear : tie.Need-mul-clear
+mul-clear c = search needs
+
+clear-requires : tie.Need-clear-requires
+clear-requires c κs = search needs
+
+mul-sort : tie.Need-mul-sort
+mul-sort c = search needs
+
+sub-sort : tie.Need-sub-sort
+sub-sort c = search needs
+
+sort-requires : tie.Need-sort-requires
+sort-requires c κs = let d = c .before .before .before in begin-sortable (first d .pre) (won-cleared d)
+
+descend-requires : tie.Need-descend-requires
+descend-requires c κs =
+    let o = c .before .before .before in
+    let d = cleared o in
+    begin-descends (first d .pre) (won-cleared d) (o .sort .ensures)
+
+same-length : tie.Need-same-length
+same-length c = search needs
+
+returns : tie.Need-returns
+returns c =
+    let e = c .before .before in
+    let o = e .before .before .before .before in
+    let d = cleared o in
+    begun (first d .pre) (won-cleared d) (o .sort .ensures) (e .descend .ensures)
+
+pub begin-spec : {M : Type 1} → statement M
+begin-spec =
+    tie.close
+    (tie.spec
+    add-clear
+    mul-clear
+    clear-requires
+    mul-sort
+    sub-sort
+    sort-requires
+    descend-requires
+    same-length
+    returns)

@@ -1,0 +1,2 @@
+-- What `begin` asks for and leaves: the first state of priority promotion.
+pub mod Beginning

@@ -1,0 +1,33 @@
+// The state at first.
+use parity_game::Priority;
+use promotion_levels::descend;
+ghost use mathlib.Core.List.{List};
+ghost use mathlib.Core.Path.{_≡_};
+ghost use Prim.Native.Nat.{ℕ};
+ghost use lib.ListN.{length};
+ghost use Rattle.predecessors.specs.Table.{SoundEdges};
+ghost use Rattle.attractor.specs.Attracted.{Listed};
+ghost use Rattle.promotion_begin.specs.Beginning.{Beginnable, Begun};
+
+// The table of predecessors stands already, and the first level, whose priorities are at most `top`. Its vertices have
+// their priorities as regions and no entries.
+pub fn begin(
+    priorities: &[u16],
+    m: usize,
+    s: usize,
+    work: &mut [u64],
+    held: usize,
+    levels: usize,
+    top: usize,
+) -> Priority
+    requires { ⌜ Beginnable (now priorities) m s held levels top (now work) ⌝ }
+    ensures { λ r.
+        ⌜ ((offsets targets : List ℕ) → length targets ≡ m →
+        SoundEdges (length (now (priorities .entry))) offsets targets →
+        Listed (length (now (priorities .entry))) offsets targets (now (work .entry)) →
+        Begun (now (priorities .entry)) offsets targets s (r .0) (now (work .entry)) (now (work .exit))) ⌝ }
+{
+    sets::clear(work, held + s, 2 * s);
+    priority_sets::sort(priorities, s, work, held - 256 * s);
+    descend(priorities, m, s, work, held, levels, 0, top)
+}

@@ -1,0 +1,112 @@
+-- `descend` meets its contract: the highest priority is found and marked, and the level begins with it.
+use Rattle.promotion_levels.specs.Descending.{descend-room, descend-second, descend-searchable}
+use Rattle.promotion_levels.specs.Descending.{descend-beginnable, descended}
+use native.Mathlib.Omega.{arith}
+use borrow.Author.Needs.{needs}
+use Rattle.promotion_levels.proofs.levels.descend.Statement.{statement}
+use Rattle.promotion_levels.proofs.levels.descend.Tie as tie
+
+-- where the function begins
+abbrev start-of : tie.After-get-highest-prio → tie.Start
+start-of c = c .before .before .before .before .before
+
+mul-base : tie.Need-mul-base
+mul-base c = let g = c .before .before in omega (arith, descend-room (g .pre), g .good)
+
+add-base : tie.Need-add-base
+add-base c = let g = c .before .before in omega (arith, descend-room (g .pre), g .good)
+
+mul-depth : tie.Need-mul-depth
+mul-depth c = search needs
+
+add-depth : tie.Need-add-depth
+add-depth c = search needs
+
+add-get-highest-prio : tie.Need-add-get-highest-prio
+add-get-highest-prio c = let g = c .before .before in omega (arith, descend-room (g .pre), g .good)
+
+mul-get-highest-prio : tie.Need-mul-get-highest-prio
+mul-get-highest-prio c = let g = c .before .before in omega (arith, descend-room (g .pre), g .good)
+
+sub-get-highest-prio : tie.Need-sub-get-highest-prio
+sub-get-highest-prio c = search needs
+
+part-get-highest-prio-start : tie.Need-part-get-highest-prio-start
+part-get-highest-prio-start c = search needs
+
+part-get-highest-prio-end : tie.Need-part-get-highest-prio-end
+part-get-highest-prio-end c = omega (arith, descend-room (c .before .before .before .pre))
+
+get-highest-prio-requires : tie.Need-get-highest-prio-requires
+get-highest-prio-requires c κs = descend-searchable (c .before .before .before .before .pre)
+
+add-work : tie.Need-add-work
+add-work c = search needs
+
+add-work-2 : tie.Need-add-work-2
+add-work-2 c = search needs
+
+mul-work : tie.Need-mul-work
+mul-work c = search needs
+
+slice-write-work : tie.Need-slice-write-work
+slice-write-work c = search needs
+
+mul-work-2 : tie.Need-mul-work-2
+mul-work-2 c = search needs
+
+slice-write-work-2 : tie.Need-slice-write-work-2
+slice-write-work-2 c = descend-second (start-of c .pre) _
+
+add-begin-level : tie.Need-add-begin-level
+add-begin-level c = search needs
+
+add-begin-level-2 : tie.Need-add-begin-level-2
+add-begin-level-2 c = search needs
+
+add-begin-level-3 : tie.Need-add-begin-level-3
+add-begin-level-3 c = search needs
+
+add-begin-level-4 : tie.Need-add-begin-level-4
+add-begin-level-4 c = search needs
+
+begin-level-requires : tie.Need-begin-level-requires
+begin-level-requires c κs =
+    let found = c .before in descend-beginnable (start-of found .pre) (found .get-highest-prio .ensures)
+
+returns : tie.Need-returns
+returns c =
+    let began = c .before .before in
+    let found = began .before .before in
+    descended (start-of found .pre) (found .get-highest-prio .ensures) (began .begin-level .ensures)
+
+same-length : tie.Need-same-length
+same-length c = returns c .long
+
+pub descend-spec : {M : Type 1} → statement M
+descend-spec =
+    tie.close
+    (tie.spec
+    mul-base
+    add-base
+    mul-depth
+    add-depth
+    add-get-highest-prio
+    mul-get-highest-prio
+    sub-get-highest-prio
+    part-get-highest-prio-start
+    part-get-highest-prio-end
+    get-highest-prio-requires
+    add-work
+    add-work-2
+    mul-work
+    slice-write-work
+    mul-work-2
+    slice-write-work-2
+    add-begin-level
+    add-begin-level-2
+    add-begin-level-3
+    add-begin-level-4
+    begin-level-requires
+    same-length
+    returns)

@@ -1,0 +1,26 @@
+// Where R and the levels stand in the work area.
+ghost use mathlib.Core.Path.{_≡_};
+ghost use Prim.Native.Nat.{_+_, _≤_};
+ghost use Rattle.priority_sets.specs.Sorting.{Placeable};
+ghost use Rattle.promotion_levels.specs.Layout.{heldAt, deep};
+
+// R stands behind the sets of the priorities.
+pub fn held_at(n: usize, m: usize, s: usize) -> usize
+    requires { ⌜ Placeable n m s 255 ⌝ }
+    ensures { λ r. ⌜ r ≡ heldAt n m s ⌝ }
+{
+    let last = priority_sets::set_at(n, m, s, 255);
+    last + s
+}
+
+// The levels stand behind the number of the current one, which is at `depth`, and behind their priorities: one for each
+// different priority, and two more.
+pub fn levels_at(n: usize, depth: usize) -> usize
+    requires { ⌜ depth ≤ 65535 ⌝ }
+    ensures { λ r. ⌜ r ≡ depth + 1 + deep n ⌝ }
+{
+    if n < 256 {
+        return depth + 3 + n;
+    }
+    depth + 259
+}
