@@ -7,7 +7,7 @@ use native.Mathlib.Omega.{arith}
 use lib.ListN.{length, List·getD-eq-default}
 use lib.Seq.{ext-getD}
 use Rattle.rules.specs.Words.{noEntry, entry}
-use Rattle.theory.specs.Basics.{lt-or-ge}
+use Rattle.basics.specs.Basics.{lt-or-ge}
 
 pub record Alike (free : ℕ → Type 0) (strategy strategy′ : List ℕ) : Type 0 where
   pub long : length strategy ≡ length strategy′

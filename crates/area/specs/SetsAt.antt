@@ -12,7 +12,7 @@ use lib.ListN.{getD, drop, length-take}
 use Rattle.rules.specs.Counting.{Set}
 use Rattle.rules.specs.Tables.{words}
 use Rattle.rules.specs.Words.{digit, setOf}
-use Rattle.theory.specs.Basics.{clash, lt-or-ge}
+use Rattle.basics.specs.Basics.{clash, lt-or-ge}
 use Rattle.sets.specs.After.{Combined, Cleared, other}
 use Rattle.sets.specs.Digits.{digit-zero}
 use Rattle.sets.specs.Laws.{bit-take, bit-drop, bit-past, bit-other, union-set, difference-set}

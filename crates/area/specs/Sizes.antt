@@ -7,7 +7,7 @@ use native.Mathlib.Omega.{arith}
 use lib.ListN.{length}
 use Rattle.rules.specs.Counting.{count}
 use Rattle.rules.specs.Tables.{words}
-use Rattle.theory.specs.Basics.{not-true-is-false, count-none, count-le, count-on}
+use Rattle.basics.specs.Basics.{not-true-is-false, count-none, count-le, count-on}
 use Rattle.walk.specs.MemberLaws.{length-members}
 use Rattle.walk.specs.Walk.{members}
 use Rattle.area.specs.Area.{setAt, wordsAt}

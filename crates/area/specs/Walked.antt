@@ -11,7 +11,7 @@ use lib.ListN.{length, getD, take, drop, set, length-take, length-set}
 use lib.Seq.{getD-set-same, getD-set-other}
 use Rattle.rules.specs.Counting.{times}
 use Rattle.rules.specs.Tables.{words}
-use Rattle.theory.specs.Basics.{clash}
+use Rattle.basics.specs.Basics.{clash}
 use Rattle.sets.specs.Laws.{member-bit}
 use Rattle.walk.specs.MemberLaws.{times-members}
 use Rattle.walk.specs.Walk.{members, left}

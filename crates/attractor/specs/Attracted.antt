@@ -14,7 +14,7 @@ use Rattle.rules.specs.Game.{Player, playerOf, same}
 use Rattle.rules.specs.Tables.{Tables, gameOf, vertices, edgesIn, words, targetsOf, Accepted, tablesOf}
 use Rattle.rules.specs.Attractor.{attractor, looksOf}
 use Rattle.rules.specs.Distance.{distance, attractorEntry}
-use Rattle.theory.specs.Basics.{member-place, lt-or-ge}
+use Rattle.basics.specs.Basics.{member-place, lt-or-ge}
 use Rattle.theory.specs.Bits.{Bits}
 use Rattle.parity_game.specs.Laws.{accepted-sound, never-falls}
 use Rattle.predecessors.specs.Table.{start, row, SoundEdges, Predecessors}

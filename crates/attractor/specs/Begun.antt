@@ -10,7 +10,7 @@ use lib.ListN.{length, getD, take, drop, length-take}
 use lib.Seq.{getD-take, getD-drop}
 use Rattle.rules.specs.Counting.{Set}
 use Rattle.rules.specs.Words.{digit, bit, setOf}
-use Rattle.theory.specs.Basics.{lt-or-ge}
+use Rattle.basics.specs.Basics.{lt-or-ge}
 use Rattle.sets.specs.After.{Combined, Cleared, other}
 use Rattle.sets.specs.Laws.{bit-past, bit-take, bit-other, bit-drop}
 use Rattle.area.specs.Lent.{part-length, back, back-part, slice-alike}

@@ -15,12 +15,13 @@ use Rattle.rules.specs.Game.{Player, Game, Edge, playerOf, same}
 use Rattle.rules.specs.Tables.{Tables, gameOf, vertices, edgesIn, words, targetsOf, Accepted, tablesOf}
 use Rattle.rules.specs.Attractor.{attractor, looksOf, atFirst, TakesOne, Takes, Finished}
 use Rattle.rules.specs.Distance.{distance, attractorEntry}
-use Rattle.theory.specs.Basics.{clash, not-true-is-false, count-le, count-strict}
-use Rattle.theory.specs.Basics.{and-intro, or-left, or-right, same-true, true-same}
+use Rattle.basics.specs.Basics.{clash, not-true-is-false, count-le, count-strict}
+use Rattle.basics.specs.Basics.{and-intro, or-left, or-right}
+use Rattle.theory.specs.Players.{same-true, true-same}
 use Rattle.theory.specs.Bits.{Bits}
 use Rattle.theory.specs.Attractor.{Fits, attractor-inside}
 use Rattle.theory.specs.AttractorSteps.{takes-then, steps-members, steps-looks}
-use Rattle.theory.specs.Tables.{accepted-total}
+use Rattle.accepted.specs.Tables.{accepted-total}
 use Rattle.predecessors.specs.Table.{start, row}
 use Rattle.sets.specs.Laws.{other-bit}
 use Rattle.area.specs.Area.{counters, distances, entries, layers, layerWords, metAt, free, setAt, wordsAt, entryAt}
@@ -30,7 +31,7 @@ use Rattle.area.specs.Walked.{Beside}
 use Rattle.layer.specs.Layer.{Layer, Poppable, Popped, inLayer, room, marks}
 use Rattle.layer.specs.Laws.{unmarked-empty}
 use Rattle.attractor_counters.specs.Counters.{ownBy, insideCount}
-use Rattle.theory.specs.AttractorBasics.{countOf}
+use Rattle.basics.specs.Sums.{countOf}
 use Rattle.attractor_step.specs.State.{State, looked}
 use Rattle.attractor_step.specs.Growth.{Mark}
 use Rattle.attractor_step.specs.Looks.{Safe, onward-looked}

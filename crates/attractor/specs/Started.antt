@@ -11,8 +11,8 @@ use Rattle.rules.specs.Game.{playerOf}
 use Rattle.rules.specs.Tables.{gameOf, words, targetsOf, Accepted, tablesOf}
 use Rattle.rules.specs.Attractor.{atFirst, Takes, stop}
 use Rattle.rules.specs.Words.{setOf}
-use Rattle.theory.specs.Basics.{bool-cases, clash}
-use Rattle.theory.specs.AttractorBasics.{countOf}
+use Rattle.basics.specs.Basics.{bool-cases, clash}
+use Rattle.basics.specs.Sums.{countOf}
 use Rattle.sets.specs.After.{Cleared}
 use Rattle.area.specs.Area.{entries, layers, layerWords, metAt, free, setAt}
 use Rattle.area.specs.Lent.{set-alike, words-few}

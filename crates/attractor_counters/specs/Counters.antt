@@ -15,8 +15,8 @@ use lib.Seq.{take-suc, getD-drop, getD-set-same, getD-set-other}
 use Rattle.rules.specs.Counting.{Set}
 use Rattle.rules.specs.Tables.{words, degree, targetsOf}
 use Rattle.rules.specs.Words.{setOf}
-use Rattle.theory.specs.Basics.{lt-or-ge}
-use Rattle.theory.specs.AttractorBasics.{countOf}
+use Rattle.basics.specs.Basics.{lt-or-ge}
+use Rattle.basics.specs.Sums.{countOf}
 use Rattle.parity_game.specs.Laws.{never-falls}
 use Rattle.predecessors.specs.Table.{SoundEdges}
 use Rattle.sets.specs.After.{Put}

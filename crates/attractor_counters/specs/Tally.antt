@@ -9,8 +9,8 @@ use native.Mathlib.Omega.{arith}
 use borrow.Author.Tests.{eq-eqb, ne-eqb}
 use lib.Dec.{eqb}
 use Rattle.rules.specs.Counting.{Set, times}
-use Rattle.theory.specs.Basics.{bool-cases, not-false-is-true}
-use Rattle.theory.specs.AttractorBasics.{countOf}
+use Rattle.basics.specs.Basics.{bool-cases, not-false-is-true}
+use Rattle.basics.specs.Sums.{countOf}
 
 -- a test as a number
 abbrev pub flag : Bool → ℕ

@@ -4,7 +4,7 @@ ghost use mathlib.Core.Path.{_≡_};
 ghost use lib.ListN.{length};
 ghost use Rattle.rules.specs.Tables.{targetsOf};
 ghost use Rattle.rules.specs.Words.{setOf};
-ghost use Rattle.theory.specs.AttractorBasics.{countOf};
+ghost use Rattle.basics.specs.Sums.{countOf};
 ghost use Rattle.area.specs.Area.{setAt};
 ghost use Rattle.attractor_counters.specs.Counters.{EdgesOf, insideCount, Countable, CountedDown};
 

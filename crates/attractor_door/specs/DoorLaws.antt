@@ -12,7 +12,7 @@ use Rattle.rules.specs.Outcome.{Verdict, none, refused}
 use Rattle.rules.specs.Tables.{words, workWords, check9, check10}
 use Rattle.rules.specs.Words.{setOf}
 use Rattle.rules.specs.Attractor.{check12}
-use Rattle.theory.specs.Basics.{clash, lt-or-ge, not-false-is-true}
+use Rattle.basics.specs.Basics.{clash, lt-or-ge, not-false-is-true}
 use Rattle.parity_game.specs.Laws.{givenAt-none}
 use Rattle.sets.specs.Laws.{member-inside}
 use Rattle.attractor_door.specs.Door.{stray, sizeChecks}

@@ -17,10 +17,10 @@ use Rattle.rules.specs.Outcome.{Outcome, Verdict, none, refused, outcome, answe
 use Rattle.rules.specs.Tables.{Tables, gameOf, vertices}
 use Rattle.rules.specs.Words.{setOf}
 use Rattle.theory.specs.Attractor.{Fits, attractor-below, attractor-is}
-use Rattle.theory.specs.Basics.{lt-or-ge, not-true-is-false, getD-listed, length-listed}
+use Rattle.basics.specs.Basics.{lt-or-ge, not-true-is-false, getD-listed, length-listed}
 use Rattle.theory.specs.Distance.{distance-is}
 use Rattle.theory.specs.DistanceEntries.{entries-arrive}
-use Rattle.theory.specs.PromotionBasics.{noted-above}
+use Rattle.basics.specs.Basics.{noted-above}
 use Rattle.parity_game.specs.Laws.{zero-none, accepted-sound}
 use Rattle.sets.specs.Same.{holds-same}
 use Rattle.attractor_door.specs.Answered.{numbered-checks, checks-passed}

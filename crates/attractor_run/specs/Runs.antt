@@ -14,8 +14,9 @@ use Rattle.rules.specs.Game.{Player, Game, playerOf, same}
 use Rattle.rules.specs.Tables.{Tables, gameOf, vertices, edgesIn, words, Accepted, tablesOf}
 use Rattle.rules.specs.Words.{setOf, noEntry}
 use Rattle.theory.specs.Attractor.{Fits, attractor-below}
-use Rattle.theory.specs.Basics.{clash, bool-cases, and-left, and-right, not-true-is-false, same-true, true-same}
-use Rattle.theory.specs.Basics.{length-listed, getD-listed, listed-is}
+use Rattle.basics.specs.Basics.{clash, bool-cases, and-left, and-right, not-true-is-false}
+use Rattle.theory.specs.Players.{same-true, true-same}
+use Rattle.basics.specs.Basics.{length-listed, getD-listed, listed-is}
 use Rattle.theory.specs.Bits.{Bits, narrow-holds}
 use Rattle.theory.specs.Distance.{distance-target, distance-outside, distance-low, entry-nearest, entry-none, nearest-sinks}
 use Rattle.predecessors.specs.Table.{SoundEdges}

@@ -3,7 +3,7 @@ use mathlib.Core.Bool.{Bool, true, false}
 use mathlib.Core.Path.{_≡_, refl}
 use Prim.Native.Nat.{ℕ, _+_, _-_, _≤_, _<_}
 use native.Mathlib.Omega.{arith}
-use Rattle.theory.specs.Basics.{clash}
+use Rattle.basics.specs.Basics.{clash}
 
 -- of a vertex by whether it is in V', in T and own, how many of its edges end in V', whether it is in, its counter, and how
 -- many of its predecessor entries were met

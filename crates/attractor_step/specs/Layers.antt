@@ -14,10 +14,11 @@ use Rattle.rules.specs.Counting.{Set, times}
 use Rattle.rules.specs.Game.{Player, Game, Edge, same}
 use Rattle.rules.specs.Attractor.{grown, attractor}
 use Rattle.rules.specs.Distance.{outside, distance, attractorEntry}
-use Rattle.theory.specs.Basics.{bool-cases, clash, bool-ext, and-intro, and-left}
-use Rattle.theory.specs.Basics.{and-right, or-left, or-right, or-cases, lt-or-ge}
-use Rattle.theory.specs.Basics.{not-true-is-false, not-false-is-true, same-true, same-false, times-pos, times-member}
-use Rattle.theory.specs.AttractorBasics.{countOf}
+use Rattle.basics.specs.Basics.{bool-cases, clash, bool-ext, and-intro, and-left}
+use Rattle.basics.specs.Basics.{and-right, or-left, or-right, or-cases, lt-or-ge}
+use Rattle.basics.specs.Basics.{not-true-is-false, not-false-is-true, times-pos, times-member}
+use Rattle.theory.specs.Players.{same-true, same-false}
+use Rattle.basics.specs.Sums.{countOf}
 use Rattle.theory.specs.Attractor.{Draws, Fits, draws-all, draws-more, grown-zero, attractor-is}
 use Rattle.theory.specs.Distance.{distance-target, distance-draws, near-grown, grown-near, own-joins, other-joins, entry-first}
 use Rattle.attractor_counters.specs.Tally.{tally-pos}

@@ -11,8 +11,8 @@ use borrow.Author.Tests.{eq-eqb, ne-eqb, eqb-true, eqb-false}
 use lib.Dec.{eqb}
 use lib.ListN.{length, getD, take}
 use Rattle.rules.specs.Counting.{Set, times}
-use Rattle.theory.specs.Basics.{bool-cases, clash, not-true-is-false}
-use Rattle.theory.specs.AttractorBasics.{countOf}
+use Rattle.basics.specs.Basics.{bool-cases, clash, not-true-is-false}
+use Rattle.basics.specs.Sums.{countOf}
 use Rattle.attractor_counters.specs.Tally.{flag, flag-one, tally-mono}
 use Rattle.attractor_step.specs.State.{State, put, withOne, joined, entered, counted, touched, looked}
 use Rattle.attractor_step.specs.Growth.{Mark, mark-outside, mark-again, mark-own, mark-last, mark-count}

@@ -8,7 +8,7 @@ use Prim.Native.Nat.{ℕ, _-_}
 use borrow.Author.Tests.{not-false, eq-eqb, ne-eqb}
 use lib.Dec.{eqb}
 use Rattle.rules.specs.Counting.{Set}
-use Rattle.theory.specs.Basics.{bool-cases, clash, and-false-cases}
+use Rattle.basics.specs.Basics.{bool-cases, clash, and-false-cases}
 
 pub record State : Type 0 where
   pub members : Set

@@ -12,10 +12,11 @@ use lib.ListN.{length, getD, take}
 use Rattle.rules.specs.Counting.{Set, someOf, times}
 use Rattle.rules.specs.Game.{Player, Game, edges, same}
 use Rattle.rules.specs.Attractor.{drawn, Growing, TakesOne}
-use Rattle.theory.specs.Basics.{bool-cases, clash, bool-ext, and-intro, and-right, or-left, or-right, or-cases}
-use Rattle.theory.specs.Basics.{not-true-is-false, not-false-is-true, same-true, same-false, true-same, false-same}
-use Rattle.theory.specs.Basics.{times-member, someOf-intro, lt-or-ge}
-use Rattle.theory.specs.AttractorBasics.{countOf}
+use Rattle.basics.specs.Basics.{bool-cases, clash, bool-ext, and-intro, and-right, or-left, or-right, or-cases}
+use Rattle.basics.specs.Basics.{not-true-is-false, not-false-is-true}
+use Rattle.theory.specs.Players.{same-true, same-false, true-same, false-same}
+use Rattle.basics.specs.Basics.{times-member, someOf-intro, lt-or-ge}
+use Rattle.basics.specs.Sums.{countOf}
 use Rattle.theory.specs.Attractor.{Draws, by-own, by-other, draws, drawn-so}
 use Rattle.attractor_counters.specs.Tally.{tally-mono-on, tally-more, tally-pos, tally-some, tally-full}
 use Rattle.attractor_step.specs.State.{State, looked}

@@ -13,7 +13,7 @@ use lib.ListN.{length, getD, take, drop, set, length-set}
 use lib.Seq.{getD-set-same, getD-set-other}
 use Rattle.rules.specs.Counting.{Set}
 use Rattle.rules.specs.Tables.{words}
-use Rattle.theory.specs.Basics.{lt-or-ge}
+use Rattle.basics.specs.Basics.{lt-or-ge}
 use Rattle.sets.specs.After.{Put}
 use Rattle.area.specs.Area.{counters, distances, entries, layers, layerWords, metAt, setAt}
 use Rattle.area.specs.Lent.{set-alike, slice-alike, part-is, part-length, words-enough}

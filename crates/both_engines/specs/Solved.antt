@@ -19,7 +19,7 @@ use Rattle.rules.specs.Solver.{Lent, solverChecks, Solves, Leaves, Stopped, Ans
 use Rattle.rules.specs.Tables.{Tables, vertices, edgesIn, words, workWords, gameOf, Accepted, tableChecks, check9, check10}
 use Rattle.rules.specs.Words.{setOf, Holds}
 use Rattle.rules.specs.Zielonka.{zielonka}
-use Rattle.theory.specs.Basics.{clash, length-listed, getD-listed}
+use Rattle.basics.specs.Basics.{clash, length-listed, getD-listed}
 use Rattle.kept_numbers.specs.Reading as Reading
 use Rattle.printing.specs.declared.line.Counted.{Counted}
 use Rattle.printing.specs.declared.line.Counted.the-variants.{Needed, Over}

@@ -12,7 +12,7 @@ use lib.ListN.{length, getD, set}
 use Rattle.rules.specs.Counting.{Set, count}
 use Rattle.rules.specs.Loop.{alone}
 use Rattle.rules.specs.Winning.{Reach}
-use Rattle.theory.specs.Basics.{clash, below-suc, count-strict, count-le}
+use Rattle.basics.specs.Basics.{clash, below-suc, count-strict, count-le}
 use Rattle.theory.specs.DepthFirst.{Marks, marks-cases, marks-keeps, marks-count}
 use Rattle.sets.specs.After.{Cleared}
 use Rattle.depth_first.specs.Area.{queue, labels, hits, Within, within-then, within-store, true-marked, marked-true}

@@ -12,7 +12,7 @@ use lib.ListN.{length, getD}
 use Rattle.rules.specs.Counting.{Set, count}
 use Rattle.rules.specs.Loop.{Path, alone, next}
 use Rattle.rules.specs.Winning.{Reach, here, step}
-use Rattle.theory.specs.Basics.{bool-cases, clash, below-suc, lt-or-ge}
+use Rattle.basics.specs.Basics.{bool-cases, clash, below-suc, lt-or-ge}
 use Rattle.theory.specs.Loop.{path-map}
 use Rattle.depth_first.specs.Area.{queue, labels, hits, Within, within-same, within-then, true-marked, marked-true}
 use Rattle.depth_first.specs.Graph.{Graph, size, edgeCount, priority, Leads, SoundGraph}

@@ -18,12 +18,13 @@ use Rattle.rules.specs.Words.{setOf, entry}
 use Rattle.rules.specs.Zielonka.{highestIn}
 use Rattle.rules.specs.Solver.{cleared}
 use Rattle.rules.specs.Checker.{winnerOf, nothingChosen, check21, check22, check23, check24, certificateChecks, leftBy, Checks}
-use Rattle.theory.specs.Basics.{lt-or-ge, same-true}
+use Rattle.basics.specs.Basics.{lt-or-ge}
+use Rattle.theory.specs.Players.{same-true}
 use Rattle.theory.specs.Checker.{after22}
 use Rattle.theory.specs.Chosen.{chosenPart, check24-chosen, givenAt-cong}
 use Rattle.theory.specs.Dominion.{owner-cases}
-use Rattle.theory.specs.Greatest.{greatest-le}
-use Rattle.theory.specs.Tables.{accepted-total, accepted-priority}
+use Rattle.basics.specs.Greatest.{greatest-le}
+use Rattle.accepted.specs.Tables.{accepted-total, accepted-priority}
 use Rattle.parity_game.specs.Laws.{accepted-sound, outcome-pass}
 use Rattle.parity_game.specs.Laws.{Numbered, numbered-givenAt}
 use Rattle.predecessors.specs.Whole.{accepted-edges}

@@ -17,7 +17,7 @@ use Rattle.rules.specs.Winning.{WinningSets, WinningEntries}
 use Rattle.theory.specs.Bits.{Bits}
 use Rattle.theory.specs.Checker.{Certified, accepted-certificate-yes, winning-gets-yes}
 use Rattle.theory.specs.NothingChosen.{Unchosen, no-strategy-tells, no-strategy-given}
-use Rattle.theory.specs.Tables.{accepted-total}
+use Rattle.accepted.specs.Tables.{accepted-total}
 use Rattle.parity_game.specs.Said.{refusal}
 use Rattle.parity_game.specs.Laws.{Numbered, numbered-givenAt, numbered-then, then-none, zero-none, outcome-pass}
 use Rattle.lent_checks.specs.Checks.{checksBy, numbered-by, checks-passed}

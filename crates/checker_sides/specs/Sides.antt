@@ -16,9 +16,9 @@ use Rattle.rules.specs.Outcome.{outcome, answered}
 use Rattle.rules.specs.Tables.{Tables, words, gameOf, targetsOf}
 use Rattle.rules.specs.Words.{setOf, entry, noEntry}
 use Rattle.rules.specs.Checker.{check21, winnerOf, sameSide}
-use Rattle.theory.specs.Basics.{clash, not-true-is-false, below-suc, every-intro, every-elim}
-use Rattle.theory.specs.Basics.{someOf-intro, false-someOf, everyOf-intro, everyOf-elim}
-use Rattle.theory.specs.Tables.{edge-place, place-edge}
+use Rattle.basics.specs.Basics.{clash, not-true-is-false, below-suc, every-intro, every-elim}
+use Rattle.basics.specs.Basics.{someOf-intro, false-someOf, everyOf-intro, everyOf-elim}
+use Rattle.accepted.specs.Tables.{edge-place, place-edge}
 use Rattle.parity_game.specs.Said.{refusal}
 use Rattle.parity_game.specs.Search.{FailsBelow, outcome-found, outcome-none}
 use Rattle.predecessors.specs.Table.{SoundEdges}

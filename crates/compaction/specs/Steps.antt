@@ -13,7 +13,7 @@ use lib.ListN.{length, getD, set, replicate, getD-replicate, length-replicate, l
 use lib.Seq.{getD-set-same, getD-set-other, ext-getD}
 use Rattle.rules.specs.Compaction.{Last, last, used, nextNumber, lastBelow, compacted}
 use Rattle.rules.specs.Counting.{Set, some}
-use Rattle.theory.specs.Basics.{bool-cases, clash, or-right, below-suc}
+use Rattle.basics.specs.Basics.{bool-cases, clash, or-right, below-suc}
 use Rattle.theory.specs.Compaction.{getD-map-below, entry-used, number-small, last-used, last-unused}
 use Rattle.compaction.specs.Marks.{Small, marked, Marks, lastGiven, Numbers}
 

@@ -11,7 +11,7 @@ use lib.Dec.{eqb, ltb}
 use lib.ListN.{length, getD, take, drop, set, length-set, length-take, length-drop}
 use lib.Seq.{ext-getD, getD-take, getD-drop, getD-set-other, take-suc}
 use Rattle.rules.specs.Counting.{Set}
-use Rattle.theory.specs.Basics.{bool-ext, and-intro, and-left, and-right, not-true-is-false, clash}
+use Rattle.basics.specs.Basics.{bool-ext, and-intro, and-left, and-right, not-true-is-false, clash}
 use Rattle.theory.specs.DepthFirst.{Marks}
 use Rattle.sets.specs.After as After
 

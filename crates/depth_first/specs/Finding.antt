@@ -11,8 +11,8 @@ use lib.Dec.{eqb}
 use lib.ListN.{length, getD, set}
 use Rattle.rules.specs.Counting.{Set, count}
 use Rattle.rules.specs.Winning.{step}
-use Rattle.theory.specs.Basics.{bool-cases, clash, bool-ext, and-intro, and-left, and-right, not-true-is-false, lt-or-ge}
-use Rattle.theory.specs.Basics.{count-pos}
+use Rattle.basics.specs.Basics.{bool-cases, clash, bool-ext, and-intro, and-left, and-right, not-true-is-false, lt-or-ge}
+use Rattle.basics.specs.Basics.{count-pos}
 use Rattle.theory.specs.DepthFirst.{Marks}
 use Rattle.theory.specs.Kosaraju.{PartSought, part-starts, SecondPass, second-pass-starts, second-pass-skips, second-pass-assigns, second-pass-ends}
 use Rattle.theory.specs.Solitaire.{at-most-intro}

@@ -13,9 +13,9 @@ use Rattle.rules.specs.Counting.{someOf}
 use Rattle.rules.specs.Game.{Edge}
 use Rattle.rules.specs.Tables.{Tables, gameOf}
 use Rattle.rules.specs.Words.{entry, noEntry}
-use Rattle.theory.specs.Basics.{bool-cases, and-intro, and-left, and-right, or-left, or-right, or-cases}
+use Rattle.basics.specs.Basics.{bool-cases, and-intro, and-left, and-right, or-left, or-right, or-cases}
 use Rattle.theory.specs.Solitaire.{edge-test, test-edge, at-most-elim, at-most-intro}
-use Rattle.theory.specs.Tables as Tables
+use Rattle.accepted.specs.Tables as Tables
 use Rattle.predecessors.specs.Steps.{offset-within}
 use Rattle.depth_first.specs.Graph.{Graph, size, edgeCount, priority, offset, target, gameIn, low, Leads, SoundGraph, keeping, freshAt}
 

@@ -7,7 +7,7 @@ use Prim.Native.Nat.{ℕ, suc, _+_, _-_, _≤_, _<_}
 use native.Mathlib.Numerals.{add-one}
 use native.Mathlib.Omega.{arith}
 use lib.ListN.{length, getD}
-use Rattle.theory.specs.Basics.{bool-cases, clash, not-false-is-true, below-suc}
+use Rattle.basics.specs.Basics.{bool-cases, clash, not-false-is-true, below-suc}
 use Rattle.theory.specs.DepthFirst.{ReachesUp, dfs-starts}
 use Rattle.theory.specs.Solitaire.{at-most-elim}
 use Rattle.depth_first.specs.Area.{marks, queue, false-marked, marked-false, marked-true}

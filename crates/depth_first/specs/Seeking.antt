@@ -10,8 +10,8 @@ use native.Mathlib.Omega.{arith}
 use lib.ListN.{length, getD, set}
 use Rattle.rules.specs.Counting.{Set, count}
 use Rattle.rules.specs.Game.{Edge}
-use Rattle.theory.specs.Basics.{clash, and-intro, and-left, and-right, not-false-is-true, not-true-is-false, below-suc}
-use Rattle.theory.specs.Basics.{count-strict, count-le}
+use Rattle.basics.specs.Basics.{clash, and-intro, and-left, and-right, not-false-is-true, not-true-is-false, below-suc}
+use Rattle.basics.specs.Basics.{count-strict, count-le}
 use Rattle.theory.specs.DepthFirst.{FinishingOrder, Marks, marks-cases, marks-keeps, marks-count}
 use Rattle.theory.specs.Kosaraju.{Assigned, PartSought}
 use Rattle.depth_first.specs.Area.{marks, order, queue, labels, hits, Within, within-same, within-then, within-store}

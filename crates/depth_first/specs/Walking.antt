@@ -13,7 +13,7 @@ use lib.Seq.{getD-set-same, getD-set-other}
 use native.Mathlib.Nat.{le-refl}
 use Rattle.rules.specs.Counting.{Set}
 use Rattle.rules.specs.Winning.{here, step}
-use Rattle.theory.specs.Basics.{bool-ext, clash, not-false-is-true, and-intro, and-left, and-right, lt-or-ge, below-suc}
+use Rattle.basics.specs.Basics.{bool-ext, clash, not-false-is-true, and-intro, and-left, and-right, lt-or-ge, below-suc}
 use Rattle.theory.specs.Walks.{Relation, reach-step}
 use Rattle.theory.specs.DepthFirst.{Searched, searching, ReachesUp, Marks, marks-keeps, each-last, dfs-pushes, dfs-pops, dfs-room}
 use Rattle.theory.specs.DepthFirst.{marks-cases}

@@ -7,7 +7,7 @@ use native.Mathlib.Omega.{arith}
 use borrow.Author.Tests.{eqb-true, eqb-false, leb-true, ne-eqb}
 use lib.Dec.{eqb, leb}
 use Rattle.rules.specs.Pgsolver.{separates, isDigit, quote, comma, semicolon}
-use Rattle.theory.specs.Basics.{and-left, and-right}
+use Rattle.basics.specs.Basics.{and-left, and-right}
 use Rattle.grammar.specs.Machine.{Class, separatorByte, digitByte, commaByte, semicolonByte, quoteByte, letterByte}
 use Rattle.grammar.specs.Machine.{otherByte, classOf, isLetter, Went, byClass, Machine, on}
 

@@ -13,7 +13,7 @@ use lib.Seq.{append-snoc, take-at, take-append-le, getD-append-seam}
 use Rattle.rules.specs.Outcome.{Verdict, none, refused}
 use Rattle.rules.specs.Pgsolver.{Entry, Header, unsaid, Blank, Opening, Records, Text, Viable}
 use Rattle.rules.specs.Reading.{Limits, Stuck, Beyond, Over, Reads}
-use Rattle.theory.specs.Basics.{below-suc}
+use Rattle.basics.specs.Basics.{below-suc}
 use Rattle.grammar.specs.Machine.{Machine, atFirst, Went, on, off, over, Run, live, ended, runFrom, mayEnd, Read, endOf}
 use Rattle.grammar.specs.Machine.{readingOf, nothingRead}
 use Rattle.grammar.specs.Free.{freeStep, follow, Goes, goes-first, goes-same, off-not-on, over-not-on}

@@ -11,7 +11,7 @@ use lib.Dec.{ltb}
 use lib.ListN.{length, getD, length-append, List·getD-append}
 use Rattle.rules.specs.Decimal.{digitsIn, decimal}
 use Rattle.rules.specs.Pgsolver.{Number, first, next, isDigit}
-use Rattle.theory.specs.Basics.{and-intro, lt-or-ge}
+use Rattle.basics.specs.Basics.{and-intro, lt-or-ge}
 
 -- one digit
 digits-small : (m n : ℕ) → n < 10 → digitsIn (suc m) n ≡ (48 + n) ∷ []

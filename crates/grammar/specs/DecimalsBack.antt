@@ -10,7 +10,7 @@ use lib.Dec.{leb}
 use lib.ListN.{length, getD, length-append, List·getD-append}
 use Rattle.rules.specs.Decimal.{decimal}
 use Rattle.rules.specs.Pgsolver.{Number, first, next, isDigit}
-use Rattle.theory.specs.Basics.{and-left, and-right}
+use Rattle.basics.specs.Basics.{and-left, and-right}
 use Rattle.grammar.specs.Decimals.{decimal-small, decimal-large}
 
 digit-low : (b : ℕ) → isDigit b ≡ true → 48 ≤ b

@@ -12,7 +12,7 @@ use lib.ListN.{length, getD}
 use Rattle.rules.specs.Pgsolver.{isDigit, parityWord, Entry, Header, unsaid, highest}
 use Rattle.rules.specs.Reading.{Limits, highestNumber, Kind, asHighest, asIdentifier, asPriority, asOwner, asTarget, TooMuch}
 use Rattle.rules.specs.Reading.{Beyond}
-use Rattle.theory.specs.Basics.{or-left, or-right, or-cases, or-false-both}
+use Rattle.basics.specs.Basics.{or-left, or-right, or-cases, or-false-both}
 use Rattle.grammar.specs.Machine.{Class, byClass, Machine, Went, on, off, over, reading, targetsRead, stepFrom, begins, to}
 use Rattle.grammar.specs.Machine.{Phase, atStart, inWord, pastWord, inHighest, pastHighest, betweenRecords, inIdentifier}
 use Rattle.grammar.specs.Machine.{pastIdentifier, inPriority, pastPriority, inOwner, pastOwner, inTarget, pastTarget}

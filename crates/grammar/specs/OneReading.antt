@@ -14,7 +14,7 @@ use Rattle.rules.specs.Counting.{times, some}
 use Rattle.rules.specs.Outcome.{Verdict, none, refused, given, givenAt, _then_}
 use Rattle.rules.specs.Pgsolver.{Entry, Header, unsaid, highest, Text, Viable}
 use Rattle.rules.specs.Reading.{Limits, Stuck, Over, Reads, check31, wrongHighest}
-use Rattle.theory.specs.Basics.{lt-or-ge, some-false, false-some}
+use Rattle.basics.specs.Basics.{lt-or-ge, some-false, false-some}
 use Rattle.grammar.specs.Machine.{Machine}
 use Rattle.grammar.specs.Reaches.{stands-same}
 use Rattle.grammar.specs.Viable.{text-viable, text-stands}

@@ -13,7 +13,7 @@ use lib.Seq.{take-suc}
 use Rattle.rules.specs.Pgsolver.{separates, isDigit, quote, comma, semicolon, parityWord, Entry, withTarget, Header, unsaid}
 use Rattle.rules.specs.Pgsolver.{highest, Blank, Gap, Number, Quoted, Name, Fields, Recorded, Opening, Records}
 use Rattle.rules.specs.Reading.{Kind, asTarget}
-use Rattle.theory.specs.Basics.{lt-or-ge}
+use Rattle.basics.specs.Basics.{lt-or-ge}
 use Rattle.grammar.specs.Machine.{Class, byClass, Machine, on, off, atFirst, noEntryYet, to, isLetter, reading, longer}
 use Rattle.grammar.specs.Machine.{Phase, inWord, pastHighest, betweenRecords, pastTarget, pastComma, inName, pastName}
 use Rattle.grammar.specs.Free.{freeFrom, freeStep, starts, on-same, off-not-on}

@@ -11,7 +11,7 @@ use Rattle.rules.specs.Counting.{some, lowest, times, listed}
 use Rattle.rules.specs.Outcome.{none, givenAt}
 use Rattle.rules.specs.Pgsolver.{Entry, highest}
 use Rattle.rules.specs.Reading.{limitsOfA1, targetsIn, Reads, check31, entryOf, targetsUpTo, tablesRead}
-use Rattle.theory.specs.Basics.{and-left, and-right}
+use Rattle.basics.specs.Basics.{and-left, and-right}
 use Rattle.theory.specs.Worked.{C7}
 use Rattle.grammar.specs.Machine.{classOf, stepFrom, stepAt, next, runFrom, endOf, Read, readingOf}
 use Rattle.grammar.specs.Correct.{machine-reads}

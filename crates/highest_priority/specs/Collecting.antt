@@ -11,7 +11,7 @@ use lib.ListN.{length, getD, take, drop}
 use Rattle.rules.specs.Tables.{words}
 use Rattle.sets.specs.After.{Put}
 use Rattle.walk.specs.declared.members.Members.{Members}
-use Rattle.theory.specs.Basics.{bool-cases, lt-or-ge}
+use Rattle.basics.specs.Basics.{bool-cases, lt-or-ge}
 use Rattle.area.specs.Area.{setAt}
 use Rattle.area.specs.Lent.{bit-fits, back, inserted-long, inserted-rest, inserted-here, inserted-there}
 use Rattle.area.specs.Walked.{Walkable, Keeps, Turn, Beside, same-turn, WalkedTo, Walked}

@@ -9,7 +9,7 @@ use native.Mathlib.Omega.{arith}
 use lib.ListN.{length, getD, take, drop, set}
 use Rattle.rules.specs.Tables.{words}
 use Rattle.walk.specs.declared.members.Members.{Members}
-use Rattle.theory.specs.Basics.{bool-cases}
+use Rattle.basics.specs.Basics.{bool-cases}
 use Rattle.predecessors.specs.Table.{SoundEdges}
 use Rattle.attractor_counters.specs.Counters.{EdgesOf, edges-of}
 use Rattle.successors.specs.Lowest.{lowestEnd}

@@ -8,7 +8,7 @@ use native.Mathlib.Omega.{arith}
 use lib.ListN.{length, getD}
 use Rattle.rules.specs.Counting.{times}
 use Rattle.rules.specs.Words.{setOf}
-use Rattle.theory.specs.Greatest.{greatest-bounds, greatest-le}
+use Rattle.basics.specs.Greatest.{greatest-bounds, greatest-le}
 use Rattle.sets.specs.Laws.{member-bit}
 use Rattle.walk.specs.MemberLaws.{times-members}
 use Rattle.walk.specs.Walk.{members, left}

@@ -12,10 +12,10 @@ use lib.Seq.{take-suc, take-all, getD-take, getD-append-add}
 use Rattle.rules.specs.Counting.{count, greatest, times}
 use Rattle.rules.specs.Record.{countsOf, highestIn, keptFor, freshCount}
 use Rattle.rules.specs.Tables.{Tables, vertices, Accepted}
-use Rattle.theory.specs.AttractorBasics.{times-append}
+use Rattle.basics.specs.Sums.{times-append}
 use Rattle.theory.specs.Counts.{length-counts, counts-at, length-fresh, take-fresh, highest-greatest}
-use Rattle.theory.specs.Greatest.{greatest-bounds, greatest-le}
-use Rattle.theory.specs.Tables.{accepted-sound}
+use Rattle.basics.specs.Greatest.{greatest-bounds, greatest-le}
+use Rattle.accepted.specs.Tables.{accepted-sound}
 
 -- accepted tables, with kept numbers that are a fresh count of them
 pub record Counted (t : Tables) (kept : List ℕ) : Type 0 where

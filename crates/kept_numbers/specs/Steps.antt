@@ -13,11 +13,11 @@ use lib.ListN.{length, getD, set, take, replicate, getD-replicate, length-replic
 use lib.Seq.{getD-set-same, getD-set-other, getD-take, take-suc, take-all, take-set-le, take-suc-set, append-snoc, length-take-le, ext-getD}
 use Rattle.rules.specs.Counting.{Set, count, greatest, times}
 use Rattle.rules.specs.Record.{countsOf, counted, differentIn, highestIn, keptFor, freshCount, sameList, keptCheck}
-use Rattle.theory.specs.AttractorBasics.{times-append}
+use Rattle.basics.specs.Sums.{times-append}
 use Rattle.rules.specs.Outcome.{none, refused}
-use Rattle.theory.specs.Basics.{bool-cases, count-cong, below-suc, not-true-is-false}
+use Rattle.basics.specs.Basics.{bool-cases, count-cong, below-suc, not-true-is-false}
 use Rattle.theory.specs.Counts.{raised, lowered, getD-raised, counts-at, length-counts, times-le, same-equal, equal-same}
-use Rattle.theory.specs.Greatest.{greatest-le, greatest-cong}
+use Rattle.basics.specs.Greatest.{greatest-le, greatest-cong}
 
 -- 258 numbers, the first 256 of which are the counts
 pub record Counts (priorities r : List ℕ) : Type 0 where

@@ -13,7 +13,7 @@ use lib.Dec.{eqb}
 use lib.ListN.{length, getD, take, set, length-set, length-take}
 use lib.Seq.{getD-set-same, getD-set-other}
 use Rattle.rules.specs.Words.{digit, bit, setOf}
-use Rattle.theory.specs.Basics.{lt-or-ge}
+use Rattle.basics.specs.Basics.{lt-or-ge}
 use Rattle.sets.specs.Digits.{digit-lt, digit-zero, digits-tell}
 use Rattle.sets.specs.Laws.{bit-past, bit-take, bit-member, bit-other, bit-of-set, put-set}
 use Rattle.sets.specs.Single.{digit-insert, put-insert}

@@ -17,7 +17,7 @@ use Rattle.sets.specs.Laws.{bit-inside}
 use Rattle.walk.specs.Walk.{members}
 use Rattle.walk.specs.Steps.{left-start, left-member}
 use Rattle.walk.specs.MemberLaws.{times-members, Rising, rising-members}
-use Rattle.theory.specs.Basics.{times-member, member-place}
+use Rattle.basics.specs.Basics.{times-member, member-place}
 
 -- the word without its lowest set digit
 abbrev pub others : ℕ → ℕ

@@ -10,7 +10,7 @@ use native.Mathlib.Numerals.{add-one}
 use native.Mathlib.Omega.{arith}
 use lib.ListN.{length, getD}
 use Rattle.rules.specs.Winning.{Reach}
-use Rattle.theory.specs.Basics.{clash, or-right, or-cases, below-suc}
+use Rattle.basics.specs.Basics.{clash, or-right, or-cases, below-suc}
 use Rattle.theory.specs.Chosen.{chosenPart}
 use Rattle.depth_first.specs.Area.{marks, queue, labels, hits, behind, Within, Cleared, marked, true-marked, marked-true}
 use Rattle.depth_first.specs.Area.{false-marked}

@@ -10,7 +10,7 @@ use borrow.Author.Tests.{eqb-true, eqb-false, eq-eqb, ne-eqb, not-true}
 use lib.Dec.{eqb}
 use lib.ListN.{length, getD}
 use Rattle.rules.specs.Winning.{Reach}
-use Rattle.theory.specs.Basics.{clash, and-intro, and-left, and-right, below-suc, not-true-is-false}
+use Rattle.basics.specs.Basics.{clash, and-intro, and-left, and-right, below-suc, not-true-is-false}
 use Rattle.theory.specs.DepthFirst.{marks-cases, marks-keeps}
 use Rattle.depth_first.specs.Area.{queue, labels, hits, Within, within-same, within-then, true-marked, marked-true, marked-false}
 use Rattle.depth_first.specs.Graph.{Graph, size, edgeCount, priority, Leads}

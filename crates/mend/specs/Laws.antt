@@ -16,7 +16,7 @@ use Rattle.rules.specs.Tables.{Tables, vertices, edgesIn, Accepted, check1, che
 use Rattle.parity_game.specs.Laws.{lengthChecks, then-assoc, then-none, given-none, check3-none, Numbered, numbered-then}
 use Rattle.parity_game.specs.Laws.{numbered-given, numbered-lengths, numbered-check3, numbered-check4, numbered-check5}
 use Rattle.parity_game.specs.Laws.{numbered-check6, zero-none}
-use Rattle.theory.specs.Basics.{or-false-both, count-le}
+use Rattle.basics.specs.Basics.{or-false-both, count-le}
 use Rattle.theory.specs.Mending.{exportChecks, Shaped, mended-length, list-length}
 use Rattle.theory.specs.MendingAccepted.{mended-accepted}
 use Rattle.mend_counts.specs.Bare.{bare, bared, bared-count, bared-dropped}

@@ -15,8 +15,8 @@ use Rattle.rules.specs.Mending.{keep, keptTargets, altered, newTargets, newPrio
 use Rattle.rules.specs.Mending.{alteredUpTo}
 use Rattle.parity_game.specs.Said.{odd-above-zero}
 use Rattle.rules.specs.Tables.{Tables, vertices, edgesIn, degree, targetsOf}
-use Rattle.theory.specs.Basics.{bool-cases}
-use Rattle.theory.specs.Tables.{offset, never-falls}
+use Rattle.basics.specs.Basics.{bool-cases}
+use Rattle.accepted.specs.Tables.{offset, never-falls}
 use Rattle.theory.specs.Mending.{isVertex, kept-more, keep-append, new-length, dropped-length-more, new-length-more}
 use Rattle.theory.specs.Mending.{altered-length}
 

@@ -12,8 +12,8 @@ use lib.ListN.{length, getD}
 use Rattle.rules.specs.Counting.{some, everyOf}
 use Rattle.rules.specs.Outcome.{Outcome, Verdict, none, refused, given, givenAt, outcome, answered, _then_}
 use Rattle.rules.specs.Tables.{Tables, vertices, edgesIn, words, workWords, tableChecks, Accepted}
-pub use Rattle.theory.specs.Tables.{then-none, given-none, givenAt-none, check1-none, check2-none, check3-none, check4-none}
-pub use Rattle.theory.specs.Tables.{check5-none, check6-none, check7-none, check8-none, never-falls, Sound, accepted-sound}
+pub use Rattle.accepted.specs.Tables.{then-none, given-none, givenAt-none, check1-none, check2-none, check3-none, check4-none}
+pub use Rattle.accepted.specs.Tables.{check5-none, check6-none, check7-none, check8-none, never-falls, Sound, accepted-sound}
 use Rattle.rules.specs.Tables.{check1, check2, check3, check4, check5, check6, check7, check8, check9, check10}
 use Rattle.parity_game.specs.declared.answer.Answer.{Answer}
 use Rattle.parity_game.specs.declared.answer.Answer.the-variants.{Answered}

@@ -4,7 +4,7 @@ use mathlib.Core.Bool.{Bool, true, false}
 use mathlib.Core.Path.{_≡_}
 use Prim.Native.Nat.{ℕ, _<_}
 use Rattle.rules.specs.Outcome.{Outcome, none, refused, givenAt, outcome}
-use Rattle.theory.specs.Basics.{some-intro, false-some, lowest-unique}
+use Rattle.basics.specs.Basics.{some-intro, false-some, lowest-unique}
 use Rattle.parity_game.specs.Said.{refusal}
 
 -- the test fails at every number below n

@@ -14,8 +14,8 @@ use lib.ListN.{length, getD, set}
 use lib.Seq.{getD-set-same, getD-set-other}
 use Rattle.rules.specs.Counting.{Set, some, someOf}
 use Rattle.rules.specs.Game.{Edge}
-use Rattle.theory.specs.Basics.{bool-cases, bool-ext, and-intro, and-left, and-right, or-right, not-true-is-false}
-use Rattle.theory.specs.Basics.{some-intro, some-elim, some-cong, below-suc}
+use Rattle.basics.specs.Basics.{bool-cases, bool-ext, and-intro, and-left, and-right, or-right, not-true-is-false}
+use Rattle.basics.specs.Basics.{some-intro, some-elim, some-cong, below-suc}
 use Rattle.theory.specs.Chosen.{chosenPart}
 use Rattle.theory.specs.Kosaraju.{Assigned, labels-good-part}
 use Rattle.theory.specs.Solitaire.{edge-test, test-edge, at-most-elim, at-most-intro}

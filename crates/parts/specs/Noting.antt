@@ -12,7 +12,7 @@ use lib.Dec.{eqb}
 use lib.ListN.{length, getD, set}
 use lib.Seq.{getD-set-same, getD-set-other}
 use Rattle.rules.specs.Counting.{some}
-use Rattle.theory.specs.Basics.{bool-ext, clash, and-intro, and-left, and-right, or-left, or-right, or-cases, not-true-is-false}
+use Rattle.basics.specs.Basics.{bool-ext, clash, and-intro, and-left, and-right, or-left, or-right, or-cases, not-true-is-false}
 use Rattle.theory.specs.DepthFirst.{Marks, marks-cases, marks-keeps}
 use Rattle.depth_first.specs.Area.{labels, hits, Within, within-same, within-then, within-store}
 use Rattle.depth_first.specs.Area.{marked, false-marked, marked-marks}

@@ -17,8 +17,8 @@ use Rattle.rules.specs.Record.{countsOf, freshCount}
 use Rattle.rules.specs.Solitaire.{atMost, goodPart, samePart}
 use Rattle.rules.specs.Tables.{Tables, vertices, targetsOf, gameOf, Accepted}
 use Rattle.rules.specs.Words.{entry, noEntry}
-use Rattle.theory.specs.Basics.{member-place, place-member, times-pos, times-member}
-use Rattle.theory.specs.Basics.{bool-ext, and-intro, and-left, and-right, some-intro, some-elim, some-false, clash, not-true-is-false}
+use Rattle.basics.specs.Basics.{member-place, place-member, times-pos, times-member}
+use Rattle.basics.specs.Basics.{bool-ext, and-intro, and-left, and-right, some-intro, some-elim, some-false, clash, not-true-is-false}
 use Rattle.theory.specs.Chosen.{chosenPart}
 use Rattle.theory.specs.Counts.{length-fresh, take-fresh, counted-used}
 use Rattle.parity_game.specs.Laws.{accepted-sound}

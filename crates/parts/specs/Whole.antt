@@ -11,7 +11,7 @@ use borrow.Author.Tests.{lt-ltb}
 use lib.Dec.{eqb}
 use lib.ListN.{length, getD}
 use Rattle.rules.specs.Counting.{Set, some}
-use Rattle.theory.specs.Basics.{some-cong, place-member}
+use Rattle.basics.specs.Basics.{some-cong, place-member}
 use Rattle.theory.specs.Chosen.{chosenPart}
 use Rattle.theory.specs.DepthFirst.{dfs-done-order}
 use Rattle.theory.specs.Kosaraju.{Assigned}

@@ -8,7 +8,7 @@ use borrow.Author.Tests.{le-leb, lt-leb, ne-eqb}
 use lib.Dec.{leb}
 use Rattle.rules.specs.Pgsolver.{separates, isDigit}
 use Rattle.grammar.specs.Machine.{classOf, digitByte, letterByte, otherByte, isLetter}
-use Rattle.theory.specs.Basics.{and-intro, or-left, or-right}
+use Rattle.basics.specs.Basics.{and-intro, or-left, or-right}
 
 -- not one of the bytes that separate
 pub no-separator : (b : ℕ) → (b ≡ 32 → ⊥) → (b ≡ 9 → ⊥) → (b ≡ 13 → ⊥) → (b ≡ 10 → ⊥) → separates b ≡ false

@@ -12,7 +12,7 @@ use Rattle.rules.specs.Reading.{Limits, targetsIn}
 use Rattle.grammar.specs.Machine as Machine
 use Rattle.grammar.specs.Machine.{Machine, Run, endOf, readingOf, Read, nothingRead, mayEnd}
 use Rattle.grammar.specs.Waiting.{Waits}
-use Rattle.theory.specs.Basics.{clash}
+use Rattle.basics.specs.Basics.{clash}
 use Rattle.pgsolver_acts.specs.declared.state.Phase.{Phase}
 use Rattle.pgsolver_acts.specs.declared.state.Phase.the-variants.{AtStart, InWord, PastWord, InHighest, PastHighest}
 use Rattle.pgsolver_acts.specs.declared.state.Phase.the-variants.{BetweenRecords}

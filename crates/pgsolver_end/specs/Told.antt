@@ -15,8 +15,8 @@ use Rattle.rules.specs.Reading as Rules
 use Rattle.rules.specs.Reading.{Limits, Rooms, Written, limitsOf, readingWords, roomChecks, check31, tablesRead, holding}
 use Rattle.rules.specs.Reading.{noTables, written, listAsked, readChecks, entryOf, targetsUpTo, Reads}
 use Rattle.rules.specs.Tables.{Tables}
-use Rattle.theory.specs.Basics.{length-listed, or-false-both}
-use Rattle.theory.specs.Tables.{then-none, given-none}
+use Rattle.basics.specs.Basics.{length-listed, or-false-both}
+use Rattle.accepted.specs.Tables.{then-none, given-none}
 use Rattle.grammar.specs.Correct.{machine-reads}
 use Rattle.grammar.specs.Machine.{Run, Read, readingOf, endOf, nothingRead}
 use Rattle.arrange.specs.Laws.{roomsOf, Alike, alike-holding}

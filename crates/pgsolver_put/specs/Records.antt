@@ -7,7 +7,7 @@ use lib.ListN.{length, getD, take, drop, length-append}
 use Rattle.rules.specs.Decimal.{decimal}
 use Rattle.rules.specs.Tables.{Tables, vertices, degree, targetsOf}
 use Rattle.rules.specs.Writing.{blank, lineEnd, targetsText, recordText, recordsText}
-use Rattle.theory.specs.Tables.{offset, accepted-sound}
+use Rattle.accepted.specs.Tables.{offset, accepted-sound}
 use Rattle.printing.specs.Puts.{Puts, puts-none, puts-both}
 use Rattle.writing.specs.Lengths.{recordBytes, record-bytes, records-next, records-length, records-first}
 use Rattle.writing.specs.Lengths.{offsets-within, offset-after, targets-some, text-length, text-bounded}

@@ -8,7 +8,7 @@ use Rattle.rules.specs.Portions.{Meaning, ClosingRecord, Closed, ClosedRecord, 
 use Rattle.rules.specs.Reading.{WrittenRecord, ToldRecord, ReadsBy, ReadsText, ReadsRecord, roomChecks, keptBeside, game, Told}
 use Rattle.rules.specs.Record.{keptRoom}
 use Rattle.parity_game.specs.Said.{refusal}
-use Rattle.theory.specs.Tables.{then-none}
+use Rattle.accepted.specs.Tables.{then-none}
 use Rattle.pgsolver_finish.specs.Finishing.{writtenOf}
 use Rattle.pgsolver_serial.specs.Calls.{unless-unfit, unless-fit}
 use Rattle.pgsolver_close.specs.Ending.{closingOf}

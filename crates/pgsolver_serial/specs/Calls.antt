@@ -8,8 +8,8 @@ use lib.Dec.{eqb, ltb}
 use lib.ListN.{length}
 use Rattle.rules.specs.Outcome.{Outcome, Verdict, none, refused, given, _then_, Unless}
 use Rattle.rules.specs.Portions.{Lent, lentChecks}
-use Rattle.theory.specs.Basics.{bool-cases, or-false-both}
-use Rattle.theory.specs.Tables.{then-none, given-none}
+use Rattle.basics.specs.Basics.{bool-cases, or-false-both}
+use Rattle.accepted.specs.Tables.{then-none, given-none}
 use Rattle.reading_rooms.specs.Said.{sizeChecks}
 use Rattle.parity_game.specs.Said.{refusal}
 use Rattle.pgsolver_serial.specs.Stands.{FitLent}

@@ -14,7 +14,7 @@ use Rattle.rules.specs.Reading.{Limits, highestNumber, targetsIn}
 use Rattle.grammar.specs.Machine as Machine
 use Rattle.grammar.specs.Machine.{Machine, Went, on, off, over, classOf, stepFrom, targetsRead, longer, isLetter}
 use Rattle.grammar.specs.Machine.{to, reading, headed, identified, ranked, owned, aimed, closed, more, begins}
-use Rattle.theory.specs.Basics.{clash, and-left, and-right}
+use Rattle.basics.specs.Basics.{clash, and-left, and-right}
 use Rattle.pgsolver_acts.specs.declared.state.State.{State}
 use Rattle.pgsolver_acts.specs.declared.state.Phase.the-variants.{InWord, PastWord, BetweenRecords}
 use Rattle.pgsolver_acts.specs.declared.acts.Act.the-variants as Acts

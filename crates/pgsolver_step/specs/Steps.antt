@@ -12,7 +12,7 @@ use Rattle.rules.specs.Pgsolver.{Entry, withTarget}
 use Rattle.rules.specs.Reading.{Limits, targetsIn}
 use Rattle.grammar.specs.Machine.{Machine, Went, on, off, over, classOf, stepFrom}
 use Rattle.grammar.specs.Waiting.{Waits}
-use Rattle.theory.specs.Basics.{bool-cases}
+use Rattle.basics.specs.Basics.{bool-cases}
 use Rattle.pgsolver_acts.specs.declared.state.State.{State}
 use Rattle.pgsolver_moves.specs.declared.moves.Move.{Move}
 use Rattle.pgsolver_moves.specs.declared.moves.Move.the-variants as Moves

@@ -14,7 +14,7 @@ use Rattle.rules.specs.Pgsolver.{Entry}
 use Rattle.rules.specs.Reading.{targetsIn, entryOf}
 use Rattle.grammar.specs.Machine.{noEntryYet}
 use Rattle.grammar.specs.Waiting.{identifiers, inText, beginning, seen, begin, KeptAt, FreshAt, Waits}
-use Rattle.theory.specs.Basics.{below-suc, bool-cases}
+use Rattle.basics.specs.Basics.{below-suc, bool-cases}
 use Rattle.pgsolver_step.specs.Follows.{targets-more}
 use Rattle.pgsolver_step.specs.Kept.{text-more, times-here, times-there, entry-here, entry-there, beginning-here}
 use Rattle.pgsolver_step.specs.Kept.{beginning-there}

@@ -14,7 +14,7 @@ use Rattle.rules.specs.Counting.{everyOf}
 use Rattle.rules.specs.Pgsolver.{isDigit}
 use Rattle.rules.specs.Printing as Printing
 use Rattle.rules.specs.Printing.{argumentsAskBy, argumentsAsk, valueAfter, defaultBudget}
-use Rattle.theory.specs.Basics.{and-left, and-right, and-intro}
+use Rattle.basics.specs.Basics.{and-left, and-right, and-intro}
 use Rattle.printing.specs.declared.arguments.Asked.{Asked}
 use Rattle.printing.specs.declared.arguments.Asked.the-variants.{Budget, Wrong}
 

@@ -5,7 +5,7 @@ use Prim.Native.Nat.{ℕ, _<_}
 use lib.ListN.{length, getD}
 use Rattle.rules.specs.Counting.{Set, listed}
 use Rattle.rules.specs.Printing.{winnerDigits}
-use Rattle.theory.specs.Basics.{length-listed, getD-listed}
+use Rattle.basics.specs.Basics.{length-listed, getD-listed}
 
 pub winners-long : (n : ℕ) (odd : Set) → length (winnerDigits n odd) ≡ n
 unfolding winnerDigits

@@ -20,7 +20,7 @@ use Rattle.rules.specs.Zielonka.{zielonka}
 use Rattle.parity_game.specs.Laws.{then-none}
 use Rattle.theory.specs.PromotionAccepted.{accepted-finishes, accepted-rounds-sets, accepted-rounds-entries}
 use Rattle.theory.specs.PromotionSound.{winning-sets-agree}
-use Rattle.theory.specs.Tables.{accepted-total}
+use Rattle.accepted.specs.Tables.{accepted-total}
 use Rattle.theory.specs.Zielonka.{zielonka-wins}
 use Rattle.solver.specs.Promises.{setFor, gotBy, answer, answered-accepted, answered-count, answered-holds}
 use Rattle.solver.specs.Promises.{answered-winning}

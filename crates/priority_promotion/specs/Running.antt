@@ -11,8 +11,8 @@ use Rattle.rules.specs.Game.{Player, Even, Odd}
 use Rattle.rules.specs.Tables.{Tables, gameOf, words, workWords, Accepted, tablesOf}
 use Rattle.rules.specs.Promotion.{afterRounds, allSolved, roundsNeeded}
 use Rattle.theory.specs.PromotionAccepted.{accepted-promotion-sets, accepted-promotion-strategy, accepted-rounds-entries}
-use Rattle.theory.specs.Basics.{count-zero}
-use Rattle.theory.specs.Tables.{accepted-sound}
+use Rattle.basics.specs.Basics.{count-zero}
+use Rattle.accepted.specs.Tables.{accepted-sound}
 use Rattle.predecessors.specs.Table.{SoundEdges}
 use Rattle.area.specs.Area.{setAt, entryAt}
 use Rattle.attractor.specs.Attracted.{Listed, edges-sound}

@@ -14,10 +14,10 @@ use Rattle.rules.specs.Counting.{Set, count}
 use Rattle.rules.specs.Game.{Game}
 use Rattle.rules.specs.Tables.{words, workWords, gameOf, Accepted, tablesOf}
 use Rattle.rules.specs.Promotion.{unsolved, atStart, afterRounds}
-use Rattle.theory.specs.Basics.{lt-or-ge}
-use Rattle.theory.specs.Tables.{accepted-sound}
-use Rattle.theory.specs.Greatest.{greatest-cong}
-use Rattle.theory.specs.PromotionBasics.{noted-below}
+use Rattle.basics.specs.Basics.{lt-or-ge}
+use Rattle.accepted.specs.Tables.{accepted-sound}
+use Rattle.basics.specs.Greatest.{greatest-cong}
+use Rattle.basics.specs.Basics.{noted-below}
 use Rattle.theory.specs.PromotionEntries.{starts}
 use Rattle.area.specs.Area.{setAt}
 use Rattle.kept_numbers.specs.Reading.{Counted, kept-bounds, kept-small}

@@ -11,7 +11,7 @@ use Rattle.rules.specs.Game.{Player, Even, Odd}
 use Rattle.rules.specs.Counting.{greatest}
 use Rattle.rules.specs.Tables.{words}
 use Rattle.rules.specs.Words.{noEntry}
-use Rattle.theory.specs.Greatest.{greatest-cong}
+use Rattle.basics.specs.Greatest.{greatest-cong}
 use Rattle.sets.specs.After.{Cleared}
 use Rattle.predecessors.specs.Table.{SoundEdges}
 use Rattle.area.specs.Area.{entries, free, setAt}

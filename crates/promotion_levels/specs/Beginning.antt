@@ -10,7 +10,7 @@ use lib.Dec.{eqb}
 use lib.ListN.{length, getD}
 use Rattle.rules.specs.Tables.{words}
 use Rattle.rules.specs.Words.{noEntry}
-use Rattle.theory.specs.Basics.{bool-cases, and-left}
+use Rattle.basics.specs.Basics.{bool-cases, and-left}
 use Rattle.sets.specs.After.{Parts}
 use Rattle.area.specs.Area.{free, setAt}
 use Rattle.area.specs.SetsAt.{set-kept}

@@ -12,7 +12,7 @@ use lib.Seq.{getD-set-same, getD-set-other}
 use Rattle.rules.specs.Counting.{Set}
 use Rattle.rules.specs.Tables.{words}
 use Rattle.rules.specs.Words.{noEntry, setOf}
-use Rattle.theory.specs.Greatest.{greatest-le}
+use Rattle.basics.specs.Greatest.{greatest-le}
 use Rattle.area.specs.Area.{entries, free, setAt}
 use Rattle.area.specs.Lent.{part-set, words-few}
 use Rattle.area.specs.SetsAt.{set-kept}

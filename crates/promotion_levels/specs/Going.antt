@@ -13,8 +13,8 @@ use Rattle.rules.specs.Counting.{Set}
 use Rattle.rules.specs.Game.{Even}
 use Rattle.rules.specs.Tables.{words}
 use Rattle.rules.specs.Words.{noEntry}
-use Rattle.theory.specs.Basics.{bool-cases, clash, and-left, and-right, not-true-is-false}
-use Rattle.theory.specs.Greatest.{greatest-bounds, greatest-attained, greatest-le}
+use Rattle.basics.specs.Basics.{bool-cases, clash, and-left, and-right, not-true-is-false}
+use Rattle.basics.specs.Greatest.{greatest-bounds, greatest-attained, greatest-le}
 use Rattle.highest_priority.specs.Parts.{highestOf}
 use Rattle.predecessors.specs.Table.{SoundEdges}
 use Rattle.area.specs.Area.{entries, free, setAt}

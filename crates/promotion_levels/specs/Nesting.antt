@@ -10,8 +10,8 @@ use native.Mathlib.Omega.{arith}
 use borrow.Author.Tests.{eq-eqb, ne-eqb, lt-ltb, le-ltb, le-leb, lt-leb, not-true, eqb-true, eqb-false}
 use lib.Dec.{eqb, ltb, leb}
 use Rattle.rules.specs.Counting.{Set, count}
-use Rattle.theory.specs.Basics.{bool-cases, clash, not-true-is-false, not-false-is-true, and-left, and-right}
-use Rattle.theory.specs.Basics.{count-strict, count-le}
+use Rattle.basics.specs.Basics.{bool-cases, clash, not-true-is-false, not-false-is-true, and-left, and-right}
+use Rattle.basics.specs.Basics.{count-strict, count-le}
 
 -- only 0 is at most 0
 zero-only : (i : ℕ) → i ≤ 0 → i ≡ 0

@@ -13,7 +13,7 @@ use Rattle.rules.specs.Counting.{Set}
 use Rattle.rules.specs.Game.{Game}
 use Rattle.rules.specs.Tables.{words, gameOf, tablesOf}
 use Rattle.rules.specs.Promotion.{unsolved}
-use Rattle.theory.specs.Basics.{bool-cases, clash, lt-or-ge, not-true-is-false}
+use Rattle.basics.specs.Basics.{bool-cases, clash, lt-or-ge, not-true-is-false}
 use Rattle.theory.specs.PromotionBasics.{atRegion, upTo}
 use Rattle.area.specs.Area.{free, setAt}
 use Rattle.area.specs.Lent.{words-few}

@@ -11,8 +11,8 @@ use lib.ListN.{getD}
 use Rattle.rules.specs.Counting.{Set}
 use Rattle.rules.specs.Game.{Player, Game, parity, same}
 use Rattle.rules.specs.Tables.{Tables, vertices, edgesIn, gameOf, Accepted}
-use Rattle.theory.specs.Basics.{same-true, true-same}
-use Rattle.theory.specs.Tables.{accepted-sound, accepted-few}
+use Rattle.theory.specs.Players.{same-true, true-same}
+use Rattle.accepted.specs.Tables.{accepted-sound, accepted-few}
 use Rattle.theory.specs.Attractor.{Fits}
 use Rattle.theory.specs.AttractorRank.{Certificate, same-certificate, same-pull}
 use Rattle.theory.specs.Distance.{nearest}

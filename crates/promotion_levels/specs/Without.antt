@@ -11,7 +11,7 @@ use lib.ListN.{length, getD, set, length-set}
 use lib.Seq.{getD-set-same, getD-set-other}
 use Rattle.rules.specs.Tables.{words}
 use Rattle.rules.specs.Words.{digit}
-use Rattle.theory.specs.Basics.{lt-or-ge}
+use Rattle.basics.specs.Basics.{lt-or-ge}
 use Rattle.sets.specs.After.{Parts}
 use Rattle.sets.specs.Digits.{digit-lt}
 use Rattle.sets.specs.Wordwise.{Digitwise}

@@ -10,7 +10,8 @@ use Rattle.rules.specs.Counting.{Set}
 use Rattle.rules.specs.Game.{Player, Even, Odd, Game, parity, playerOf, same}
 use Rattle.rules.specs.Tables.{Tables, words, gameOf, Accepted, tablesOf}
 use Rattle.rules.specs.Attractor.{attractor}
-use Rattle.theory.specs.Basics.{bool-cases, clash, not-true-is-false, lt-or-ge, same-true}
+use Rattle.basics.specs.Basics.{bool-cases, clash, not-true-is-false, lt-or-ge}
+use Rattle.theory.specs.Players.{same-true}
 use Rattle.predecessors.specs.Table.{SoundEdges}
 use Rattle.sets.specs.After.{Combined, Parts}
 use Rattle.sets.specs.Laws.{bit-other}

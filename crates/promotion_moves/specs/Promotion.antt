@@ -14,7 +14,7 @@ use Rattle.rules.specs.Counting.{Set}
 use Rattle.rules.specs.Game.{Even}
 use Rattle.rules.specs.Tables.{words}
 use Rattle.rules.specs.Words.{noEntry}
-use Rattle.theory.specs.Basics.{bool-cases, clash, and-left, and-right}
+use Rattle.basics.specs.Basics.{bool-cases, clash, and-left, and-right}
 use Rattle.area.specs.Area.{entries, free, setAt}
 use Rattle.area.specs.SetsAt.{set-kept, set-reduced}
 use Rattle.sets.specs.After.{Combined}

@@ -14,8 +14,9 @@ use Rattle.rules.specs.Game.{Player, Even, Odd, Game, Total, parity, same}
 use Rattle.rules.specs.Tables.{Tables, gameOf, words, Accepted, tablesOf}
 use Rattle.rules.specs.Words.{noEntry}
 use Rattle.rules.specs.Promotion.{Regions, regionSet, isOpen, roundOf, afterRounds}
-use Rattle.theory.specs.Basics.{bool-cases, not-true-is-false, and-intro, and-left, and-right, lt-or-ge, some-intro, some-elim}
-use Rattle.theory.specs.Basics.{false-some, someOf-intro, someOf-elim, same-false, false-same, lowest-none, lowest-unique, count-cong}
+use Rattle.basics.specs.Basics.{bool-cases, not-true-is-false, and-intro, and-left, and-right, lt-or-ge, some-intro, some-elim}
+use Rattle.basics.specs.Basics.{false-some, someOf-intro, someOf-elim, lowest-none, lowest-unique, count-cong}
+use Rattle.theory.specs.Players.{same-false, false-same}
 use Rattle.theory.specs.PromotionEntries.{mover, RoundEntries, promotes, AttractedEntries, Fills}
 use Rattle.theory.specs.PromotionRounds.{attractedRegion}
 use Rattle.theory.specs.PromotionTable.{openAt, leadsUp, nextAbove, open-read, some-way-read, table-promotes, promoted-entries-read}

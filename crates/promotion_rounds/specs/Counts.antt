@@ -11,7 +11,7 @@ use lib.ListN.{length}
 use Rattle.rules.specs.Counting.{count}
 use Rattle.rules.specs.Tables.{gameOf, tablesOf}
 use Rattle.rules.specs.Promotion.{Regions, unsolved, roundOf, afterRounds}
-use Rattle.theory.specs.Basics.{count-cong, count-none, lt-or-ge}
+use Rattle.basics.specs.Basics.{count-cong, count-none, lt-or-ge}
 use Rattle.predecessors.specs.Stages.{sumTo}
 use Rattle.promotion_levels.specs.Nesting.{unsolved-is}
 use Rattle.promotion_levels.specs.Layout.{levelIn, regionIn, Ready}

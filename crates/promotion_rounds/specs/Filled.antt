@@ -12,7 +12,7 @@ use Rattle.rules.specs.Distance.{lowestIn}
 use Rattle.rules.specs.Game.{Game, parity}
 use Rattle.rules.specs.Tables.{Tables, gameOf, words, Accepted, tablesOf}
 use Rattle.rules.specs.Words.{noEntry}
-use Rattle.theory.specs.Basics.{bool-cases, clash, and-left, and-right}
+use Rattle.basics.specs.Basics.{bool-cases, clash, and-left, and-right}
 use Rattle.theory.specs.PromotionEntries.{Fills}
 use Rattle.area.specs.Area.{entries, free}
 use Rattle.successors.specs.Lowest.{endIn}

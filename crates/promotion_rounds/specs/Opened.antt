@@ -13,9 +13,9 @@ use Rattle.rules.specs.Counting.{Set, count, some, greatest}
 use Rattle.rules.specs.Game.{Player, Even, Odd, Game}
 use Rattle.rules.specs.Tables.{Tables, gameOf, words, Accepted, tablesOf}
 use Rattle.rules.specs.Promotion.{Regions, unsolved, regionSet, isOpen, roundOf, afterRounds}
-use Rattle.theory.specs.Basics.{some-elim, and-right, count-cong}
-use Rattle.theory.specs.Tables.{accepted-sound, accepted-priority}
-use Rattle.theory.specs.Greatest.{greatest-cong, greatest-bounds, greatest-le}
+use Rattle.basics.specs.Basics.{some-elim, and-right, count-cong}
+use Rattle.accepted.specs.Tables.{accepted-sound, accepted-priority}
+use Rattle.basics.specs.Greatest.{greatest-cong, greatest-bounds, greatest-le}
 use Rattle.theory.specs.PromotionEntries.{RoundEntries, opened, Attracts, AttractedEntries}
 use Rattle.theory.specs.PromotionTests.{unsolved-below, region-in}
 use Rattle.theory.specs.PromotionRounds.{attractedRegion, lowerVertices}

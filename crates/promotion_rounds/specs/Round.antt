@@ -11,7 +11,7 @@ use Rattle.rules.specs.Game.{Even, Game}
 use Rattle.rules.specs.Tables.{gameOf, words, Accepted, tablesOf}
 use Rattle.rules.specs.Words.{setOf}
 use Rattle.rules.specs.Promotion.{Regions, regionSet, isOpen, roundOf, afterRounds}
-use Rattle.theory.specs.Tables.{accepted-sound}
+use Rattle.accepted.specs.Tables.{accepted-sound}
 use Rattle.theory.specs.PromotionEntries.{mover, RoundEntries, AttractedEntries, Fills}
 use Rattle.theory.specs.PromotionRounds.{attractedRegion}
 use Rattle.theory.specs.PromotionTable.{attracts-table}

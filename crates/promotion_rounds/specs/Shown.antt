@@ -13,11 +13,13 @@ use Rattle.rules.specs.Counting.{Set, count, some, lowest, greatest}
 use Rattle.rules.specs.Game.{Player, Even, Odd, Game, Total, Edge, parity, same}
 use Rattle.rules.specs.Tables.{Tables, gameOf, Accepted, tablesOf}
 use Rattle.rules.specs.Promotion.{Regions, unsolved, regionSet, isOpen, roundOf, afterRounds}
-use Rattle.theory.specs.Basics.{bool-cases, not-true-is-false, and-intro, and-left, and-right, lt-or-ge, some-intro}
-use Rattle.theory.specs.Basics.{some-elim, false-some, some-cong, someOf-cong, someOf-intro, someOf-elim, same-false}
-use Rattle.theory.specs.Basics.{false-same, lowest-none, lowest-unique, count-cong}
-use Rattle.theory.specs.Tables.{accepted-total, accepted-priority, accepted-sound}
-use Rattle.theory.specs.PromotionBasics.{noted-below}
+use Rattle.basics.specs.Basics.{bool-cases, not-true-is-false, and-intro, and-left, and-right, lt-or-ge, some-intro}
+use Rattle.basics.specs.Basics.{some-elim, false-some, some-cong, someOf-cong, someOf-intro, someOf-elim}
+use Rattle.theory.specs.Players.{same-false}
+use Rattle.theory.specs.Players.{false-same}
+use Rattle.basics.specs.Basics.{lowest-none, lowest-unique, count-cong}
+use Rattle.accepted.specs.Tables.{accepted-total, accepted-priority, accepted-sound}
+use Rattle.basics.specs.Basics.{noted-below}
 use Rattle.theory.specs.PromotionEntries.{RoundEntries}
 use Rattle.theory.specs.PromotionRounds.{attractedRegion}
 use Rattle.theory.specs.PromotionStanding.{Standing}

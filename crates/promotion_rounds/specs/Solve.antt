@@ -13,7 +13,7 @@ use Rattle.rules.specs.Counting.{Set, count}
 use Rattle.rules.specs.Game.{Game}
 use Rattle.rules.specs.Tables.{gameOf, Accepted, tablesOf}
 use Rattle.rules.specs.Promotion.{Regions, unsolved, afterRounds, allSolved, roundsNeeded}
-use Rattle.theory.specs.Basics.{clash, lt-or-ge, some-intro, false-some, count-zero, count-some}
+use Rattle.basics.specs.Basics.{clash, lt-or-ge, some-intro, false-some, count-zero, count-some}
 use Rattle.theory.specs.PromotionAccepted.{accepted-finishes, accepted-needed}
 use Rattle.theory.specs.PromotionEntries.{Rounded, rounds}
 use Rattle.promotion_levels.specs.Layout.{endAt, levelIn, entryIn}

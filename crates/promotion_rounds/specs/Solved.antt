@@ -14,8 +14,9 @@ use Rattle.rules.specs.Game.{Player, Even, Odd, Game, Total, parity, same}
 use Rattle.rules.specs.Tables.{Tables, gameOf, words, Accepted, tablesOf}
 use Rattle.rules.specs.Words.{noEntry}
 use Rattle.rules.specs.Promotion.{Regions, regionSet, isOpen, roundOf, afterRounds}
-use Rattle.theory.specs.Basics.{bool-cases, clash, not-true-is-false, and-intro, and-left, and-right, lt-or-ge, some-intro, some-elim}
-use Rattle.theory.specs.Basics.{false-some, someOf-intro, someOf-elim, same-false, false-same, lowest-none, lowest-unique, count-cong}
+use Rattle.basics.specs.Basics.{bool-cases, clash, not-true-is-false, and-intro, and-left, and-right, lt-or-ge, some-intro, some-elim}
+use Rattle.basics.specs.Basics.{false-some, someOf-intro, someOf-elim, lowest-none, lowest-unique, count-cong}
+use Rattle.theory.specs.Players.{same-false, false-same}
 use Rattle.theory.specs.PromotionEntries.{mover, RoundEntries, promotes, AttractedEntries, Fills}
 use Rattle.theory.specs.PromotionRounds.{attractedRegion}
 use Rattle.theory.specs.PromotionTable.{openAt, leadsUp, nextAbove, open-read, some-way-read, table-promotes, promoted-entries-read}
@@ -33,11 +34,11 @@ use Rattle.promotion_rounds.specs.Above.{next-above}
 use Rattle.rules.specs.Counting.{greatest}
 use Rattle.rules.specs.Promotion.{unsolved, highestRegion}
 use Rattle.theory.specs.AttractorRank.{Certificate}
-use Rattle.theory.specs.Greatest.{greatest-bounds, greatest-le, greatest-cong}
+use Rattle.basics.specs.Greatest.{greatest-bounds, greatest-le, greatest-cong}
 use Rattle.theory.specs.PromotionBasics.{atRegion, at-is}
 use Rattle.theory.specs.PromotionEntries.{solves}
 use Rattle.theory.specs.PromotionTable.{table-solves, solved-entries-read}
-use Rattle.theory.specs.Tables.{accepted-sound, accepted-priority}
+use Rattle.accepted.specs.Tables.{accepted-sound, accepted-priority}
 use Rattle.area.specs.Area.{entries, free}
 use Rattle.promotion_levels.specs.Nesting.{outside-all, unsolved-is}
 use Rattle.promotion_levels.specs.Places.{level-high}

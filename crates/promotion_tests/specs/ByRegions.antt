@@ -12,7 +12,7 @@ use lib.Dec.{eqb, ltb}
 use lib.ListN.{length, getD}
 use Rattle.rules.specs.Counting.{Set, some, someOf}
 use Rattle.rules.specs.Tables.{targetsOf}
-use Rattle.theory.specs.Basics.{some-cong, someOf-cong}
+use Rattle.basics.specs.Basics.{some-cong, someOf-cong}
 use Rattle.area.specs.Area.{setAt}
 use Rattle.promotion_levels.specs.Nesting.{regionOf, Nesting, falls-all, region-at, region-solved, region-over}
 use Rattle.promotion_levels.specs.Nesting.{below-is, here-is, up-is}

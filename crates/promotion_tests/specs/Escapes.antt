@@ -9,7 +9,7 @@ use lib.ListN.{length, getD, take, drop}
 use Rattle.rules.specs.Counting.{Set}
 use Rattle.rules.specs.Tables.{words}
 use Rattle.rules.specs.Words.{setOf}
-use Rattle.theory.specs.Tables.{never-falls}
+use Rattle.accepted.specs.Tables.{never-falls}
 use Rattle.predecessors.specs.Table.{SoundEdges}
 use Rattle.walk.specs.declared.members.Members.{Members}
 use Rattle.area.specs.Area.{setAt}

@@ -12,7 +12,7 @@ use borrow.Author.Tests.{not-true}
 use lib.ListN.{length, getD}
 use Rattle.rules.specs.Counting.{Set}
 use Rattle.rules.specs.Tables.{targetsOf}
-use Rattle.theory.specs.Basics.{clash, not-true-is-false, and-intro, and-right, lt-or-ge}
+use Rattle.basics.specs.Basics.{clash, not-true-is-false, and-intro, and-right, lt-or-ge}
 use Rattle.successors.specs.Edges.{target-place, place-target}
 
 -- each level lies in the one before

@@ -8,7 +8,7 @@ use lib.Dec.{eqb}
 use lib.ListN.{length, getD}
 use Rattle.rules.specs.Counting.{Set, some, someOf}
 use Rattle.rules.specs.Tables.{targetsOf}
-use Rattle.theory.specs.Basics.{bool-cases, clash, some-intro, false-some, and-intro}
+use Rattle.basics.specs.Basics.{bool-cases, clash, some-intro, false-some, and-intro}
 use Rattle.area.specs.Area.{setAt}
 use Rattle.area.specs.Walked.{Always, Walked}
 use Rattle.promotion_tests.specs.Escapes.{anything, nothing}

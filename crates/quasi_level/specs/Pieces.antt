@@ -18,8 +18,8 @@ use Rattle.rules.specs.Zielonka.{withPriority}
 use Rattle.sets.specs.After.{Parts, Combined, Cleared, other}
 use Rattle.sets.specs.Laws.{bit-other, no-member}
 use Rattle.theory.specs.Attractor.{attractor-below}
-use Rattle.theory.specs.Basics.{lt-or-ge, and-left, not-true-is-false, some-elim, count-on, count-none}
-use Rattle.theory.specs.Tables.{accepted-sound}
+use Rattle.basics.specs.Basics.{lt-or-ge, and-left, not-true-is-false, some-elim, count-on, count-none}
+use Rattle.accepted.specs.Tables.{accepted-sound}
 use Rattle.area.specs.Area.{free, wordsAt, setAt}
 use Rattle.area.specs.SetsAt.{set-kept, set-cleared, set-copied-here, set-reduced}
 use Rattle.area.specs.Lent.{part-length, words-cover, words-few}

@@ -9,7 +9,7 @@ use lib.ListN.{length}
 use Rattle.rules.specs.Outcome.{Verdict, none, _then_}
 use Rattle.rules.specs.SecondOpinion.{LentSets, opinionWords, opinionCheck10, opinionChecks}
 use Rattle.rules.specs.Tables.{Tables, vertices, edgesIn, words, tableChecks, Accepted, check9}
-use Rattle.theory.specs.Tables.{given-none}
+use Rattle.accepted.specs.Tables.{given-none}
 use Rattle.parity_game.specs.Laws.{check9-set, then-assoc, then-none, check9-set-none, numbered-then, numbered-tables}
 use Rattle.parity_game.specs.Laws.{numbered-check9, numbered-given, Numbered}
 

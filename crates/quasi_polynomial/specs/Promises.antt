@@ -15,8 +15,8 @@ use Rattle.rules.specs.Tables.{Tables, gameOf, vertices, Accepted}
 use Rattle.rules.specs.Winning.{WinningSets}
 use Rattle.rules.specs.Words.{setOf, Holds}
 use Rattle.rules.specs.Zielonka.{zielonka}
-use Rattle.theory.specs.Basics.{bool-ext}
-use Rattle.theory.specs.Tables.{accepted-total}
+use Rattle.basics.specs.Basics.{bool-ext}
+use Rattle.accepted.specs.Tables.{accepted-total}
 use Rattle.theory.specs.Zielonka.{determinacy, zielonka-wins}
 use Rattle.parity_game.specs.Laws.{zero-none}
 use Rattle.sets.specs.Same.{holds-same}

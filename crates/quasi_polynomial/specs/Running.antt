@@ -17,9 +17,9 @@ use Rattle.rules.specs.Winning.{WinningSets}
 use Rattle.rules.specs.Words.{Narrow, Holds, setOf, bit}
 use Rattle.rules.specs.Zielonka.{wonBy}
 use Rattle.theory.specs.AttractorComplement.{TotalIn}
-use Rattle.theory.specs.Basics.{not-true-is-false, and-left}
+use Rattle.basics.specs.Basics.{not-true-is-false, and-left}
 use Rattle.theory.specs.Bits.{Bits, narrow-holds}
-use Rattle.theory.specs.Tables.{accepted-total}
+use Rattle.accepted.specs.Tables.{accepted-total}
 use Rattle.theory.specs.Zielonka.{everywhere-below, everywhere-total}
 use Rattle.kept_numbers.specs.Reading.{Counted, kept-bounds, kept-small}
 use Rattle.sets.specs.After.{Combined, other}

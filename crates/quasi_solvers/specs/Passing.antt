@@ -16,13 +16,14 @@ use Rattle.rules.specs.Tables.{Tables, gameOf, vertices, edgesIn, words, tables
 use Rattle.rules.specs.Attractor.{attractor}
 use Rattle.rules.specs.Zielonka.{withPriority}
 use Rattle.sets.specs.After.{Combined, Cleared, other}
-use Rattle.theory.specs.Basics.{bool-cases, clash, not-true-is-false, and-left}
-use Rattle.theory.specs.Basics.{and-intro, opponent-differs, opponent-twice, without-left, without-right}
-use Rattle.theory.specs.Basics.{count-some, count-zero, count-mono, count-strict, count-le}
+use Rattle.basics.specs.Basics.{bool-cases, clash, not-true-is-false, and-left}
+use Rattle.basics.specs.Basics.{and-intro, without-left, without-right}
+use Rattle.theory.specs.Players.{opponent-differs, opponent-twice}
+use Rattle.basics.specs.Basics.{count-some, count-zero, count-mono, count-strict, count-le}
 use Rattle.theory.specs.Attractor.{Fits, attractor-is}
 use Rattle.theory.specs.AttractorComplement.{TotalIn, rest-total}
 use Rattle.theory.specs.Run.{Top, highest-top}
-use Rattle.theory.specs.Tables.{accepted-sound}
+use Rattle.accepted.specs.Tables.{accepted-sound}
 use Rattle.area.specs.Area.{free, setAt}
 use Rattle.area.specs.SetsAt.{set-kept, set-cleared, set-copied-here, set-reduced}
 use Rattle.attractor.specs.Attracted.{listed-kept}

@@ -10,7 +10,7 @@ use lib.Dec.{eqb}
 use lib.ListN.{length, take, drop, replicate, length-replicate}
 use lib.Seq.{take-all}
 use Rattle.rules.specs.Record.{freshCount}
-use Rattle.theory.specs.Basics.{bool-cases}
+use Rattle.basics.specs.Basics.{bool-cases}
 use Rattle.theory.specs.Counts.{length-fresh}
 
 -- `keptBeside` of the rules

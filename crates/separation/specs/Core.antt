@@ -14,9 +14,9 @@ use Rattle.rules.specs.Game.{Player, opponent, Game, Edge, parity, same}
 use Rattle.rules.specs.Winning.{Walk, Cycle, Step}
 use Rattle.rules.specs.Attractor.{Closed, IsAttractor, attractor}
 use Rattle.rules.specs.Zielonka.{withPriority}
-use Rattle.theory.specs.Basics.{bool-cases, clash, not-true-is-false, not-false-is-true, and-left, and-right, and-intro, Subset}
-use Rattle.theory.specs.Basics.{without-intro, without-left, without-right, some-elim, some-false}
-use Rattle.theory.specs.Basics.{opponent-differs, opponent-is-other, other-player, true-same, false-same}
+use Rattle.basics.specs.Basics.{bool-cases, clash, not-true-is-false, not-false-is-true, and-left, and-right, and-intro, Subset}
+use Rattle.basics.specs.Basics.{without-intro, without-left, without-right, some-elim, some-false}
+use Rattle.theory.specs.Players.{opponent-differs, opponent-is-other, other-player, true-same, false-same}
 use Rattle.theory.specs.Walks.{Relation, Among, walk-map, reach-stays, stays, hits, no-falling-cycle, highest-is}
 use Rattle.theory.specs.Orbit.{comes-back}
 use Rattle.theory.specs.Dominion.{Inside, Dominion, owner-cases, dominion-without, held-trap, held-narrower}

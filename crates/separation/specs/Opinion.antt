@@ -9,7 +9,7 @@ use Rattle.rules.specs.Counting.{Set, without}
 use Rattle.rules.specs.Game.{Player, Even, Odd, Game, everywhere, Total}
 use Rattle.rules.specs.Winning.{Wins, WinningSets}
 use Rattle.rules.specs.Zielonka.{zielonkaOn, wonBy}
-use Rattle.theory.specs.Basics.{clash, not-true-is-false, bool-ext, count-le, without-intro, without-left, without-right}
+use Rattle.basics.specs.Basics.{clash, not-true-is-false, bool-ext, count-le, without-intro, without-left, without-right}
 use Rattle.theory.specs.Run.{Run}
 use Rattle.theory.specs.RunSound.{run-sound}
 use Rattle.theory.specs.Zielonka.{rules-run, run-wins, everywhere-below, everywhere-total}

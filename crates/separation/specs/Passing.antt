@@ -12,9 +12,10 @@ use Rattle.rules.specs.Counting.{Set, without, count}
 use Rattle.rules.specs.Game.{Player, opponent, Game, Edge, parity}
 use Rattle.rules.specs.Attractor.{IsAttractor, attractor}
 use Rattle.rules.specs.Zielonka.{withPriority}
-use Rattle.theory.specs.Basics.{bool-cases, clash, bool-ext, not-true-is-false, and-left, and-right, and-intro, lt-or-ge, Subset}
-use Rattle.theory.specs.Basics.{without-intro, without-left, without-right}
-use Rattle.theory.specs.Basics.{opponent-differs, opponent-twice, other-player, count-some}
+use Rattle.basics.specs.Basics.{bool-cases, clash, bool-ext, not-true-is-false, and-left, and-right, and-intro, lt-or-ge, Subset}
+use Rattle.basics.specs.Basics.{without-intro, without-left, without-right}
+use Rattle.theory.specs.Players.{opponent-differs, opponent-twice, other-player}
+use Rattle.basics.specs.Basics.{count-some}
 use Rattle.theory.specs.Dominion.{Dominion, dominion-cong, dominion-without, held-narrower}
 use Rattle.theory.specs.Attractor.{Fits, attractor-is}
 use Rattle.theory.specs.AttractorComplement.{TotalIn, own-stays-out, rest-total, trap-missed}

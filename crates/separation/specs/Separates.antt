@@ -7,8 +7,9 @@ use native.Mathlib.Nat.{le-trans}
 use native.Mathlib.Omega.{arith}
 use Rattle.rules.specs.Counting.{Set, without, count}
 use Rattle.rules.specs.Game.{Player, opponent, Game}
-use Rattle.theory.specs.Basics.{clash, not-true-is-false, Subset, opponent-twice, count-mono, count-pos}
-use Rattle.theory.specs.Basics.{without-intro, without-left, without-right}
+use Rattle.basics.specs.Basics.{clash, not-true-is-false, Subset, count-mono, count-pos}
+use Rattle.theory.specs.Players.{opponent-twice}
+use Rattle.basics.specs.Basics.{without-intro, without-left, without-right}
 use Rattle.theory.specs.Dominion.{Dominion}
 
 -- a has a dominion of V that has at most k vertices

@@ -11,7 +11,7 @@ use lib.Dec.{eqb}
 use Rattle.rules.specs.Counting.{Set, without, count}
 use Rattle.rules.specs.Game.{Player, opponent, Game}
 use Rattle.rules.specs.Attractor.{attractor}
-use Rattle.theory.specs.Basics.{bool-cases, and-left, and-right, and-intro, Subset, without-left, count-le}
+use Rattle.basics.specs.Basics.{bool-cases, and-left, and-right, and-intro, Subset, without-left, count-le}
 use Rattle.theory.specs.AttractorComplement.{TotalIn}
 use Rattle.separation.specs.Separates.{Small, Separates, fewer, precision-cut}
 use Rattle.separation.specs.Passing.{both, Narrowed, narrowed-not, narrowed-then}

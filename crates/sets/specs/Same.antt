@@ -8,7 +8,7 @@ use lib.ListN.{getD}
 use lib.Seq.{ext-getD}
 use Rattle.rules.specs.Counting.{Set}
 use Rattle.rules.specs.Words.{bit, Holds}
-use Rattle.theory.specs.Basics.{lt-or-ge}
+use Rattle.basics.specs.Basics.{lt-or-ge}
 use Rattle.sets.specs.Digits.{digits-tell}
 use Rattle.sets.specs.Laws.{bit-of-set}
 use Rattle.sets.specs.Whole.{bit-at}

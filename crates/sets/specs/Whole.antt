@@ -11,7 +11,7 @@ use lib.Dec.{eqb, lit<}
 use lib.ListN.{length, getD}
 use Rattle.rules.specs.Counting.{some, every, count}
 use Rattle.rules.specs.Words.{digit, bit, setOf}
-use Rattle.theory.specs.Basics.{bool-cases, every-intro, every-elim, false-some, some-false, count-cong, count-on, count-first}
+use Rattle.basics.specs.Basics.{bool-cases, every-intro, every-elim, false-some, some-false, count-cong, count-on, count-first}
 use Rattle.sets.specs.Digits.{digit-lt, digit-low, digit-up, digit-zero, digits-tell}
 
 -- the bits of word i

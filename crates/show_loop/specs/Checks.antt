@@ -11,7 +11,7 @@ use Rattle.rules.specs.Loop.{LentRun, loopChecks, check44, check45, check46}
 use Rattle.rules.specs.Outcome.{Outcome, Verdict, none, outcome, _then_}
 use Rattle.rules.specs.Solitaire.{solitaire, soleOwner, check11}
 use Rattle.rules.specs.Tables.{Tables, gameOf, vertices, edgesIn, workWords, tableChecks, Accepted, check10}
-use Rattle.theory.specs.Basics.{or-false-both}
+use Rattle.basics.specs.Basics.{or-false-both}
 use Rattle.parity_game.specs.Laws.{then-none, given-none, check10-none}
 use Rattle.parity_game.specs.Laws.{Numbered, numbered-then, numbered-given, numbered-tables, numbered-check10}
 use Rattle.solitaire_game.specs.Checks.{numbered-check11}

@@ -15,10 +15,10 @@ use Rattle.rules.specs.Solitaire.{solitaire, soleOwner}
 use Rattle.rules.specs.Solver.{cleared}
 use Rattle.rules.specs.Tables.{Tables, gameOf, vertices}
 use Rattle.rules.specs.Winning.{Wins}
-use Rattle.theory.specs.Basics.{bool-cases, clash}
+use Rattle.basics.specs.Basics.{bool-cases, clash}
 use Rattle.theory.specs.Loop.{run-solitaire, solitaire-run}
 use Rattle.theory.specs.Solitaire.{accepted-one-owner, solitaire-wins, wins-solitaire, solitaire-rest}
-use Rattle.theory.specs.Tables.{accepted-total}
+use Rattle.accepted.specs.Tables.{accepted-total}
 use Rattle.parity_game.specs.Said.{refusal}
 use Rattle.show_loop.specs.Checks.{Passed, checks-passed}
 use Rattle.show_loop.specs.Running.{lentOf}

@@ -16,12 +16,13 @@ use Rattle.rules.specs.Outcome.{Outcome, Verdict, none, refused, outcome, answe
 use Rattle.rules.specs.Solitaire.{inside, atMost, onPart, solitaire, soleOwner, check11}
 use Rattle.rules.specs.Solver.{cleared}
 use Rattle.rules.specs.Tables.{Tables, gameOf, vertices, edgesIn, workWords, Accepted}
-use Rattle.theory.specs.Basics.{not-true-is-false, or-left, true-same, and-left}
+use Rattle.basics.specs.Basics.{not-true-is-false, or-left, and-left}
+use Rattle.theory.specs.Players.{true-same}
 use Rattle.theory.specs.Chosen.{chosenPart, on-part-chosen}
 use Rattle.theory.specs.Links.{Linked}
 use Rattle.theory.specs.Loop.{path-map, run-of, run-solitaire, solitaire-head}
 use Rattle.theory.specs.Solitaire.{inside-elim, inside-intro, at-most-elim, at-most-intro, wider}
-use Rattle.theory.specs.Tables.{accepted-priority, accepted-total}
+use Rattle.accepted.specs.Tables.{accepted-priority, accepted-total}
 use Rattle.theory.specs.Walks.{Carries, reach-map}
 use Rattle.parity_game.specs.Laws.{accepted-sound}
 use Rattle.parity_game.specs.Said.{refusal}

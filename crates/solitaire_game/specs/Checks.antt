@@ -11,7 +11,7 @@ use Rattle.rules.specs.Counting.{Set, some}
 use Rattle.rules.specs.Outcome.{Outcome, Verdict, none, outcome, answered, _then_}
 use Rattle.rules.specs.Solitaire.{LentSet, solitaireChecks, check11}
 use Rattle.rules.specs.Tables.{Tables, vertices, edgesIn, words, workWords, tableChecks, Accepted, check9, check10}
-use Rattle.theory.specs.Basics.{some-intro, false-some}
+use Rattle.basics.specs.Basics.{some-intro, false-some}
 use Rattle.parity_game.specs.Laws.{then-none, check9-set-none, check10-none}
 use Rattle.parity_game.specs.Laws.{Numbered, numbered-then, numbered-given, numbered-tables, numbered-check9, numbered-check10}
 use Rattle.parity_game.specs.Said.{refusal}

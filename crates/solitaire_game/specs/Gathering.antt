@@ -11,7 +11,7 @@ use lib.ListN.{length, getD, take, drop}
 use Rattle.rules.specs.Counting.{Set}
 use Rattle.rules.specs.Tables.{words}
 use Rattle.rules.specs.Words.{setOf}
-use Rattle.theory.specs.Basics.{bool-cases, bool-ext, clash, and-intro, and-left, and-right}
+use Rattle.basics.specs.Basics.{bool-cases, bool-ext, clash, and-intro, and-left, and-right}
 use Rattle.sets.specs.After.{Cleared, Filled, Put}
 use Rattle.sets.specs.Laws.{put-set, filled-set}
 use Rattle.area.specs.Area.{setAt, wordsAt}

@@ -12,12 +12,12 @@ use Rattle.rules.specs.Game.{Player, everywhere, playerOf}
 use Rattle.rules.specs.Tables.{Tables, gameOf, vertices, edgesIn, Accepted}
 use Rattle.rules.specs.Words.{entry, noEntry}
 use Rattle.rules.specs.Zielonka.{highestIn}
-use Rattle.theory.specs.Basics.{not-true-is-false, lt-or-ge}
+use Rattle.basics.specs.Basics.{not-true-is-false, lt-or-ge}
 use Rattle.theory.specs.Chosen.{chosenPart}
-use Rattle.theory.specs.Greatest.{greatest-le}
+use Rattle.basics.specs.Greatest.{greatest-le}
 use Rattle.theory.specs.Solitaire.{partsFor}
 use Rattle.theory.specs.SolitaireAttractor.{parts-elim, parts-chosen}
-use Rattle.theory.specs.Tables.{accepted-priority}
+use Rattle.accepted.specs.Tables.{accepted-priority}
 use Rattle.parity_game.specs.Laws.{accepted-sound}
 use Rattle.predecessors.specs.Table.{Ready, Predecessors}
 use Rattle.predecessors.specs.Whole.{accepted-edges}

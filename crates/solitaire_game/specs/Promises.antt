@@ -14,7 +14,7 @@ use Rattle.rules.specs.Winning.{Wins}
 use Rattle.rules.specs.Words.{setOf}
 use Rattle.rules.specs.Zielonka.{zielonka}
 use Rattle.theory.specs.Solitaire.{accepted-one-owner, solitaire-wins, wins-solitaire, solitaire-exact, solitaire-rest}
-use Rattle.theory.specs.Tables.{accepted-total}
+use Rattle.accepted.specs.Tables.{accepted-total}
 use Rattle.theory.specs.Zielonka.{zielonka-wins}
 use Rattle.parity_game.specs.Laws.{zero-none}
 use Rattle.sets.specs.Same.{holds-same}

@@ -15,11 +15,11 @@ use Rattle.rules.specs.Solitaire.{LentSet, solitaire, soleOwner, solitaireCheck
 use Rattle.rules.specs.Solver.{cleared}
 use Rattle.rules.specs.Tables.{Tables, gameOf, vertices, edgesIn, words, workWords, Accepted}
 use Rattle.rules.specs.Words.{Narrow, Holds}
-use Rattle.theory.specs.Basics.{lt-or-ge}
+use Rattle.basics.specs.Basics.{lt-or-ge}
 use Rattle.theory.specs.Bits.{Bits, narrow-holds}
 use Rattle.theory.specs.Solitaire.{accepted-one-owner}
 use Rattle.theory.specs.SolitaireAttractor.{solitaire-attractor}
-use Rattle.theory.specs.Tables.{accepted-total}
+use Rattle.accepted.specs.Tables.{accepted-total}
 use Rattle.parity_game.specs.Laws.{accepted-sound}
 use Rattle.area.specs.Area.{free, setAt, wordsAt}
 use Rattle.attractor.specs.Attracted.{Attractable, Attracted, listed-kept, edges-sound}

@@ -13,9 +13,9 @@ use Rattle.rules.specs.Game.{Player, Even, Odd, playerOf}
 use Rattle.rules.specs.Tables.{Tables, gameOf, vertices, edgesIn, words, Accepted}
 use Rattle.rules.specs.Winning.{WinningSets, WinningEntries}
 use Rattle.rules.specs.Words.{setOf, Narrow, noEntry, entry}
-use Rattle.theory.specs.Basics.{not-true-is-false, length-listed, getD-listed}
+use Rattle.basics.specs.Basics.{not-true-is-false, length-listed, getD-listed}
 use Rattle.theory.specs.Bits.{Bits, narrow-holds}
-use Rattle.theory.specs.Tables.{accepted-sound, accepted-total}
+use Rattle.accepted.specs.Tables.{accepted-sound, accepted-total}
 use Rattle.theory.specs.Zielonka.{determinacy}
 use Rattle.sets.specs.Laws.{other-bit}
 use Rattle.area.specs.Area.{entries, setAt, entryAt}

@@ -20,7 +20,7 @@ use Rattle.parity_game.specs.Laws.{then-none, zero-none}
 use Rattle.sets.specs.Same.{holds-same}
 use Rattle.theory.specs.Bits.{bits-of}
 use Rattle.theory.specs.Checker.{winning-gets-yes}
-use Rattle.theory.specs.Tables.{accepted-total}
+use Rattle.accepted.specs.Tables.{accepted-total}
 use Rattle.theory.specs.Zielonka.{determinacy}
 use Rattle.lent_checks.specs.Checks.{numbered-checks}
 

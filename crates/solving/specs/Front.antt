@@ -10,7 +10,7 @@ use Rattle.rules.specs.Outcome.{Verdict, refused}
 use Rattle.rules.specs.Pgsolver.{Header, Entry}
 use Rattle.rules.specs.Printing.{PrintsText}
 use Rattle.rules.specs.Reading.{Reads, limitsOfA1}
-use Rattle.theory.specs.Basics.{lt-or-ge}
+use Rattle.basics.specs.Basics.{lt-or-ge}
 use Rattle.grammar.specs.Correct.{machine-reads}
 use Rattle.grammar.specs.Machine.{Run, live, ended, atFirst, next, stepAt, runFrom, Read, readingOf, endOf, nothingRead}
 use Rattle.grammar.specs.OneReading.{reads-one}

@@ -16,7 +16,7 @@ use Rattle.rules.specs.Reading.{Reads, beyond, stuck, whole, limitsOfA1, readCh
 use Rattle.rules.specs.Reading.{Limits, Rooms, Written, written, Told, ReadsBy, ReadsText, roomChecks, padded}
 use Rattle.rules.specs.Reading.{entryOf, targetsUpTo}
 use Rattle.rules.specs.Tables.{Tables, tablesOf, vertices, edgesIn, gameOf, tableChecks, Accepted}
-use Rattle.theory.specs.Basics.{length-listed}
+use Rattle.basics.specs.Basics.{length-listed}
 use Rattle.parity_game.specs.Laws.{Numbered, numbered-then, numbered-given, numbered-givenAt, numbered-tables}
 use Rattle.parity_game.specs.Laws.{zero-none, then-none}
 use Rattle.both_engines.specs.Solved.{Given}

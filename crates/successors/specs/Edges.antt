@@ -8,8 +8,8 @@ use native.Mathlib.Omega.{arith}
 use lib.ListN.{length, getD}
 use Rattle.rules.specs.Counting.{Set, someOf}
 use Rattle.rules.specs.Tables.{Tables, gameOf, targetsOf}
-use Rattle.theory.specs.Basics.{someOf-intro, false-someOf}
-use Rattle.theory.specs.Tables.{edge-place, place-edge}
+use Rattle.basics.specs.Basics.{someOf-intro, false-someOf}
+use Rattle.accepted.specs.Tables.{edge-place, place-edge}
 
 -- tables with nothing but these edges
 abbrev edgesOnly : List ℕ → List ℕ → Tables

@@ -13,8 +13,8 @@ use lib.ListN.{length, getD}
 use Rattle.rules.specs.Counting.{Set, someOf, lowest}
 use Rattle.rules.specs.Tables.{targetsOf}
 use Rattle.rules.specs.Words.{setOf}
-use Rattle.theory.specs.Basics.{not-true-is-false, and-intro, and-left, and-right, lt-or-ge, someOf-intro, someOf-elim, false-some}
-use Rattle.theory.specs.Basics.{lowest-unique, lowest-none}
+use Rattle.basics.specs.Basics.{not-true-is-false, and-intro, and-left, and-right, lt-or-ge, someOf-intro, someOf-elim, false-some}
+use Rattle.basics.specs.Basics.{lowest-unique, lowest-none}
 use Rattle.attractor_counters.specs.Counters.{EdgesOf}
 use Rattle.successors.specs.Edges.{target-place, place-target}
 

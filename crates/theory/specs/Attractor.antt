@@ -9,11 +9,11 @@ use native.Mathlib.Omega.{arith}
 use Rattle.rules.specs.Counting.{Set, someOf, everyOf, within}
 use Rattle.rules.specs.Game.{Player, Game, Edge, same}
 use Rattle.rules.specs.Attractor.{drawn, Closed, IsAttractor, grown, attractor}
-use Rattle.theory.specs.Basics.{bool-cases, bool-ext, and-intro, and-left, and-right, or-left, or-right, or-cases}
-use Rattle.theory.specs.Basics.{same-true, same-false, true-same, false-same}
-use Rattle.theory.specs.Basics.{someOf-intro, someOf-elim, everyOf-intro, everyOf-elim}
+use Rattle.basics.specs.Basics.{bool-cases, bool-ext, and-intro, and-left, and-right, or-left, or-right, or-cases}
+use Rattle.theory.specs.Players.{same-true, same-false, true-same, false-same}
+use Rattle.basics.specs.Basics.{someOf-intro, someOf-elim, everyOf-intro, everyOf-elim}
 use Rattle.theory.specs.Rounds.{Settled, rounds-settle}
-use Rattle.theory.specs.Basics.{within-below, within-member}
+use Rattle.basics.specs.Basics.{within-below, within-member}
 
 -- v may be drawn into S, with the edges that show it
 pub data Draws (g : Game) (a : Player) (V' S : Set) (v : ℕ) : Type 0 where

@@ -8,8 +8,9 @@ use borrow.Author.Tests.{not-false}
 use Rattle.rules.specs.Counting.{Set, everyOf, without}
 use Rattle.rules.specs.Game.{Player, Game, Edge}
 use Rattle.rules.specs.Attractor.{Closed, IsAttractor}
-use Rattle.theory.specs.Basics.{clash, not-true-is-false, player-decided, everyOf-elim, everyOf-false, or-false-both}
-use Rattle.theory.specs.Basics.{without-intro, without-left, without-right}
+use Rattle.basics.specs.Basics.{clash, not-true-is-false, everyOf-elim, everyOf-false, or-false-both}
+use Rattle.theory.specs.Players.{player-decided}
+use Rattle.basics.specs.Basics.{without-intro, without-left, without-right}
 use Rattle.theory.specs.Attractor.{Draws, by-own, by-other, draws, drawn-so, draws-inside, Fits}
 
 -- each vertex of V' has an edge that ends in V'

@@ -8,7 +8,8 @@ use Rattle.rules.specs.Counting.{Set}
 use Rattle.rules.specs.Game.{Player, Game, Edge, same}
 use Rattle.rules.specs.Words.{entry}
 use Rattle.rules.specs.Attractor.{IsAttractor, attractor, Avoids, still, own, other, AttractorEntries}
-use Rattle.theory.specs.Basics.{clash, not-true-is-false, not-false-is-true, player-decided, true-same, false-same}
+use Rattle.basics.specs.Basics.{clash, not-true-is-false, not-false-is-true}
+use Rattle.theory.specs.Players.{player-decided, true-same, false-same}
 use Rattle.theory.specs.Attractor.{Fits}
 use Rattle.theory.specs.AttractorComplement.{own-stays-out, other-gets-out}
 use Rattle.theory.specs.AttractorRank.{Certificate, attractor-certificate, is-certificate}

@@ -12,9 +12,9 @@ use lib.ListN.{length}
 use Rattle.rules.specs.Counting.{Set}
 use Rattle.rules.specs.Game.{Game, Edge, edges, Total}
 use Rattle.rules.specs.Attractor.{Sources, indegree, looksOf}
-use Rattle.theory.specs.Basics.{bool-cases, lt-or-ge, times-pos, times-member, times-none}
-use Rattle.theory.specs.AttractorBasics.{sum, sum-cong, sum-zero, sum-swap, sum-change, sum-length, sum-times, countOf}
-use Rattle.theory.specs.AttractorBasics.{gathered, gathered-past, times-gathered}
+use Rattle.basics.specs.Basics.{bool-cases, lt-or-ge, times-pos, times-member, times-none}
+use Rattle.basics.specs.Sums.{sum, sum-cong, sum-zero, sum-swap, sum-change, sum-length, sum-times, countOf}
+use Rattle.basics.specs.Sums.{gathered, gathered-past, times-gathered}
 
 -- the rules' totals are sums
 sum-elim : (n : ℕ) (f : ℕ → ℕ) → (elim n as (λ x. ℕ) [ zero ↦ 0 | suc (v → h) ↦ h + f v ]) ≡ sum n f

@@ -13,7 +13,8 @@ use Rattle.rules.specs.Words.{noEntry, entry}
 use Rattle.rules.specs.Winning.{Walk, one, more, Cycle}
 use Rattle.rules.specs.Distance.{distance}
 use Rattle.rules.specs.Attractor.{Closed, IsAttractor, attractor, Avoids, still, own, other, AttractorEntries}
-use Rattle.theory.specs.Basics.{bool-cases, clash, not-false-is-true, player-decided}
+use Rattle.basics.specs.Basics.{bool-cases, clash, not-false-is-true}
+use Rattle.theory.specs.Players.{player-decided}
 use Rattle.theory.specs.Attractor.{by-own, by-other, drawn-so, draws-all, draws-one, Fits}
 use Rattle.theory.specs.Attractor.{attractor-is, attractor-inside, attractor-unique}
 use Rattle.theory.specs.Distance.{grown-near, distance-low, distance-target, distance-draws, nearest, nearest-sinks}

@@ -12,10 +12,10 @@ use Rattle.rules.specs.Counting.{Set, some, someOf, count, without}
 use Rattle.rules.specs.Game.{Player, Game, Edge}
 use Rattle.rules.specs.Attractor.{drawn, IsAttractor, attractor, Growing, atFirst, TakesOne, Takes, stop, next, Finished}
 use Rattle.rules.specs.Attractor.{looksOf}
-use Rattle.theory.specs.Basics.{bool-cases, clash, bool-ext, and-intro, and-right, or-left, or-right, or-cases}
-use Rattle.theory.specs.Basics.{not-false-is-true, member-cases, some-elim, some-false, someOf-intro, count-strict}
-use Rattle.theory.specs.Basics.{without-intro, without-left, without-right}
-use Rattle.theory.specs.AttractorBasics.{count-full}
+use Rattle.basics.specs.Basics.{bool-cases, clash, bool-ext, and-intro, and-right, or-left, or-right, or-cases}
+use Rattle.basics.specs.Basics.{not-false-is-true, member-cases, some-elim, some-false, someOf-intro, count-strict}
+use Rattle.basics.specs.Basics.{without-intro, without-left, without-right}
+use Rattle.basics.specs.Sums.{count-full}
 use Rattle.theory.specs.Attractor.{Draws, by-own, by-other, draws, drawn-so, draws-along, draws-more, Fits}
 use Rattle.theory.specs.Attractor.{attractor-is, attractor-below, attractor-unique}
 use Rattle.theory.specs.AttractorLooks.{edge-source, entries-length, looks-none, looks-more, sourcesOf, sourcesOf-entries}

@@ -11,9 +11,9 @@ use Rattle.rules.specs.Counting.{Set, some, count}
 use Rattle.rules.specs.Game.{Player, Game, everywhere, Total}
 use Rattle.rules.specs.Zielonka.{highestIn, withPriority, zielonka}
 use Rattle.rules.specs.Budget.{choose, chooseUpTo, callBound, differentPriorities}
-use Rattle.theory.specs.Basics.{clash, not-true-is-false, and-intro, and-left, and-right, Subset, without-right}
-use Rattle.theory.specs.Basics.{some-intro, some-elim, false-some, count-mono, count-strict}
-use Rattle.theory.specs.Greatest.{greatest-bounds, greatest-le}
+use Rattle.basics.specs.Basics.{clash, not-true-is-false, and-intro, and-left, and-right, Subset, without-right}
+use Rattle.basics.specs.Basics.{some-intro, some-elim, false-some, count-mono, count-strict}
+use Rattle.basics.specs.Greatest.{greatest-bounds, greatest-le}
 use Rattle.theory.specs.Run.{Top, Cut, Run, empty, all-won, some-lost, cut-inside, cut-fewer, first-fewer}
 use Rattle.theory.specs.Zielonka.{rules-run, everywhere-below, everywhere-total}
 

@@ -9,7 +9,7 @@ use Rattle.rules.specs.Tables.{Tables, gameOf, Accepted}
 use Rattle.rules.specs.Checker.{certificateChecks}
 use Rattle.rules.specs.Solver.{Lent, Answered}
 use Rattle.rules.specs.Zielonka.{zielonka}
-use Rattle.theory.specs.Tables.{accepted-total, accepted-few}
+use Rattle.accepted.specs.Tables.{accepted-total, accepted-few}
 use Rattle.theory.specs.Zielonka.{zielonka-wins, zielonka-entries-win, determinacy}
 use Rattle.theory.specs.Bits.{bits-of}
 use Rattle.theory.specs.Checker.{winning-gets-yes}

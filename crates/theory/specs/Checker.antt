@@ -19,13 +19,13 @@ use Rattle.rules.specs.Words.{digit, bit, setOf, entry, noEntry}
 use Rattle.rules.specs.Zielonka.{highestIn}
 use Rattle.rules.specs.Checker.{winnerOf, ownWinner, sameSide, nothingChosen, keptEdges, onCycle}
 use Rattle.rules.specs.Checker.{check21, check22, check23, check24, certificateChecks}
-use Rattle.theory.specs.Basics.{bool-cases, clash, not-true-is-false, and-intro, and-left, and-right, or-false-both}
-use Rattle.theory.specs.Basics.{some-false, false-some, everyOf-intro, everyOf-elim, lt-or-ge}
-use Rattle.theory.specs.Basics.{same-true, true-same, same-false, false-same, opponent-differs}
+use Rattle.basics.specs.Basics.{bool-cases, clash, not-true-is-false, and-intro, and-left, and-right, or-false-both}
+use Rattle.basics.specs.Basics.{some-false, false-some, everyOf-intro, everyOf-elim, lt-or-ge}
+use Rattle.theory.specs.Players.{same-true, true-same, same-false, false-same, opponent-differs}
 use Rattle.theory.specs.Walks.{Among, walk-map, walk-among, stays, first-edge, leaves-start, highest-bounds, highest-le}
 use Rattle.theory.specs.OneWinner.{not-both-win}
 use Rattle.theory.specs.Dominion.{Dominion, Inside, owner-cases, partition-exact, partition-entries, firstTarget, first-target-edge}
-use Rattle.theory.specs.Tables.{then-none, givenAt-none, accepted-total}
+use Rattle.accepted.specs.Tables.{then-none, givenAt-none, accepted-total}
 use Rattle.theory.specs.Bits.{Bits}
 use Rattle.theory.specs.Links.{Linked, on-cycle-test-cycle, cycle-on-cycle-test}
 use Rattle.theory.specs.Solitaire.{edge-test, test-edge, priority-le-highest}

@@ -17,7 +17,7 @@ use Rattle.rules.specs.Words.{entry, noEntry}
 use Rattle.rules.specs.Zielonka.{highestIn}
 use Rattle.rules.specs.Solitaire.{Links, inside, goodPart, atMost, onPart}
 use Rattle.rules.specs.Checker.{winnerOf, keptEdges, check22, check23, check24}
-use Rattle.theory.specs.Basics.{bool-ext, and-intro, and-left, and-right, some-intro, some-elim, some-cong}
+use Rattle.basics.specs.Basics.{bool-ext, and-intro, and-left, and-right, some-intro, some-elim, some-cong}
 use Rattle.theory.specs.Dominion.{owner-cases}
 use Rattle.theory.specs.Walks.{highest-le}
 use Rattle.theory.specs.Links.{Linked, first-step, good-part-cycle, cycle-good-part, good-part-on-cycle, good-part-agrees}

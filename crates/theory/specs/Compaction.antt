@@ -17,9 +17,9 @@ use Rattle.rules.specs.Game.{Player, parity, playerOf}
 use Rattle.rules.specs.Outcome.{none, givenAt}
 use Rattle.rules.specs.Tables.{Tables, vertices, gameOf, tableChecks, check5, Accepted}
 use Rattle.rules.specs.Winning.{Wins, WinningSets}
-use Rattle.theory.specs.Basics.{bool-cases, some-intro, false-some, below-suc}
+use Rattle.basics.specs.Basics.{bool-cases, some-intro, false-some, below-suc}
 use Rattle.theory.specs.Relabelling.{Alike, Keeps, keeps-order, alike-sym, alike-winners, alike-winning-sets, alike-answers}
-use Rattle.theory.specs.Tables.{accepted-sound, accepted-total}
+use Rattle.accepted.specs.Tables.{accepted-sound, accepted-total}
 
 -- ---- relabelled tables
 

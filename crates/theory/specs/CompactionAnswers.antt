@@ -9,7 +9,7 @@ use Rattle.rules.specs.Tables.{Tables, gameOf, Accepted}
 use Rattle.rules.specs.Zielonka.{zielonka}
 use Rattle.theory.specs.Compaction.{compactedTables, compacted-accepted, compaction-keeps-answers}
 use Rattle.theory.specs.PromotionAccepted.{accepted-rounds-sets}
-use Rattle.theory.specs.Tables.{accepted-total}
+use Rattle.accepted.specs.Tables.{accepted-total}
 use Rattle.theory.specs.Zielonka.{zielonka-wins}
 
 module _ (t : Tables) (ok : Accepted t) where

@@ -17,12 +17,13 @@ use Rattle.rules.specs.Counting.{Set, some, count}
 use Rattle.rules.specs.Game.{Even, Odd, Game, everywhere, playerOf}
 use Rattle.rules.specs.Tables.{Tables, vertices, gameOf, Accepted}
 use Rattle.rules.specs.Zielonka.{highestIn}
-use Rattle.theory.specs.Basics.{bool-cases, or-left, or-right, or-cases, opponent-differs, below-suc, le-or-ge}
-use Rattle.theory.specs.Basics.{some-elim, some-false, some-cong, false-some, count-cong, count-mono, count-none}
+use Rattle.basics.specs.Basics.{bool-cases, or-left, or-right, or-cases, below-suc, le-or-ge}
+use Rattle.theory.specs.Players.{opponent-differs}
+use Rattle.basics.specs.Basics.{some-elim, some-false, some-cong, false-some, count-cong, count-mono, count-none}
 use Rattle.theory.specs.DepthFirst.{Marks, marks-count}
-use Rattle.theory.specs.Greatest.{greatest-bounds}
+use Rattle.basics.specs.Greatest.{greatest-bounds}
 use Rattle.theory.specs.Relabelling.{Keeps}
-use Rattle.theory.specs.Tables.{accepted-sound}
+use Rattle.accepted.specs.Tables.{accepted-sound}
 use Rattle.theory.specs.Compaction.{AtMost, next-parity, next-lowest, last-used, last-unused, number-lowest}
 use Rattle.theory.specs.Compaction.{compacted-monotone, compacted-parity, compacted-small, compacted-keeps, entry-used}
 use Rattle.theory.specs.Compaction.{getD-map-below, withPriorities, compactedTables}

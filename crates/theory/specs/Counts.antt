@@ -14,9 +14,9 @@ use lib.Seq.{getD-set-same, getD-set-other, take-set-lt, getD-take, ext-getD, ta
 use Rattle.rules.specs.Compaction.{used}
 use Rattle.rules.specs.Counting.{Set, every, count, some, times, greatest}
 use Rattle.rules.specs.Record.{countsOf, counted, differentIn, highestIn, keptFor, freshCount, sameList}
-use Rattle.theory.specs.Basics.{bool-cases, clash, bool-ext, and-intro, and-left, and-right, every-intro, every-elim, not-false-is-true}
-use Rattle.theory.specs.Basics.{length-listed, getD-listed, times-pos, times-member, place-member, member-place, count-cong, some-intro, some-elim}
-use Rattle.theory.specs.Greatest.{greatest-bounds, greatest-le}
+use Rattle.basics.specs.Basics.{bool-cases, clash, bool-ext, and-intro, and-left, and-right, every-intro, every-elim, not-false-is-true}
+use Rattle.basics.specs.Basics.{length-listed, getD-listed, times-pos, times-member, place-member, member-place, count-cong, some-intro, some-elim}
+use Rattle.basics.specs.Greatest.{greatest-bounds, greatest-le}
 
 -- ---- equal lists
 

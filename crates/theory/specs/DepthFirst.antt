@@ -14,7 +14,7 @@ use lib.ListN.{length, getD, take, length-append, List·getD-append}
 use lib.Seq.{take-suc, take-append-seam, take-append-le, getD-append-seam}
 use Rattle.rules.specs.Counting.{Set, count}
 use Rattle.rules.specs.Winning.{Reach, here, step}
-use Rattle.theory.specs.Basics.{bool-cases, clash, count-cong, count-none, count-le, count-strict, below-suc}
+use Rattle.basics.specs.Basics.{bool-cases, clash, count-cong, count-none, count-le, count-strict, below-suc}
 use Rattle.theory.specs.Walks.{Relation, Among, reach-append, reach-step, reach-stays}
 
 -- P holds of each entry of a list and the entries before it

@@ -14,11 +14,13 @@ use Rattle.rules.specs.Game.{Player, Game, Edge, same}
 use Rattle.rules.specs.Words.{noEntry}
 use Rattle.rules.specs.Attractor.{grown, attractor}
 use Rattle.rules.specs.Distance.{outside, leastOf, greatestOf, IsDistance, distance, lowestIn, attractorEntry}
-use Rattle.theory.specs.Basics.{bool-cases, clash, bool-ext, without-intro, without-left, without-right}
-use Rattle.theory.specs.Basics.{not-true-is-false, and-intro, and-left, and-right, player-decided, lt-or-ge}
-use Rattle.theory.specs.Basics.{same-true, true-same, some-intro, some-elim, some-false, someOf-intro, someOf-elim}
-use Rattle.theory.specs.Basics.{IsLowest, lowest-none, lowest-found, below-lowest, lowest-unique, le-of-not-lt, pigeonhole}
-use Rattle.theory.specs.PromotionBasics.{noted-below, noted-above}
+use Rattle.basics.specs.Basics.{bool-cases, clash, bool-ext, without-intro, without-left, without-right}
+use Rattle.basics.specs.Basics.{not-true-is-false, and-intro, and-left, and-right, lt-or-ge}
+use Rattle.theory.specs.Players.{player-decided}
+use Rattle.theory.specs.Players.{same-true, true-same}
+use Rattle.basics.specs.Basics.{some-intro, some-elim, some-false, someOf-intro, someOf-elim}
+use Rattle.basics.specs.Basics.{IsLowest, lowest-none, lowest-found, below-lowest, lowest-unique, le-of-not-lt, pigeonhole}
+use Rattle.basics.specs.Basics.{noted-below, noted-above}
 use Rattle.theory.specs.Attractor.{Draws, by-own, by-other, draws-more, draws-own, draws-all, draws-one, draws-some, Fits}
 use Rattle.theory.specs.Attractor.{grown-zero, zero-grown, grown-back, grown-draws, grown-later, grown-smallest}
 use Rattle.theory.specs.Attractor.{attractor-is, attractor-below, attractor-inside}

@@ -7,7 +7,7 @@ use Rattle.rules.specs.Game.{Player, Game}
 use Rattle.rules.specs.Words.{noEntry}
 use Rattle.rules.specs.Attractor.{attractor, AttractorEntries}
 use Rattle.rules.specs.Distance.{outside, attractorEntry}
-use Rattle.theory.specs.Basics.{getD-listed}
+use Rattle.basics.specs.Basics.{getD-listed}
 use Rattle.theory.specs.Attractor.{Fits, attractor-below}
 use Rattle.theory.specs.Distance.{entry-nearest, entry-none}
 use Rattle.theory.specs.AttractorRank.{attractor-certificate, attractor-pull, same-certificate, same-pull, certificate-entries}

@@ -12,9 +12,10 @@ use Rattle.rules.specs.Counting.{Set, without, union}
 use Rattle.rules.specs.Game.{Player, Even, Odd, opponent, Game, everywhere, Edge, Total, parity}
 use Rattle.rules.specs.Winning.{Cycle, Step, WinsBy, Wins, WinningSets, WinningEntries}
 use Rattle.rules.specs.Words.{entry, noEntry}
-use Rattle.theory.specs.Basics.{bool-cases, clash, member-place, place-member, player-cases, opponent-is-other, Subset}
-use Rattle.theory.specs.Basics.{without-intro, without-left, without-right}
-use Rattle.theory.specs.Basics.{union-left, union-right, union-cases, union-rest, union-without, union-absorbs}
+use Rattle.basics.specs.Basics.{bool-cases, clash, member-place, place-member, Subset}
+use Rattle.theory.specs.Players.{player-cases, opponent-is-other}
+use Rattle.basics.specs.Basics.{without-intro, without-left, without-right}
+use Rattle.basics.specs.Basics.{union-left, union-right, union-cases, union-rest, union-without, union-absorbs}
 use Rattle.theory.specs.Walks.{Relation, Among, walk-map, stays, cycle-splits, reach-stays, no-falling-cycle, first-edge, hits, Meets, highest-is}
 use Rattle.theory.specs.OneWinner.{not-both-win}
 

@@ -14,10 +14,10 @@ use Rattle.rules.specs.Outcome.{Verdict, none, refused, given, _then_}
 use Rattle.rules.specs.Tables.{Tables, tablesOf, vertices, edgesIn, check1, tableChecks, Accepted}
 use Rattle.rules.specs.Record.{Record, Edit, setPriority, setOwner, turnEdge, tablesIn, freshCount, sameList, withPriorities, withOwners, withTargets}
 use Rattle.rules.specs.Record.{room2, room3, sizeChecks, recordTables, keptCheck, check47, recordChecks, ownChecks, editChecks, changed, leftBy, edited, editedBy}
-use Rattle.theory.specs.Basics.{bool-cases, or-false-both}
+use Rattle.basics.specs.Basics.{bool-cases, or-false-both}
 use Rattle.theory.specs.Counts.{same-equal, equal-same}
 use Rattle.theory.specs.MendingAccepted.{sound-accepted}
-use Rattle.theory.specs.Tables.{Sound, accepted-sound, then-none, given-none, check1-none}
+use Rattle.accepted.specs.Tables.{Sound, accepted-sound, then-none, given-none, check1-none}
 
 -- ---- a record that passes
 

@@ -14,7 +14,7 @@ use Rattle.rules.specs.Counting.{Set, some}
 use Rattle.rules.specs.Game.{Game}
 use Rattle.rules.specs.Winning.{Reach, here, step}
 use Rattle.rules.specs.Solitaire.{Links, samePart, goodPart}
-use Rattle.theory.specs.Basics.{bool-cases, clash, bool-ext, and-intro, and-left, and-right, not-true-is-false, some-cong}
+use Rattle.basics.specs.Basics.{bool-cases, clash, bool-ext, and-intro, and-left, and-right, not-true-is-false, some-cong}
 use Rattle.theory.specs.Walks.{Relation, Among, reach-step, reach-map}
 use Rattle.theory.specs.Links.{Linked, Together, together-sym, together-trans, same-part-together, together-same-part}
 use Rattle.theory.specs.DepthFirst.{FinishingOrder, Marks, marks-cases, marks-keeps, arrives}

@@ -1,14 +1,12 @@
 -- Theorems about the rules alone: one winner, dominions, attractors and distances, Zielonka's recursion and its bound, strongly
 -- connected parts, solitaire, the checker, priority promotion, relabelled priorities, mended exports, and the worked games.
-pub mod Basics
+pub mod Players
 pub mod Walks
 pub mod Orbit
 pub mod OneWinner
 pub mod Dominion
-pub mod Tables
 pub mod Relabelling
 pub mod Compaction
-pub mod AttractorBasics
 pub mod Rounds
 pub mod Attractor
 pub mod Distance
@@ -18,7 +16,6 @@ pub mod AttractorEntries
 pub mod AttractorComplement
 pub mod AttractorLooks
 pub mod AttractorSteps
-pub mod Greatest
 pub mod Run
 pub mod RunSound
 pub mod RunSame
@@ -50,7 +47,6 @@ pub mod PromotionSound
 pub mod PromotionExists
 pub mod PromotionChosen
 pub mod PromotionSame
-pub mod PromotionMeasure
 pub mod PromotionBound
 pub mod PromotionAccepted
 pub mod CompactionFewest

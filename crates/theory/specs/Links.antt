@@ -13,8 +13,8 @@ use Rattle.rules.specs.Game.{Game}
 use Rattle.rules.specs.Winning.{Walk, one, more, Cycle, Reach, here, step}
 use Rattle.rules.specs.Solitaire.{Links, spread, reached, samePart, goodPart}
 use Rattle.rules.specs.Checker.{onCycle}
-use Rattle.theory.specs.Basics.{bool-cases, clash, bool-ext, and-intro, and-left, and-right, or-left, or-right, or-cases}
-use Rattle.theory.specs.Basics.{some-intro, some-elim, within-below, within-member, lowest-found, lowest-none, below-lowest, le-of-not-lt}
+use Rattle.basics.specs.Basics.{bool-cases, clash, bool-ext, and-intro, and-left, and-right, or-left, or-right, or-cases}
+use Rattle.basics.specs.Basics.{some-intro, some-elim, within-below, within-member, lowest-found, lowest-none, below-lowest, le-of-not-lt}
 use Rattle.theory.specs.Walks.{Relation, Carries, Among, reach-append, reach-map, reach-stays, walk-map, walk-reach}
 use Rattle.theory.specs.Walks.{reach-walk, leaves-start, highest-bounds, highest-attained, highest-le, left-reach}
 use Rattle.theory.specs.Rounds.{Settled, rounds-settle}

@@ -16,7 +16,7 @@ use Rattle.rules.specs.Game.{Player, Game, everywhere, Edge, Total, parity}
 use Rattle.rules.specs.Loop.{Path, alone, next, highestOf, Run}
 use Rattle.rules.specs.Solitaire.{Links, inside, reached, atMost, onPart, solitaire}
 use Rattle.rules.specs.Winning.{Walk, one, more, Reach, here, step, Wins}
-use Rattle.theory.specs.Basics.{bool-cases, and-intro, not-true-is-false, count-strict, count-le, count-pos}
+use Rattle.basics.specs.Basics.{bool-cases, and-intro, not-true-is-false, count-strict, count-le, count-pos}
 use Rattle.theory.specs.Links.{Linked, reached-end, reach-reached, together-refl, edge-reach-walk, cycle-on-cycle}
 use Rattle.theory.specs.Links.{good-part-intro}
 use Rattle.theory.specs.Links.{first-step, distance, towards, towards-nearer}

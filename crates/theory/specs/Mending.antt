@@ -19,9 +19,9 @@ use Rattle.rules.specs.Mending.{droppedUpTo, alteredUpTo, mendingList}
 use Rattle.rules.specs.Outcome.{Verdict, none, _then_}
 use Rattle.rules.specs.Tables.{Tables, vertices, edgesIn, degree, targetsOf}
 use Rattle.rules.specs.Tables.{check1, check2, check3, check4, check5, check6}
-use Rattle.theory.specs.Basics.{bool-cases}
-use Rattle.theory.specs.Tables.{offset, never-falls, then-none}
-use Rattle.theory.specs.Tables.{check1-none, check2-none, check3-none, check4-none, check5-none, check6-none}
+use Rattle.basics.specs.Basics.{bool-cases}
+use Rattle.accepted.specs.Tables.{offset, never-falls, then-none}
+use Rattle.accepted.specs.Tables.{check1-none, check2-none, check3-none, check4-none, check5-none, check6-none}
 
 -- ---- entries that pass a test
 

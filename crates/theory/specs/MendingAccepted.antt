@@ -18,8 +18,8 @@ use Rattle.rules.specs.Mending.{droppedUpTo, alteredUpTo, mendingList}
 use Rattle.rules.specs.Outcome.{none, givenAt}
 use Rattle.rules.specs.Tables.{Tables, tablesOf, vertices, edgesIn, degree, targetsOf, gameOf, tableChecks, Accepted}
 use Rattle.rules.specs.Tables.{check1, check2, check3, check4, check5, check6, check7, check8}
-use Rattle.theory.specs.Basics.{bool-cases, false-some, length-listed, getD-listed, place-member}
-use Rattle.theory.specs.Tables.{offset, Sound, never-falls, accepted-sound, accepted-total}
+use Rattle.basics.specs.Basics.{bool-cases, false-some, length-listed, getD-listed, place-member}
+use Rattle.accepted.specs.Tables.{offset, Sound, never-falls, accepted-sound, accepted-total}
 use Rattle.theory.specs.Mending.{keep-passes, keep-all, exportChecks, Shaped, Mendable, export-mendable, isVertex}
 use Rattle.theory.specs.Mending.{new-positive, new-length-more, degree-spans, offset-within}
 

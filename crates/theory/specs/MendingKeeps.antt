@@ -17,7 +17,7 @@ use Rattle.rules.specs.Game.{playerOf}
 use Rattle.rules.specs.Mending.{keep, keptTargets, altered, newTargets, losingPriority, newPriority, newTargetsUpTo, mended}
 use Rattle.rules.specs.Mending.{droppedUpTo, alteredUpTo}
 use Rattle.rules.specs.Tables.{Tables, vertices, edgesIn, targetsOf, gameOf}
-use Rattle.theory.specs.Basics.{bool-cases, below-suc}
+use Rattle.basics.specs.Basics.{bool-cases, below-suc}
 use Rattle.theory.specs.Mending.{isVertex, altered-length}
 use Rattle.theory.specs.MendingAccepted.{mended-priority, mended-offset, mended-degree}
 

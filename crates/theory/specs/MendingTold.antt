@@ -13,8 +13,8 @@ use lib.ListN.{length, getD, take, drop, length-take, length-drop}
 use lib.Seq.{take-at, drop-at, ext-getD, getD-take, getD-drop}
 use Rattle.rules.specs.Mending.{keep, keptTargets, altered, newTargets, mended, droppedUpTo, alteredUpTo, mendingList}
 use Rattle.rules.specs.Tables.{Tables, tablesOf, vertices, edgesIn, degree, targetsOf, gameOf}
-use Rattle.theory.specs.Basics.{bool-cases, bool-ext, not-false-is-true, clash, lt-or-ge, count-cong}
-use Rattle.theory.specs.Tables.{offset}
+use Rattle.basics.specs.Basics.{bool-cases, bool-ext, not-false-is-true, clash, lt-or-ge, count-cong}
+use Rattle.accepted.specs.Tables.{offset}
 use Rattle.theory.specs.Mending.{Shaped, Mendable, isVertex, kept-dropped-at, degree-spans, offset-within}
 use Rattle.theory.specs.Mending.{list-length, mended-length}
 use Rattle.theory.specs.MendingKeeps.{mended-targets, unaltered-priority, listed-dropped, dropped-listed, altered-place}

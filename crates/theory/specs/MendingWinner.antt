@@ -9,7 +9,7 @@ use Rattle.rules.specs.Game.{Player, Even, Odd, opponent, parity, playerOf}
 use Rattle.rules.specs.Mending.{altered, losingPriority, mended}
 use Rattle.rules.specs.Tables.{Tables, vertices, gameOf}
 use Rattle.rules.specs.Winning.{Walk, one, more, Reach, here, step, Step, Wins}
-use Rattle.theory.specs.Basics.{place-member}
+use Rattle.basics.specs.Basics.{place-member}
 use Rattle.theory.specs.Mending.{new-positive}
 use Rattle.theory.specs.MendingKeeps.{mended-targets, altered-targets, altered-priority}
 

@@ -12,7 +12,7 @@ use Rattle.rules.specs.Game.{Game}
 use Rattle.rules.specs.Outcome.{Verdict, none, refused, given, givenAt, _then_}
 use Rattle.rules.specs.Words.{noEntry, entry}
 use Rattle.rules.specs.Checker.{ownWinner, nothingChosen, check21, check22, check23, check24, certificateChecks}
-use Rattle.theory.specs.Basics.{bool-cases, clash, not-true-is-false, every-intro, every-elim, lowest-found}
+use Rattle.basics.specs.Basics.{bool-cases, clash, not-true-is-false, every-intro, every-elim, lowest-found}
 use Rattle.theory.specs.Checker.{badEntry}
 
 -- the number and the place of a verdict

@@ -4,7 +4,7 @@ use mathlib.Core.Path.{_≡_, refl, sym, ap, _∙_}
 use Prim.Native.Nat.{ℕ, _<_}
 use Rattle.rules.specs.Game.{Player, Even, Odd, opponent, Game, Edge, Total, parity}
 use Rattle.rules.specs.Winning.{Step, Wins}
-use Rattle.theory.specs.Basics.{opponent-differs}
+use Rattle.theory.specs.Players.{opponent-differs}
 use Rattle.theory.specs.Walks.{walk-map, reach-map}
 use Rattle.theory.specs.Orbit.{comes-back}
 

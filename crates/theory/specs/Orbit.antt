@@ -3,7 +3,7 @@ use mathlib.Core.Path.{_≡_}
 use Prim.Native.Nat.{ℕ, zero, suc, _+_, _-_, _<_}
 use native.Mathlib.Omega.{arith}
 use Rattle.rules.specs.Winning.{Cycle, Reach}
-use Rattle.theory.specs.Basics.{pigeonhole}
+use Rattle.basics.specs.Basics.{pigeonhole}
 use Rattle.theory.specs.Walks.{Relation, sequence-walk, sequence-reach}
 
 module _

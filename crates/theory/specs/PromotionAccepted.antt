@@ -15,8 +15,8 @@ use Rattle.rules.specs.Winning.{WinningSets, WinningEntries}
 use Rattle.rules.specs.Outcome.{budgeted, answered}
 use Rattle.rules.specs.Budget.{differentPriorities}
 use Rattle.rules.specs.Promotion.{Regions, regionSet, isOpen, afterRounds, roundOf, allSolved, roundsNeeded}
-use Rattle.theory.specs.Basics.{clash, le-of-not-lt, IsLowest}
-use Rattle.theory.specs.Tables.{accepted-total, accepted-few, accepted-priority}
+use Rattle.basics.specs.Basics.{clash, le-of-not-lt, IsLowest}
+use Rattle.accepted.specs.Tables.{accepted-total, accepted-few, accepted-priority}
 use Rattle.theory.specs.PromotionEntries.{Rounded}
 use Rattle.theory.specs.PromotionRounds.{lowerVertices}
 use Rattle.theory.specs.PromotionInvariant.{Invariant, rounded-invariant}

@@ -10,31 +10,8 @@ use lib.Dec.{eqb, leb}
 use Rattle.rules.specs.Counting.{Set, lowest, noted}
 use Rattle.rules.specs.Game.{Player, Game}
 use Rattle.rules.specs.Attractor.{Closed}
-use Rattle.theory.specs.Basics.{bool-cases, clash, and-intro, and-left, and-right, some-cong}
-use Rattle.theory.specs.Basics.{not-true-is-false}
-
--- two numbers are equal or not
-pub equal-cases : (m n : ℕ) → (m ≡ n) ⊎ (m ≡ n → ⊥)
-equal-cases m n = ⊎-elim (λ e. inl (eqb-true m n e)) (λ e. inr (eqb-false m n e)) (bool-cases (eqb m n))
-
--- the lowest number that passes depends on what lies below n alone
-pub lowest-cong : (n : ℕ) (S T : Set) → ((v : ℕ) → v < n → S v ≡ T v) → lowest n S ≡ lowest n T
-unfolding lowest
-lowest-cong zero S T agree = refl
-lowest-cong (suc n) S T agree =
-    rw (
-      some-cong n S T (λ v l. agree v (le-step l)),
-      lowest-cong n S T (λ v l. agree v (le-step l)),
-      agree n (le-refl (suc n)),
-    )
-
-pub noted-below : (d n : ℕ) (f : ℕ → ℕ) (v : ℕ) → v < n → noted d n f v ≡ f v
-unfolding noted
-noted-below d n f v l = rw (lt-ltb v n l)
-
-pub noted-above : (d n : ℕ) (f : ℕ → ℕ) (v : ℕ) → n ≤ v → noted d n f v ≡ d
-unfolding noted
-noted-above d n f v l = rw (le-ltb v n l)
+use Rattle.basics.specs.Basics.{bool-cases, clash, and-intro, and-left, and-right, some-cong}
+use Rattle.basics.specs.Basics.{not-true-is-false}
 
 -- regions
 

@@ -14,14 +14,15 @@ use Rattle.rules.specs.Zielonka.{highestIn}
 use Rattle.rules.specs.Budget.{differentPriorities}
 use Rattle.rules.specs.Promotion.{Regions, solvedRegion, unsolved, atStart, regionSet, isOpen, wayOut, roundOf, afterRounds}
 use Rattle.rules.specs.Promotion.{allSolved, roundsFrom, roundsNeeded}
-use Rattle.theory.specs.Basics.{bool-cases, clash, and-intro, and-left, and-right, not-true-is-false, lt-or-ge, some-intro, some-elim, count-le}
-use Rattle.theory.specs.Basics.{count-mono, count-strict, count-none, count-pos, without-left, without-right}
-use Rattle.theory.specs.Basics.{IsLowest, lowest-found}
-use Rattle.theory.specs.Greatest.{greatest-bounds}
-use Rattle.theory.specs.PromotionBasics.{noted-below, atRegion, at-intro, at-in, at-is, at-out}
+use Rattle.basics.specs.Basics.{bool-cases, clash, and-intro, and-left, and-right, not-true-is-false, lt-or-ge, some-intro, some-elim, count-le}
+use Rattle.basics.specs.Basics.{count-mono, count-strict, count-none, count-pos, without-left, without-right}
+use Rattle.basics.specs.Basics.{IsLowest, lowest-found}
+use Rattle.basics.specs.Greatest.{greatest-bounds}
+use Rattle.basics.specs.Basics.{noted-below}
+use Rattle.theory.specs.PromotionBasics.{atRegion, at-intro, at-in, at-is, at-out}
 use Rattle.theory.specs.PromotionEntries.{remaining, promotedTo, dominionSet}
 use Rattle.theory.specs.PromotionRegions.{Placed, Promotes, Moved, lifted, reset, stayed, stays-upper, goes-up}
-use Rattle.theory.specs.PromotionMeasure.{value, Digits, value-bound, value-rises}
+use Rattle.basics.specs.Digits.{value, Digits, value-bound, value-rises}
 use Rattle.theory.specs.PromotionTests.{region-low, unsolved-below, promoted-small, region-certificate, dominion-certificate}
 use Rattle.theory.specs.PromotionRounds.{lowerVertices, Round, opening, promoting, solving, round-kind, attractedRegion, attracted-gained}
 use Rattle.theory.specs.PromotionRounds.{attracted-rest, attracted-unsolved, solvedRegions, solved-unsolved, loweredState, promotedState}

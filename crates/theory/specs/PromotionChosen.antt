@@ -13,10 +13,12 @@ use Rattle.rules.specs.Words.{noEntry}
 use Rattle.rules.specs.Winning.{WinningEntries}
 use Rattle.rules.specs.Promotion.{Regions, solvedRegion, regionSet, drawnEntries, closedEntries, isOpen, wayOut, roundOf, atStart}
 use Rattle.rules.specs.Promotion.{afterRounds, allSolved}
-use Rattle.theory.specs.Basics.{bool-cases, clash, not-true-is-false, and-left, and-right, lt-or-ge, if-true, if-false}
-use Rattle.theory.specs.Basics.{same-true, getD-listed}
-use Rattle.theory.specs.Basics.{within-member, union-cases, without-left, without-right}
-use Rattle.theory.specs.PromotionBasics.{noted-below, atRegion, at-is}
+use Rattle.basics.specs.Basics.{bool-cases, clash, not-true-is-false, and-left, and-right, lt-or-ge, if-true, if-false}
+use Rattle.theory.specs.Players.{same-true}
+use Rattle.basics.specs.Basics.{getD-listed}
+use Rattle.basics.specs.Basics.{within-member, union-cases, without-left, without-right}
+use Rattle.basics.specs.Basics.{noted-below}
+use Rattle.theory.specs.PromotionBasics.{atRegion, at-is}
 use Rattle.theory.specs.PromotionEntries.{mover, remaining, promotedTo, dominionSet}
 use Rattle.theory.specs.PromotionTests.{unsolved-below, region-in, region-bare, dominion-bare, promoted-small}
 use Rattle.theory.specs.PromotionRounds.{Round, opening, promoting, solving, round-kind, round-opens, round-promotes}

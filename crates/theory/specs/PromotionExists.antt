@@ -13,9 +13,11 @@ use Rattle.rules.specs.Winning.{WinningSets}
 use Rattle.rules.specs.Distance.{attractorEntry, lowestIn}
 use Rattle.rules.specs.Promotion.{Regions, regionSet, drawnEntries, closedEntries, roundOf, atStart, afterRounds}
 use Rattle.rules.specs.Promotion.{allSolved}
-use Rattle.theory.specs.Basics.{bool-cases, clash, not-true-is-false, and-intro, and-left, and-right, true-same, if-true}
-use Rattle.theory.specs.Basics.{if-false}
-use Rattle.theory.specs.PromotionBasics.{noted-below, atRegion, upTo}
+use Rattle.basics.specs.Basics.{bool-cases, clash, not-true-is-false, and-intro, and-left, and-right, if-true}
+use Rattle.theory.specs.Players.{true-same}
+use Rattle.basics.specs.Basics.{if-false}
+use Rattle.basics.specs.Basics.{noted-below}
+use Rattle.theory.specs.PromotionBasics.{atRegion, upTo}
 use Rattle.theory.specs.PromotionEntries.{mover, remaining, promotedTo, AttractedEntries, Fills, PromotedEntries}
 use Rattle.theory.specs.PromotionEntries.{SolvedEntries}
 use Rattle.theory.specs.PromotionEntries.{RoundEntries, opened, promotes, solves, Rounded, starts, rounds}

@@ -12,12 +12,13 @@ use Rattle.rules.specs.Counting.{Set, someOf}
 use Rattle.rules.specs.Game.{Game, Edge, Total, parity}
 use Rattle.rules.specs.Words.{noEntry}
 use Rattle.rules.specs.Winning.{Cycle}
-use Rattle.theory.specs.Basics.{bool-cases, clash, lt-or-ge, not-true-is-false, someOf-elim}
+use Rattle.basics.specs.Basics.{bool-cases, clash, lt-or-ge, not-true-is-false, someOf-elim}
 use Rattle.theory.specs.Distance.{lowestIn-found}
 use Rattle.theory.specs.Walks.{Among, walk-map, cycle-splits, no-falling-cycle, first-edge, hits, highest-is}
 use Rattle.theory.specs.Dominion.{Inside, GoodCycles, owner-cases, good-cycles-sub}
 use Rattle.theory.specs.AttractorRank.{Certificate}
-use Rattle.theory.specs.PromotionBasics.{equal-cases, atRegion, upTo, at-intro, at-in, at-is, not-at}
+use Rattle.basics.specs.Basics.{equal-cases}
+use Rattle.theory.specs.PromotionBasics.{atRegion, upTo, at-intro, at-in, at-is, not-at}
 use Rattle.theory.specs.PromotionEntries.{Attracts, Fills}
 use Rattle.theory.specs.PromotionRegions.{Placed, Promotes, Moved, lifted, reset, stayed, promoted-player, gained-in}
 use Rattle.theory.specs.PromotionRegions.{gained-low, same-above}

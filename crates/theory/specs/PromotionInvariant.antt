@@ -10,12 +10,14 @@ use Rattle.rules.specs.Counting.{Set, some, noted, within, union}
 use Rattle.rules.specs.Game.{Player, Game, Total, Edge}
 use Rattle.rules.specs.Words.{noEntry}
 use Rattle.rules.specs.Promotion.{Regions, solvedRegion, unsolved, atStart, regionSet, isOpen, wayOut, roundOf}
-use Rattle.theory.specs.Basics.{clash, not-true-is-false, not-false-is-true, true-same, false-same, within-all, union-cases}
-use Rattle.theory.specs.Basics.{some-false}
-use Rattle.theory.specs.Basics.{without-left, without-right}
+use Rattle.basics.specs.Basics.{clash, not-true-is-false, not-false-is-true, within-all, union-cases}
+use Rattle.theory.specs.Players.{true-same, false-same}
+use Rattle.basics.specs.Basics.{some-false}
+use Rattle.basics.specs.Basics.{without-left, without-right}
 use Rattle.theory.specs.Dominion.{Dominion, dominion-cong, dominion-drawn, ranked-held, good-cycles-sub}
 use Rattle.theory.specs.AttractorComplement.{own-stays-out}
-use Rattle.theory.specs.PromotionBasics.{noted-below, atRegion, at-intro}
+use Rattle.basics.specs.Basics.{noted-below}
+use Rattle.theory.specs.PromotionBasics.{atRegion, at-intro}
 use Rattle.theory.specs.PromotionEntries.{mover, remaining, promotedTo, dominionSet, AttractedEntries, Fills}
 use Rattle.theory.specs.PromotionEntries.{PromotedEntries, SolvedEntries}
 use Rattle.theory.specs.PromotionEntries.{RoundEntries, opened, promotes, solves, Rounded, starts, rounds}

@@ -9,7 +9,8 @@ use native.Mathlib.Omega.{arith}
 use Rattle.rules.specs.Counting.{Set}
 use Rattle.rules.specs.Game.{Player, Game, Edge, parity}
 use Rattle.rules.specs.Attractor.{Closed}
-use Rattle.theory.specs.Basics.{bool-cases, clash, bool-ext, lt-or-ge, not-false-is-true, other-player, player-cases}
+use Rattle.basics.specs.Basics.{bool-cases, clash, bool-ext, lt-or-ge, not-false-is-true}
+use Rattle.theory.specs.Players.{other-player, player-cases}
 use Rattle.theory.specs.Dominion.{owner-cases}
 use Rattle.theory.specs.Attractor.{Draws, by-own, by-other, draws}
 use Rattle.theory.specs.AttractorComplement.{TotalIn, own-stays-out, other-gets-out}

@@ -14,8 +14,8 @@ use Rattle.rules.specs.Promotion.{dominionSolved, promoted}
 use Rattle.rules.specs.Promotion.{roundOf, drawnRegions, drawnEntries, closedEntries}
 use Rattle.rules.specs.Distance.{attractorEntry}
 use Rattle.rules.specs.Words.{noEntry}
-use Rattle.theory.specs.Basics.{bool-cases, clash, bool-ext, not-true-is-false, not-false-is-true, lt-or-ge, without-left}
-use Rattle.theory.specs.PromotionBasics.{noted-below}
+use Rattle.basics.specs.Basics.{bool-cases, clash, bool-ext, not-true-is-false, not-false-is-true, lt-or-ge, without-left}
+use Rattle.basics.specs.Basics.{noted-below}
 use Rattle.theory.specs.PromotionEntries.{mover, remaining, promotedTo, dominionSet}
 use Rattle.theory.specs.PromotionTests.{unsolved-below, unsolved-region, unsolved-intro, region-in}
 

@@ -13,10 +13,12 @@ use Rattle.rules.specs.Game.{Player, Game, Total, parity, same}
 use Rattle.rules.specs.Words.{entry, noEntry}
 use Rattle.rules.specs.Promotion.{Regions, solvedRegion, regionSet, drawnEntries, closedEntries, isOpen, wayOut, roundOf, atStart}
 use Rattle.rules.specs.Promotion.{allSolved}
-use Rattle.theory.specs.Basics.{bool-cases, clash, not-true-is-false, lt-or-ge, same-true, player-decided, listed-is}
-use Rattle.theory.specs.Basics.{some-false}
-use Rattle.theory.specs.Basics.{within-member, union-cases, without-left, without-right}
-use Rattle.theory.specs.PromotionBasics.{equal-cases, atRegion, at-is}
+use Rattle.basics.specs.Basics.{bool-cases, clash, not-true-is-false, lt-or-ge, listed-is}
+use Rattle.theory.specs.Players.{same-true, player-decided}
+use Rattle.basics.specs.Basics.{some-false}
+use Rattle.basics.specs.Basics.{within-member, union-cases, without-left, without-right}
+use Rattle.basics.specs.Basics.{equal-cases}
+use Rattle.theory.specs.PromotionBasics.{atRegion, at-is}
 use Rattle.theory.specs.PromotionEntries.{mover, remaining, promotedTo, dominionSet, AttractedEntries, Fills}
 use Rattle.theory.specs.PromotionEntries.{PromotedEntries, SolvedEntries}
 use Rattle.theory.specs.PromotionEntries.{RoundEntries, opened, promotes, solves, Rounded, starts, rounds}

@@ -7,8 +7,9 @@ use Prim.Native.Nat.{ℕ, _<_}
 use borrow.Author.Tests.{lt-ltb, ltb-true}
 use Rattle.rules.specs.Counting.{Set, without, union}
 use Rattle.rules.specs.Game.{Player, Game, Edge, Total, everywhere, opponent}
-use Rattle.theory.specs.Basics.{bool-cases, clash, not-true-is-false, player-decided, other-player, without-left, without-right, without-intro}
-use Rattle.theory.specs.Basics.{union-left, union-right}
+use Rattle.basics.specs.Basics.{bool-cases, clash, not-true-is-false, without-left, without-right, without-intro}
+use Rattle.theory.specs.Players.{player-decided, other-player}
+use Rattle.basics.specs.Basics.{union-left, union-right}
 use Rattle.theory.specs.OneWinner.{not-both-win}
 use Rattle.theory.specs.Dominion.{HeldOver, Dominion, dominion-cong, dominion-empty, dominion-join, dominion-wins}
 

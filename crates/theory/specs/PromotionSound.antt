@@ -11,7 +11,7 @@ use Rattle.rules.specs.Game.{Player, Even, Odd, opponent, Game, Total}
 use Rattle.rules.specs.Winning.{WinningSets, WinningEntries}
 use Rattle.rules.specs.Words.{noEntry, entry}
 use Rattle.rules.specs.Promotion.{Regions, allSolved}
-use Rattle.theory.specs.Basics.{bool-ext, some-false}
+use Rattle.basics.specs.Basics.{bool-ext, some-false}
 use Rattle.theory.specs.Dominion.{partition-exact, partition-entries}
 use Rattle.theory.specs.PromotionEntries.{remaining, Rounded}
 use Rattle.theory.specs.PromotionSolved.{solved-disjoint}

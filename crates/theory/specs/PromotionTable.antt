@@ -13,16 +13,18 @@ use Rattle.rules.specs.Words.{noEntry}
 use Rattle.rules.specs.Promotion.{Regions, solvedRegion, unsolved, highestRegion, regionSet, isOpen, wayOut, roundOf, atStart}
 use Rattle.rules.specs.Promotion.{afterRounds, movedDown}
 use Rattle.rules.specs.Promotion.{promoted}
-use Rattle.theory.specs.Basics.{not-false-is-true, false-some, lowest-none, lowest-le, within-below, some-intro, some-elim}
-use Rattle.theory.specs.Basics.{some-false}
-use Rattle.theory.specs.Basics.{someOf-intro, someOf-elim, false-same, same-false, lt-or-ge, bool-cases, clash, bool-ext}
-use Rattle.theory.specs.Basics.{and-intro, and-left}
-use Rattle.theory.specs.Basics.{and-right, some-cong, someOf-cong, not-true-is-false}
+use Rattle.basics.specs.Basics.{not-false-is-true, false-some, lowest-none, lowest-le, within-below, some-intro, some-elim}
+use Rattle.basics.specs.Basics.{some-false}
+use Rattle.basics.specs.Basics.{someOf-intro, someOf-elim, lt-or-ge, bool-cases, clash, bool-ext}
+use Rattle.theory.specs.Players.{false-same, same-false}
+use Rattle.basics.specs.Basics.{and-intro, and-left}
+use Rattle.basics.specs.Basics.{and-right, some-cong, someOf-cong, not-true-is-false}
 use Rattle.theory.specs.Distance.{nearest}
 use Rattle.theory.specs.AttractorRank.{Certificate, certificate-cong, certificate-is}
 use Rattle.theory.specs.Attractor.{attractor-unique, attractor-is, attractor-same}
-use Rattle.theory.specs.Greatest.{greatest-cong}
-use Rattle.theory.specs.PromotionBasics.{lowest-cong, noted-below, noted-above, atRegion, upTo, at-intro, at-in, at-is}
+use Rattle.basics.specs.Greatest.{greatest-cong}
+use Rattle.basics.specs.Basics.{lowest-cong, noted-below, noted-above}
+use Rattle.theory.specs.PromotionBasics.{atRegion, upTo, at-intro, at-in, at-is}
 use Rattle.theory.specs.PromotionEntries.{mover, remaining, promotedTo, dominionSet, Attracts, AttractedEntries}
 use Rattle.theory.specs.PromotionEntries.{PromotedEntries, SolvedEntries}
 use Rattle.theory.specs.PromotionTests.{unsolved-below, unsolved-intro, region-in, region-out, region-certificate}

@@ -12,17 +12,19 @@ use lib.Dec.{eqb, ltb}
 use Rattle.rules.specs.Counting.{Set, some, someOf}
 use Rattle.rules.specs.Game.{Game, Edge, same}
 use Rattle.rules.specs.Promotion.{Regions, solvedRegion, unsolved, highestRegion, regionSet, drawnRegions, isOpen, wayOut}
-use Rattle.theory.specs.Basics.{bool-cases, clash, and-intro, and-left, and-right, not-false-is-true, not-true-is-false}
-use Rattle.theory.specs.Basics.{same-true, true-same, same-false}
-use Rattle.theory.specs.Basics.{false-same, some-intro, some-elim, some-false, lt-or-ge, someOf-intro, someOf-elim}
-use Rattle.theory.specs.Basics.{IsLowest, lowest-found}
+use Rattle.basics.specs.Basics.{bool-cases, clash, and-intro, and-left, and-right, not-false-is-true, not-true-is-false}
+use Rattle.theory.specs.Players.{same-true, true-same, same-false}
+use Rattle.theory.specs.Players.{false-same}
+use Rattle.basics.specs.Basics.{some-intro, some-elim, some-false, lt-or-ge, someOf-intro, someOf-elim}
+use Rattle.basics.specs.Basics.{IsLowest, lowest-found}
 use Rattle.theory.specs.Attractor.{Fits}
 use Rattle.theory.specs.AttractorRank.{Certificate, attractor-certificate, attractor-pull}
 use Rattle.theory.specs.Distance.{nearest, entry-nearest, entry-none}
 use Rattle.rules.specs.Distance.{outside, attractorEntry}
 use Rattle.rules.specs.Words.{noEntry}
-use Rattle.theory.specs.Greatest.{greatest-bounds, greatest-some, greatest-none}
-use Rattle.theory.specs.PromotionBasics.{noted-below, atRegion, upTo, at-intro, at-in, at-is, up-intro}
+use Rattle.basics.specs.Greatest.{greatest-bounds, greatest-some, greatest-none}
+use Rattle.basics.specs.Basics.{noted-below}
+use Rattle.theory.specs.PromotionBasics.{atRegion, upTo, at-intro, at-in, at-is, up-intro}
 use Rattle.theory.specs.PromotionBasics.{up-in, up-le}
 use Rattle.theory.specs.PromotionEntries.{mover, remaining, promotedTo, dominionSet}
 

@@ -8,7 +8,7 @@ use native.Mathlib.Nat.{max-eq-left, max-eq-right}
 use Rattle.rules.specs.Counting.{Set}
 use Rattle.rules.specs.Game.{Player, Game, Edge, parity}
 use Rattle.rules.specs.Winning.{Walk, one, more, Step, Wins, WinningSets}
-use Rattle.theory.specs.Basics.{le-or-ge, bool-ext}
+use Rattle.basics.specs.Basics.{le-or-ge, bool-ext}
 use Rattle.theory.specs.Walks.{Relation, reach-map, walk-map}
 
 -- v and w stand in the same order by p and by p'

@@ -5,9 +5,9 @@ use mathlib.Core.Path.{_≡_}
 use Prim.Native.Nat.{ℕ, zero, suc, _≤_, _<_}
 use native.Mathlib.Omega.{arith}
 use Rattle.rules.specs.Counting.{Set, some, count, without}
-use Rattle.theory.specs.Basics.{bool-cases, clash, not-false-is-true, some-elim, some-false, count-strict}
-use Rattle.theory.specs.Basics.{without-intro, without-left, without-right}
-use Rattle.theory.specs.AttractorBasics.{count-full}
+use Rattle.basics.specs.Basics.{bool-cases, clash, not-false-is-true, some-elim, some-false, count-strict}
+use Rattle.basics.specs.Basics.{without-intro, without-left, without-right}
+use Rattle.basics.specs.Sums.{count-full}
 
 -- the next round adds nothing
 abbrev pub Settled : (ℕ → Set) → ℕ → Type 0

@@ -10,13 +10,13 @@ use Rattle.rules.specs.Game.{Player, Even, Odd, opponent, Game, Edge, parity}
 use Rattle.rules.specs.Attractor.{attractor}
 use Rattle.rules.specs.Distance.{outside, lowestIn, attractorEntry}
 use Rattle.rules.specs.Zielonka.{highestIn, withPriority}
-use Rattle.theory.specs.Basics.{clash, not-true-is-false, and-intro, count-strict}
-use Rattle.theory.specs.Basics.{Subset, without-left, without-right, union-left, union-right}
+use Rattle.basics.specs.Basics.{clash, not-true-is-false, and-intro, count-strict}
+use Rattle.basics.specs.Basics.{Subset, without-left, without-right, union-left, union-right}
 use Rattle.theory.specs.Attractor.{Fits}
 use Rattle.theory.specs.Distance.{nearest, entry-nearest, lowestIn-found}
 use Rattle.theory.specs.AttractorRank.{Certificate, attractor-certificate, attractor-pull}
 use Rattle.theory.specs.AttractorComplement.{TotalIn, rest-total}
-use Rattle.theory.specs.Greatest.{greatest-bounds, greatest-attained}
+use Rattle.basics.specs.Greatest.{greatest-bounds, greatest-attained}
 
 -- p is the highest priority in V and a's: some vertex of V has it, and none has more
 pub record Top (g : Game) (V' : Set) (a : Player) (p : ℕ) : Type 0 where

@@ -12,7 +12,8 @@ use Rattle.rules.specs.Game.{Player, Even, opponent, Game, everywhere, Total}
 use Rattle.rules.specs.Words.{entry, noEntry}
 use Rattle.rules.specs.Distance.{outside}
 use Rattle.rules.specs.Zielonka.{withPriority, zielonkaOn, zielonka}
-use Rattle.theory.specs.Basics.{bool-cases, clash, player-decided, union-cases, without-intro, listed-is}
+use Rattle.basics.specs.Basics.{bool-cases, clash, union-cases, without-intro, listed-is}
+use Rattle.theory.specs.Players.{player-decided}
 use Rattle.theory.specs.AttractorComplement.{TotalIn}
 use Rattle.theory.specs.Distance.{nearest}
 use Rattle.theory.specs.Run.{Top, top-unique, Cut, AllWon, AllEntries, SomeLost, SomeEntries, Run, empty, all-won}

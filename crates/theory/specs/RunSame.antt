@@ -8,7 +8,7 @@ use Rattle.rules.specs.Counting.{Set}
 use Rattle.rules.specs.Game.{Player, opponent, Game}
 use Rattle.rules.specs.Attractor.{IsAttractor}
 use Rattle.rules.specs.Zielonka.{withPriority}
-use Rattle.theory.specs.Basics.{clash}
+use Rattle.basics.specs.Basics.{clash}
 use Rattle.theory.specs.AttractorRank.{certificate-is}
 use Rattle.theory.specs.Attractor.{attractor-unique}
 use Rattle.theory.specs.Run.{Top, top-unique, Cut, AllWon, SomeLost, Run, empty, all-won, some-lost, both-players, run-over}

@@ -8,8 +8,9 @@ use lib.Dec.{eqb}
 use Rattle.rules.specs.Counting.{Set, union, without}
 use Rattle.rules.specs.Game.{Player, opponent, Game, Edge}
 use Rattle.rules.specs.Zielonka.{withPriority}
-use Rattle.theory.specs.Basics.{bool-cases, clash, bool-ext, and-right, other-player, opponent-twice}
-use Rattle.theory.specs.Basics.{without-intro, without-left, without-right, union-left, union-right, union-cases}
+use Rattle.basics.specs.Basics.{bool-cases, clash, bool-ext, and-right}
+use Rattle.theory.specs.Players.{other-player, opponent-twice}
+use Rattle.basics.specs.Basics.{without-intro, without-left, without-right, union-left, union-right, union-cases}
 use Rattle.theory.specs.Dominion.{HeldOver, Dominion, dominion-cong, dominion-empty, dominion-join, dominion-drawn, dominion-over}
 use Rattle.theory.specs.Dominion.{dominion-highest, ranked-held, held-trap}
 use Rattle.theory.specs.AttractorComplement.{own-stays-out}

@@ -16,16 +16,16 @@ use Rattle.rules.specs.Tables.{Tables, vertices, gameOf}
 use Rattle.rules.specs.Winning.{Cycle, Reach, here, Step, Wins, WinningSets}
 use Rattle.rules.specs.Zielonka.{highestIn}
 use Rattle.rules.specs.Solitaire.{inside, reached, atMost, onPart, solitaire, check11}
-use Rattle.theory.specs.Basics.{bool-cases, clash, bool-ext, not-true-is-false, and-intro, and-left, and-right}
-use Rattle.theory.specs.Basics.{some-intro, some-elim, some-false, someOf-intro, someOf-elim, within-below, within-member}
-use Rattle.theory.specs.Basics.{same-true, true-same, player-cases, opponent-is-other}
-use Rattle.theory.specs.Greatest.{greatest-bounds}
+use Rattle.basics.specs.Basics.{bool-cases, clash, bool-ext, not-true-is-false, and-intro, and-left, and-right}
+use Rattle.basics.specs.Basics.{some-intro, some-elim, some-false, someOf-intro, someOf-elim, within-below, within-member}
+use Rattle.theory.specs.Players.{same-true, true-same, player-cases, opponent-is-other}
+use Rattle.basics.specs.Greatest.{greatest-bounds}
 use Rattle.theory.specs.Walks.{Among, reach-append, reach-map, walk-map, walk-among, reach-walk, hits}
 use Rattle.theory.specs.Walks.{leaves-start, highest-bounds, highest-is, highest-le, no-falling-cycle}
 use Rattle.theory.specs.Orbit.{comes-back}
 use Rattle.theory.specs.OneWinner.{not-both-win}
 use Rattle.theory.specs.Dominion.{Dominion, HeldOver, Inside, dominion-wins, dominion-drawn, ranked-held}
-use Rattle.theory.specs.Tables.{given-none}
+use Rattle.accepted.specs.Tables.{given-none}
 use Rattle.theory.specs.Links.{Linked, reached-reach, reach-reached, reached-from, cycle-on-cycle}
 use Rattle.theory.specs.Links.{good-part-cycle, cycle-good-part, first-step, distance, towards, towards-nearer}
 

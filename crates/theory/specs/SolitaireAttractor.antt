@@ -12,8 +12,8 @@ use Rattle.rules.specs.Winning.{Reach, here, step}
 use Rattle.rules.specs.Words.{entry, noEntry}
 use Rattle.rules.specs.Zielonka.{highestIn}
 use Rattle.rules.specs.Solitaire.{inside, atMost, onPart, solitaire}
-use Rattle.theory.specs.Basics.{and-intro, and-left, and-right, some-intro, some-elim, some-cong, within-below, within-member}
-use Rattle.theory.specs.Basics.{same-true, true-same}
+use Rattle.basics.specs.Basics.{and-intro, and-left, and-right, some-intro, some-elim, some-cong, within-below, within-member}
+use Rattle.theory.specs.Players.{same-true, true-same}
 use Rattle.theory.specs.Walks.{reach-map, walk-map}
 use Rattle.theory.specs.Attractor.{Draws, by-own, by-other, draws, drawn-so, attractor-is, attractor-unique}
 use Rattle.theory.specs.Links.{Linked, first-step}

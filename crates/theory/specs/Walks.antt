@@ -10,7 +10,7 @@ use native.Mathlib.Nat.{le-max-left, le-max-right, max-le, max-eq-left, max-eq-r
 use native.Mathlib.Omega.{arith}
 use Rattle.rules.specs.Counting.{Set, someOf}
 use Rattle.rules.specs.Winning.{Walk, one, more, Cycle, Reach, here, step}
-use Rattle.theory.specs.Basics.{bool-cases, clash, not-true-is-false, le-or-ge, someOf-elim, someOf-false}
+use Rattle.basics.specs.Basics.{bool-cases, clash, not-true-is-false, le-or-ge, someOf-elim, someOf-false}
 
 -- a relation between vertices
 abbrev pub Relation : Type 1

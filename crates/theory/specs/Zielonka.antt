@@ -16,15 +16,16 @@ use Rattle.rules.specs.Winning.{Wins, WinningSets, WinningEntries}
 use Rattle.rules.specs.Attractor.{attractor}
 use Rattle.rules.specs.Distance.{outside, lowestIn, attractorEntry}
 use Rattle.rules.specs.Zielonka.{highestIn, withPriority, Solved, wonBy, oneCall, callOn, zielonkaOn, zielonka}
-use Rattle.theory.specs.Basics.{bool-cases, clash, not-true-is-false, and-left, Subset, without-left, union-cases}
-use Rattle.theory.specs.Basics.{if-true, if-false, some-elim, some-false, within-all, getD-listed, true-same, false-same}
-use Rattle.theory.specs.Basics.{without-intro, without-right}
+use Rattle.basics.specs.Basics.{bool-cases, clash, not-true-is-false, and-left, Subset, without-left, union-cases}
+use Rattle.basics.specs.Basics.{if-true, if-false, some-elim, some-false, within-all, getD-listed}
+use Rattle.theory.specs.Players.{true-same, false-same}
+use Rattle.basics.specs.Basics.{without-intro, without-right}
 use Rattle.theory.specs.Dominion.{partition-exact, partition-entries}
 use Rattle.theory.specs.OneWinner.{one-winner}
-use Rattle.theory.specs.Tables.{accepted-total}
+use Rattle.accepted.specs.Tables.{accepted-total}
 use Rattle.theory.specs.AttractorComplement.{TotalIn}
 use Rattle.theory.specs.Attractor.{Fits}
-use Rattle.theory.specs.PromotionBasics.{noted-below}
+use Rattle.basics.specs.Basics.{noted-below}
 use Rattle.theory.specs.Distance.{entry-none}
 use Rattle.theory.specs.Run.{Top, highest-top, Cut, AllWon, AllEntries, SomeLost, SomeEntries, Run, empty, all-won}
 use Rattle.theory.specs.Run.{some-lost}

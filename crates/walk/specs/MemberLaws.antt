@@ -14,7 +14,7 @@ use lib.Seq.{getD-take, getD-drop, ext-getD}
 use Rattle.rules.specs.Counting.{some, every, count, times, everyOf}
 use Rattle.rules.specs.Words.{digit, bit, setOf}
 use Rattle.sets.specs.After.{Put, Combined, Cleared, Filled}
-use Rattle.theory.specs.Basics.{every-elim, some-false, count-cong, count-on, count-first}
+use Rattle.basics.specs.Basics.{every-elim, some-false, count-cong, count-on, count-first}
 use Rattle.sets.specs.Digits.{digit-lt, digit-zero}
 use Rattle.walk.specs.declared.members.Members.{Members}
 use Rattle.walk.specs.Walk.{ofWord, ofWords, members, left}

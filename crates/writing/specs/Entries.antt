@@ -13,8 +13,8 @@ use Rattle.rules.specs.Outcome.{none}
 use Rattle.rules.specs.Pgsolver.{Entry, highest}
 use Rattle.rules.specs.Reading.{targetsIn, check31, entryOf, targetsUpTo, tablesRead}
 use Rattle.rules.specs.Tables.{Tables, vertices, degree, targetsOf, Accepted}
-use Rattle.theory.specs.Basics.{length-listed, getD-listed}
-use Rattle.theory.specs.Tables.{offset, Sound, accepted-sound}
+use Rattle.basics.specs.Basics.{length-listed, getD-listed}
+use Rattle.accepted.specs.Tables.{offset, Sound, accepted-sound}
 use Rattle.grammar.specs.OneReading.{right-passes}
 use Rattle.writing.specs.Lengths.{offset-after, targets-many}
 

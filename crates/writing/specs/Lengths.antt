@@ -11,7 +11,7 @@ use Rattle.rules.specs.Decimal.{decimal}
 use Rattle.rules.specs.Pgsolver.{comma}
 use Rattle.rules.specs.Tables.{Tables, vertices, edgesIn, degree, targetsOf, Accepted}
 use Rattle.rules.specs.Writing.{blank, lineEnd, targetsText, recordText, recordsText, headerText, textOf}
-use Rattle.theory.specs.Tables.{offset, Sound, accepted-sound, never-falls}
+use Rattle.accepted.specs.Tables.{offset, Sound, accepted-sound, never-falls}
 use Rattle.grammar.specs.Decimals.{decimal-small, decimal-large, decimal-short}
 
 -- ---- digits

@@ -10,7 +10,7 @@ use Rattle.rules.specs.Pgsolver.{Entry, Header, highest, Text}
 use Rattle.rules.specs.Reading.{Limits, Reads, check31, tablesRead}
 use Rattle.rules.specs.Tables.{Tables, vertices, edgesIn, targetsOf, Accepted}
 use Rattle.rules.specs.Writing.{recordText, recordsText, textOf}
-use Rattle.theory.specs.Tables.{Sound, accepted-sound}
+use Rattle.accepted.specs.Tables.{Sound, accepted-sound}
 use Rattle.grammar.specs.Machine.{Machine, atFirst, betweenRecords, noEntryYet}
 use Rattle.grammar.specs.Free.{Goes, goes-same}
 use Rattle.grammar.specs.Standing.{having}

@@ -17,10 +17,10 @@ use Rattle.rules.specs.Words.{setOf}
 use Rattle.rules.specs.Zielonka.{withPriority}
 use Rattle.sets.specs.After.{Cleared}
 use Rattle.sets.specs.Laws.{no-member}
-use Rattle.theory.specs.Basics.{clash, and-intro, without-right, not-true-is-false, some-elim, some-false, count-pos}
+use Rattle.basics.specs.Basics.{clash, and-intro, without-right, not-true-is-false, some-elim, some-false, count-pos}
 use Rattle.theory.specs.Run.{Top, highest-top, cut-inside}
 use Rattle.theory.specs.RunSound.{run-sound}
-use Rattle.theory.specs.Tables.{accepted-sound}
+use Rattle.accepted.specs.Tables.{accepted-sound}
 use Rattle.area.specs.Area.{free, setAt, wordsAt}
 use Rattle.area.specs.Lent.{words-few}
 use Rattle.area.specs.SetsAt.{set-cleared, set-inside}

@@ -15,7 +15,7 @@ use Rattle.rules.specs.Winning.{WinningSets, WinningEntries}
 use Rattle.rules.specs.Zielonka.{zielonka}
 use Rattle.parity_game.specs.Laws.{then-none}
 use Rattle.theory.specs.Bound.{zielonka-bound}
-use Rattle.theory.specs.Tables.{accepted-total, accepted-few}
+use Rattle.accepted.specs.Tables.{accepted-total, accepted-few}
 use Rattle.theory.specs.Zielonka.{zielonka-wins, zielonka-entries-win}
 use Rattle.solver.specs.Promises.{gotBy, answered-accepted, answered-count, answered-winning, answered-one}
 use Rattle.solver.specs.Promises.{answers-within, answered-entries, one-result}

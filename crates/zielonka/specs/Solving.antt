@@ -11,12 +11,12 @@ use Rattle.rules.specs.Game.{Player, Even, Odd, everywhere}
 use Rattle.rules.specs.Tables.{Tables, gameOf, vertices, edgesIn, words, workWords, Accepted}
 use Rattle.rules.specs.Zielonka.{zielonka}
 use Rattle.theory.specs.AttractorComplement.{TotalIn}
-use Rattle.theory.specs.Basics.{count-le, not-true-is-false, lt-or-ge}
+use Rattle.basics.specs.Basics.{count-le, not-true-is-false, lt-or-ge}
 use Rattle.theory.specs.Run.{Run, run-over}
 use Rattle.theory.specs.RunSame.{Same, Needs}
 use Rattle.theory.specs.RunEntries.{run-strategy}
 use Rattle.theory.specs.RunSound.{run-sound}
-use Rattle.theory.specs.Tables.{accepted-total, accepted-few, accepted-sound}
+use Rattle.accepted.specs.Tables.{accepted-total, accepted-few, accepted-sound}
 use Rattle.theory.specs.Zielonka.{everywhere-below, everywhere-total, run-is-zielonka, needs-zielonka, zielonka-wins}
 use Rattle.theory.specs.Zielonka.{zielonka-entries-win}
 use Rattle.area.specs.Area.{free, setAt}

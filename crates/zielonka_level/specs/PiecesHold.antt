@@ -19,9 +19,9 @@ use Rattle.sets.specs.After.{Parts, Combined, Cleared, other}
 use Rattle.sets.specs.Laws.{bit-other}
 use Rattle.theory.specs.Attractor.{Fits, attractor-below}
 use Rattle.theory.specs.AttractorComplement.{TotalIn}
-use Rattle.theory.specs.Basics.{lt-or-ge, and-left, not-true-is-false}
+use Rattle.basics.specs.Basics.{lt-or-ge, and-left, not-true-is-false}
 use Rattle.theory.specs.Run.{Cut, attractor-cut, cut-entry}
-use Rattle.theory.specs.Tables.{accepted-sound, accepted-few}
+use Rattle.accepted.specs.Tables.{accepted-sound, accepted-few}
 use Rattle.area.specs.Area.{entries, free, wordsAt, setAt}
 use Rattle.attractor.specs.Attracted.{Attractable, Attracted, listed-kept, edges-sound}
 use Rattle.area.specs.Lent.{part-is, part-length}

@@ -17,7 +17,7 @@ use Rattle.rules.specs.Distance.{lowestIn}
 use Rattle.rules.specs.Zielonka.{withPriority}
 use Rattle.area.specs.Area.{free}
 use Rattle.attractor.specs.Attracted.{listed-kept}
-use Rattle.theory.specs.Basics.{clash, not-true-is-false, and-left, without-right}
+use Rattle.basics.specs.Basics.{clash, not-true-is-false, and-left, without-right}
 use Rattle.theory.specs.Distance.{lowestIn-found}
 use Rattle.theory.specs.Run.{Top, Cut, empty, all-won, some-lost}
 use Rattle.theory.specs.Run.{cut-inside, cut-total, cut-fewer, first-fewer}

@@ -7,7 +7,7 @@ use borrow.Author.Needs.{needs}
 use lib.ListN.{length, getD}
 use Rattle.rules.specs.Counting.{count}
 use Rattle.rules.specs.Tables.{words}
-use Rattle.theory.specs.Basics.{count-le}
+use Rattle.basics.specs.Basics.{count-le}
 use Rattle.layer.specs.Laws.{unmarked-empty}
 use Rattle.attractor_step.specs.View.{layerAt}
 use Rattle.area.specs.Area.{layerWords}

@@ -6,7 +6,7 @@ use native.Mathlib.Omega.{arith}
 use borrow.Author.Needs.{needs}
 use lib.ListN.{length, getD, length-set}
 use Rattle.attractor_outputs.specs.Outputs.{wordOf, measure}
-use Rattle.theory.specs.Basics.{listed-is}
+use Rattle.basics.specs.Basics.{listed-is}
 use Rattle.area.specs.Lent.{stored-more}
 use Rattle.attractor_outputs.proofs.distances.write_distances.Statement.{statement}
 use Rattle.attractor_outputs.proofs.distances.write_distances.Tie as tie

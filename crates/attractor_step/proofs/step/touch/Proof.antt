@@ -6,7 +6,7 @@ use borrow.Author.Needs.{needs}
 use borrow.Author.Tests.{not-true, not-false, eq-eqb, ne-eqb}
 use lib.ListN.{length, set}
 use Rattle.rules.specs.Counting.{Set}
-use Rattle.theory.specs.Basics.{and-left, and-right}
+use Rattle.basics.specs.Basics.{and-left, and-right}
 use Rattle.area.specs.Area.{entries, setAt}
 use Rattle.attractor_step.specs.State.{State, entered, counted, touched}
 use Rattle.attractor_step.specs.State.{touched-passed, touched-entry, touched-last, touched-count}

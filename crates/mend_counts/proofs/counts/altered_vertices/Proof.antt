@@ -8,7 +8,7 @@ use lib.ListN.{length}
 use Rattle.rules.specs.Counting.{count}
 use Rattle.rules.specs.Mending.{altered}
 use Rattle.rules.specs.Tables.{Tables}
-use Rattle.theory.specs.Basics.{count-le}
+use Rattle.basics.specs.Basics.{count-le}
 use Rattle.mend_counts.specs.Bare.{bare}
 use Rattle.mend_counts.specs.Steps.{alone-altered, kept-unaltered, altered-one-more, altered-none-more}
 use Rattle.mend_counts.proofs.counts.altered_vertices.Statement.{statement}

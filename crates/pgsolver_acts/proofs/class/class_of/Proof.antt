@@ -5,7 +5,7 @@ use mathlib.Core.Path.{_≡_, sym, ap, _∙_}
 use Prim.Native.Nat.{ℕ, _≤_, _<_}
 use native.Mathlib.Omega.{arith}
 use Rattle.grammar.specs.Machine.{classOf, letterByte, otherByte, isLetter}
-use Rattle.theory.specs.Basics.{below-suc}
+use Rattle.basics.specs.Basics.{below-suc}
 use Rattle.pgsolver_acts.specs.Classes.{no-separator, class-digit, class-rest, is-letter, no-letter}
 use Rattle.pgsolver_acts.proofs.class.class_of.Statement.{statement}
 use Rattle.pgsolver_acts.proofs.class.class_of.Tie as tie

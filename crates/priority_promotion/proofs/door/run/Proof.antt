@@ -5,7 +5,7 @@ use Prim.Native.Nat.{ℕ, _+_, _*_, _≤_}
 use native.Mathlib.Omega.{arith}
 use lib.ListN.{length}
 use Rattle.rules.specs.Tables.{Tables, words, tablesOf}
-use Rattle.theory.specs.Tables.{accepted-sound}
+use Rattle.accepted.specs.Tables.{accepted-sound}
 use Rattle.area.specs.Lent.{words-few}
 use Rattle.sets.specs.Laws.{cleared-all}
 use Rattle.solver.specs.Outputs.{Found, found-writable, found-finished}

@@ -6,7 +6,7 @@ use native.Mathlib.Omega.{arith}
 use borrow.Author.Needs.{needs}
 use lib.ListN.{length}
 use Rattle.rules.specs.Tables.{Tables, words, tablesOf}
-use Rattle.theory.specs.Tables.{accepted-sound}
+use Rattle.accepted.specs.Tables.{accepted-sound}
 use Rattle.area.specs.Lent.{part-is, part-length, words-few}
 use Rattle.sets.specs.Laws.{cleared-all}
 use Rattle.quasi_polynomial.specs.Running.{allAt, run-fits, run-preparable, run-called, run-long, run-opinion}

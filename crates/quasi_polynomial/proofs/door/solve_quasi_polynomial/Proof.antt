@@ -7,7 +7,7 @@ use lib.ListN.{length}
 use Rattle.rules.specs.Outcome.{Verdict, none, outcome, answered}
 use Rattle.rules.specs.SecondOpinion.{LentSets, opinionWords, opinionChecks}
 use Rattle.rules.specs.Tables.{Tables, vertices, edgesIn, tablesOf}
-use Rattle.theory.specs.Tables.{accepted-sound}
+use Rattle.accepted.specs.Tables.{accepted-sound}
 use Rattle.parity_game.specs.Said.{said}
 use Rattle.parity_game.proofs.Matched.{went-on, refusal-not-zero}
 use Rattle.kept_numbers.specs.Reading.{kept-long, kept-small}

@@ -7,7 +7,7 @@ use lib.ListN.{length}
 use Rattle.rules.specs.Outcome.{Outcome, none, outcome, answered}
 use Rattle.rules.specs.Solitaire.{LentSet, solitaireChecks}
 use Rattle.rules.specs.Tables.{Tables, tablesOf}
-use Rattle.theory.specs.Tables.{accepted-sound}
+use Rattle.accepted.specs.Tables.{accepted-sound}
 use Rattle.parity_game.proofs.Matched.{went-on, refusal-not-zero}
 use Rattle.area.specs.Lent.{work-cleared}
 use Rattle.solitaire_game.specs.Checks.{lentBy, past-tables, numbered-checks, Passed, checks-passed}

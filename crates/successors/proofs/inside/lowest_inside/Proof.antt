@@ -4,7 +4,7 @@ use mathlib.Core.Path.{sym, subst, _∙_}
 use Prim.Native.Nat.{_+_, _-_}
 use native.Mathlib.Omega.{arith}
 use Rattle.rules.specs.Words.{setOf}
-use Rattle.theory.specs.Basics.{clash}
+use Rattle.basics.specs.Basics.{clash}
 use Rattle.successors.specs.Lowest.{LowestTo, lowest-first, lowest-same, lowest-new, lowest-all}
 use borrow.Author.Needs.{needs}
 use Rattle.successors.proofs.inside.lowest_inside.Statement.{statement}

@@ -6,7 +6,7 @@ use native.Mathlib.Omega.{arith}
 use lib.ListN.{length}
 use Rattle.rules.specs.Tables.{Tables, words, gameOf, tablesOf}
 use Rattle.rules.specs.Zielonka.{zielonka}
-use Rattle.theory.specs.Tables.{accepted-sound}
+use Rattle.accepted.specs.Tables.{accepted-sound}
 use Rattle.area.specs.Area.{layers, free}
 use Rattle.area.specs.Lent.{words-few}
 use Rattle.zielonka_level.specs.Level.{Done}

@@ -11,7 +11,7 @@ use Rattle.rules.specs.Outcome.{none, outcome, answered}
 use Rattle.rules.specs.Solver.{Lent, solverChecks, Solves}
 use Rattle.rules.specs.Tables.{Tables, gameOf, tablesOf}
 use Rattle.rules.specs.Zielonka.{zielonka}
-use Rattle.theory.specs.Tables.{accepted-sound}
+use Rattle.accepted.specs.Tables.{accepted-sound}
 use Rattle.parity_game.proofs.Matched.{went-on, refusal-not-zero}
 use Rattle.parity_game.specs.Said.{said}
 use Rattle.area.specs.Lent.{work-cleared}

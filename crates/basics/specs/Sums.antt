@@ -10,7 +10,7 @@ use borrow.Author.Tests.{eq-eqb, ne-eqb}
 use lib.Dec.{eqb}
 use lib.ListN.{length, replicate}
 use Rattle.rules.specs.Counting.{Set, count, times}
-use Rattle.theory.specs.Basics.{bool-cases, below-suc, not-false-is-true, count-strict, count-le}
+use Rattle.basics.specs.Basics.{bool-cases, below-suc, not-false-is-true, count-strict, count-le}
 
 -- a set with n members below n holds every number below n
 pub count-full : (n : ℕ) (S : Set) → n ≤ count n S → (v : ℕ) → v < n → S v ≡ true

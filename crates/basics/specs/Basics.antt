@@ -1,5 +1,5 @@
--- Laws of the plain words of the rules, each once: tests and players, some, every and count below n, some, every and times in a
--- list, lowest, a set worked out once, and the pigeonhole.
+-- Laws of the plain words of the rules, each once: tests, sets, some, every and count below n, some, every and times in a list,
+-- lowest, what a set or a function is below n, and the pigeonhole.
 use mathlib.Core.Bool.{Bool, true, false, _&&_, _||_, not, cond, true≢false, and-true}
 use mathlib.Core.List.{List, [], _∷_, List·Memᴰ, List·Memᴰ·head, List·Memᴰ·tail, Memᴰ·cast}
 use mathlib.Core.Logic.{_⊎_, inl, inr, ⊎-elim}
@@ -11,8 +11,7 @@ use native.Mathlib.Omega.{arith}
 use borrow.Author.Tests.{eqb-true, eqb-false, eq-eqb, ltb-true, ltb-false, lt-ltb, le-ltb, not-true}
 use lib.Dec.{eqb, ltb}
 use lib.ListN.{getD, length}
-use Rattle.rules.specs.Counting.{Set, some, every, count, someOf, everyOf, times, lowest, listed, within, without, union}
-use Rattle.rules.specs.Game.{Player, Even, Odd, opponent, same}
+use Rattle.rules.specs.Counting.{Set, some, every, count, someOf, everyOf, times, lowest, listed, within, noted, without, union}
 
 -- a test is true or false, with its equation
 pub bool-cases : (b : Bool) → (b ≡ true) ⊎ (b ≡ false)
@@ -111,57 +110,6 @@ union-without S T v = ⊎-elim (λ p. rw p) (λ p. rw p (and-true (T v))) (bool-
 -- a set adds nothing to a larger one
 pub union-absorbs : (S T : Set) → Subset S T → (v : ℕ) → union S T v ≡ T v
 union-absorbs S T sub v = ⊎-elim (λ p. rw p (sym (sub v p))) (λ p. rw p) (bool-cases (S v))
-
--- players
-
-pub opponent-twice : (a : Player) → opponent (opponent a) ≡ a
-opponent-twice Even = refl
-opponent-twice Odd = refl
-
-pub opponent-differs : (a : Player) → a ≡ opponent a → ⊥
-opponent-differs Even e = let z : _≡_ {A = ℕ} 0 1 = cc in omega arith
-opponent-differs Odd e = let z : _≡_ {A = ℕ} 0 1 = cc in omega arith
-
--- a player is a or a's opponent
-pub player-cases : (a b : Player) → (b ≡ a) ⊎ (b ≡ opponent a)
-player-cases Even Even = inl refl
-player-cases Even Odd = inr refl
-player-cases Odd Even = inr refl
-player-cases Odd Odd = inl refl
-
--- a player who is not a is a's opponent, and the other way
-pub other-player : (a b : Player) → (b ≡ a → ⊥) → b ≡ opponent a
-other-player Even Even n = absurd (n refl)
-other-player Even Odd n = refl
-other-player Odd Even n = refl
-other-player Odd Odd n = absurd (n refl)
-
-pub opponent-is-other : {a b : Player} → b ≡ opponent a → b ≡ a → ⊥
-opponent-is-other {a} {b} p q = opponent-differs a (sym q ∙ p)
-
-pub player-decided : (a b : Player) → Dec (a ≡ b)
-player-decided Even Even = yes refl
-player-decided Even Odd = no (λ e. opponent-differs Even e)
-player-decided Odd Even = no (λ e. opponent-differs Odd e)
-player-decided Odd Odd = yes refl
-
-pub same-true : (a b : Player) → same a b ≡ true → a ≡ b
-same-true Even Even h = refl
-same-true Even Odd h = absurd (true≢false (sym h))
-same-true Odd Even h = absurd (true≢false (sym h))
-same-true Odd Odd h = refl
-
-pub true-same : (a b : Player) → a ≡ b → same a b ≡ true
-true-same Even Even e = refl
-true-same Even Odd e = absurd (opponent-differs Even e)
-true-same Odd Even e = absurd (opponent-differs Odd e)
-true-same Odd Odd e = refl
-
-pub same-false : (a b : Player) → same a b ≡ false → a ≡ b → ⊥
-same-false a b h e = clash (true-same a b e) h
-
-pub false-same : (a b : Player) → (a ≡ b → ⊥) → same a b ≡ false
-false-same a b n = not-true-is-false (same a b) (λ h. n (same-true a b h))
 
 -- numbers below n
 
@@ -582,3 +530,26 @@ pigeonhole (suc n) f small = ⊎-elim found (λ q. moved-back q (pigeonhole n mo
         back (inl p) (inr r) x y e = absurd (y (sym (rw (p, r) at e)))
         back (inr p) (inl r) x y e = absurd (x (rw (p, r) at e))
         back (inr p) (inr r) x y e = rw (p, r) at e
+
+-- two numbers are equal or not
+pub equal-cases : (m n : ℕ) → (m ≡ n) ⊎ (m ≡ n → ⊥)
+equal-cases m n = ⊎-elim (λ e. inl (eqb-true m n e)) (λ e. inr (eqb-false m n e)) (bool-cases (eqb m n))
+
+-- the lowest number that passes depends on what lies below n alone
+pub lowest-cong : (n : ℕ) (S T : Set) → ((v : ℕ) → v < n → S v ≡ T v) → lowest n S ≡ lowest n T
+unfolding lowest
+lowest-cong zero S T agree = refl
+lowest-cong (suc n) S T agree =
+    rw (
+      some-cong n S T (λ v l. agree v (le-step l)),
+      lowest-cong n S T (λ v l. agree v (le-step l)),
+      agree n (le-refl (suc n)),
+    )
+
+pub noted-below : (d n : ℕ) (f : ℕ → ℕ) (v : ℕ) → v < n → noted d n f v ≡ f v
+unfolding noted
+noted-below d n f v l = rw (lt-ltb v n l)
+
+pub noted-above : (d n : ℕ) (f : ℕ → ℕ) (v : ℕ) → n ≤ v → noted d n f v ≡ d
+unfolding noted
+noted-above d n f v l = rw (le-ltb v n l)

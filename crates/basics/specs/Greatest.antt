@@ -7,7 +7,7 @@ use native.Mathlib.Nat.{le-refl, le-trans, le-step, lt-irrefl, not-suc-le-zero, 
 use native.Mathlib.Nat.{le-max-left, le-max-right, max-le, max-zero, max-eq-left, max-eq-right}
 use native.Mathlib.Omega.{arith}
 use Rattle.rules.specs.Counting.{Set, some, greatest}
-use Rattle.theory.specs.Basics.{bool-cases, or-false-both, below-suc, le-or-ge, some-elim}
+use Rattle.basics.specs.Basics.{bool-cases, or-false-both, below-suc, le-or-ge, some-elim}
 
 -- the greatest number that f gives to a member of S below n is not exceeded
 pub greatest-bounds : (n : ℕ) (S : Set) (f : ℕ → ℕ) (v : ℕ) → v < n → S v ≡ true → f v ≤ greatest n S f

@@ -19,7 +19,7 @@ use Rattle.rules.specs.Outcome.{Verdict, none, refused, given, givenAt, _then_}
 use Rattle.rules.specs.Words.{noEntry}
 use Rattle.rules.specs.Tables.{Tables, vertices, edgesIn, degree, targetsOf, gameOf, tableChecks, Accepted}
 use Rattle.rules.specs.Tables.{check1, check2, check3, check4, check5, check6, check7, check8}
-use Rattle.theory.specs.Basics.{or-false-both, some-false, lt-or-ge, member-place, place-member}
+use Rattle.basics.specs.Basics.{or-false-both, some-false, lt-or-ge, member-place, place-member}
 
 -- the offset at i
 abbrev pub offset : Tables → ℕ → ℕ

@@ -8,7 +8,7 @@ use native.Mathlib.Nat.{not-suc-le-zero, mul-le-mul-right, pow-suc, pow-zero, mu
 use native.Mathlib.Numerals.{add-one}
 use native.Mathlib.Omega.{arith}
 use Rattle.rules.specs.Counting.{Set, count}
-use Rattle.theory.specs.Basics.{bool-cases, below-suc}
+use Rattle.basics.specs.Basics.{bool-cases, below-suc}
 
 -- the digits at places below k, in base b, where only the places in S have a power of their own
 unfoldable pub value : ℕ → Set → (ℕ → ℕ) → ℕ → ℕ
