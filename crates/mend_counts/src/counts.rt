@@ -28,7 +28,8 @@ pub fn kept_edges(owners: &[u8], offsets: &[u16], targets: &[u16], v: usize) -> 
 pub fn dropped_edges(owners: &[u8], targets: &[u16]) -> usize
     ensures { λ r.
         ⌜ r
-        ≡ length (droppedUpTo (bare (now (owners .entry)) [] (now (targets .entry))) (length (now (targets .entry)))) ⌝ }
+        ≡ length (droppedUpTo (bare (now (owners .entry)) [] (now (targets .entry)))
+        (length (now (targets .entry)))) ⌝ }
 {
     let n = owners.len();
     let mut dropped = 0;

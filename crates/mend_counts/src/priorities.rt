@@ -45,7 +45,8 @@ pub fn write_priorities(
         ⌜ now («new_priorities» .exit) ≡
         overwritten
         (mended
-        (tablesOf (now (owners .entry)) (now (priorities .entry)) (now (offsets .entry)) (now (targets .entry))) .priorities)
+        (tablesOf (now (owners .entry)) (now (priorities .entry)) (now (offsets .entry)) (now (targets .entry)))
+        .priorities)
         (now («new_priorities» .entry)) ⌝ }
 {
     for v in 0..owners.len() {

@@ -32,8 +32,8 @@ fn ask(
         ⌜ said r
         ≡ outcome
         (listAsked (asksIn asks)
-        (tablesOf (take n (now (owners .entry))) (take n (now (priorities .entry))) (take (n + 1) (now (offsets .entry)))
-        (take m (now (targets .entry)))))
+        (tablesOf (take n (now (owners .entry))) (take n (now (priorities .entry)))
+        (take (n + 1) (now (offsets .entry))) (take m (now (targets .entry)))))
         (answered 0) ⌝ }
 {
     match asks {

@@ -27,8 +27,8 @@ pub fn take_portion(
     requires { ⌜ Fitting (now owners) (now priorities) (now offsets) ⌝ }
     ensures { λ r.
         ⌜ Takes «most_bytes» place state (now (text .entry)) (now (owners .entry)) (now (priorities .entry))
-        (now (offsets .entry)) (now (targets .entry)) r (now (owners .exit)) (now (priorities .exit)) (now (offsets .exit))
-        (now (targets .exit)) ⌝ }
+        (now (offsets .entry)) (now (targets .entry)) r (now (owners .exit)) (now (priorities .exit))
+        (now (offsets .exit)) (now (targets .exit)) ⌝ }
 {
     match read_portion(
         text,

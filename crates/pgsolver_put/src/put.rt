@@ -112,7 +112,8 @@ pub fn put_text(
         × Fits 0 (textOf (tablesOf (now owners) (now priorities) (now offsets) (now targets))) (now text) ⌝ }
     ensures { λ r.
         ⌜ Puts 0
-        (textOf (tablesOf (now (owners .entry)) (now (priorities .entry)) (now (offsets .entry)) (now (targets .entry))))
+        (textOf (tablesOf (now (owners .entry)) (now (priorities .entry)) (now (offsets .entry))
+        (now (targets .entry))))
         (now (text .entry))
         (now (text .exit))
         r ⌝ }

@@ -41,8 +41,8 @@ pub fn read_portion(
     requires { ⌜ Fitting (now owners) (now priorities) (now offsets) ⌝ }
     ensures { λ r.
         ⌜ Portions «most_bytes» place state (now (text .entry)) (now (owners .entry)) (now (priorities .entry))
-        (now (offsets .entry)) (now (targets .entry)) r (now (owners .exit)) (now (priorities .exit)) (now (offsets .exit))
-        (now (targets .exit)) ⌝ }
+        (now (offsets .entry)) (now (targets .entry)) r (now (owners .exit)) (now (priorities .exit))
+        (now (offsets .exit)) (now (targets .exit)) ⌝ }
 {
     let vertices = limit(4096, owners.len());
     let edges = limit(16384, targets.len());

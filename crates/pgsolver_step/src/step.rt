@@ -75,7 +75,8 @@ pub fn read_byte(
     requires { ⌜ Room vertices edges (now owners) (now priorities) (now offsets) (now targets) ⌝ }
     ensures { λ r.
         ⌜ Steps vertices edges s b (now (owners .entry)) (now (priorities .entry)) (now (offsets .entry))
-        (now (targets .entry)) r (now (owners .exit)) (now (priorities .exit)) (now (offsets .exit)) (now (targets .exit)) ⌝ }
+        (now (targets .entry)) r (now (owners .exit)) (now (priorities .exit)) (now (offsets .exit))
+        (now (targets .exit)) ⌝ }
 {
     match advance(s, b, vertices, edges) {
         Move::On(next) => Step::On(next),

@@ -195,7 +195,8 @@ module _ {t : Tables} {high : ℕ} {even odd w₀ : List ℕ} (given : Runnable 
           -- **What is copied out are the winning sets.**
           pub run-opinion :
               (even′ odd′ : List ℕ) →
-              even′ ≡ take ((allAt t (length even) + length even + length even) - (allAt t (length even) + length even)) (drop (allAt t (length even) + length even) w₄) →
+              even′ ≡ take ((allAt t (length even) + length even + length even) - (allAt t (length even) + length even))
+              (drop (allAt t (length even) + length even) w₄) →
               odd′ ≡ take ((allAt t (length even) + length even) - allAt t (length even)) (drop (allAt t (length even)) w₄) →
               Narrow even′ →
               Narrow odd′ →

@@ -63,7 +63,8 @@ fn check_fronts(
         ≡ outcome
         (tableChecks
         (tablesIn
-        (recordOf n m (now (owners .entry)) (now (priorities .entry)) (now (offsets .entry)) (now (targets .entry)) [])))
+        (recordOf n m (now (owners .entry)) (now (priorities .entry)) (now (offsets .entry))
+        (now (targets .entry)) [])))
         (answered 0) ⌝ }
 {
     table_checks::check_tables(

@@ -60,11 +60,13 @@ no-refusal c =
 passed :
     (c : tie.Else1) →
     let g = at2 c in
-    Passed (tables g) (g .args .within .now) (g .args .target .now) (length (g .args .result .now)) (length (g .args .strategy .now)) (length (g .args .distances .now))
+    Passed (tables g) (g .args .within .now) (g .args .target .now) (length (g .args .result .now))
+    (length (g .args .strategy .now)) (length (g .args .distances .now))
     (length (g .args .work .now))
 passed c =
     let g = at2 c in
-    checks-passed (tables g) (g .args .within .now) (g .args .target .now) (length (g .args .result .now)) (length (g .args .strategy .now)) (length (g .args .distances .now))
+    checks-passed (tables g) (g .args .within .now) (g .args .target .now) (length (g .args .result .now))
+    (length (g .args .strategy .now)) (length (g .args .distances .now))
     (length (g .args .work .now)) (no-refusal c)
 
 check-lent-requires : tie.Need-check-lent-requires
@@ -107,7 +109,8 @@ run-requires c κs =
     let w = d .before in
     let g = at2 (w .before) in
     let a = g .args in
-    run-ready (tables g) (d .side .result) (w .work-words .result) (a .within .now) (a .target .now) (a .result .now) (a .strategy .now) (a .distances .now) (a .work .now)
+    run-ready (tables g) (d .side .result) (w .work-words .result) (a .within .now) (a .target .now) (a .result .now)
+    (a .strategy .now) (a .distances .now) (a .work .now)
     (d .side .ensures .1) (w .work-words .ensures) (passed (w .before))
 
 same-length : tie.Need-same-length

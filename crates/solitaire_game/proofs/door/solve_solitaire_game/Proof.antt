@@ -39,7 +39,8 @@ gave g e = e ∙ past-tables (tables g) (length (g .args .set .now)) (length (g 
 no-refusal : (d : tie.Else1) → solitaireChecks (tables (start d)) (lent (start d)) ≡ none
 no-refusal d =
     let g = start d in
-    went-on (d .before .before .check-lent .result) (solitaireChecks (tables g) (lent g)) (d .if1 .left) (d .before .number .ensures) (numbered-checks (tables g) (lent g))
+    went-on (d .before .before .check-lent .result) (solitaireChecks (tables g) (lent g)) (d .if1 .left)
+    (d .before .number .ensures) (numbered-checks (tables g) (lent g))
     (gave g (d .before .before .check-lent .ensures))
 
 passed : (d : tie.Else1) → let g = start d in Passed (tables g) (length (g .args .set .now)) (length (g .args .work .now))

@@ -52,9 +52,11 @@ same-length c = search needs
 
 returns : tie.Need-returns
 returns c =
-    let g = c .before .before .before .before .before .before .before .before .before .before .before .before .before .before .before .before .before .before .before in
-    let f1 = c .before .before .before .before .before .before .before .before .before .before .before .clear in
-    let f2 = c .before .before .before .before .before .before .before .build in
+    let built = c .before .before .before .before .before .before .before in
+    let cleared = built .before .before .before .before in
+    let g = cleared .before .before .before .before .before .before .before .before in
+    let f1 = cleared .clear in
+    let f2 = built .build in
     let f3 = c .before .before .mark-parity in
     good-marked (tables g) (g .args .owner) (g .args .work .now) (g .args .row) (g .pre .0) (f1 .last .0) (f1 .ensures) (f2 .last .1 .1 .1 .0) (f2 .ensures) []
     (λ v. refl) (f3 .last .1 .1 .1 .1 .1 .1 .0) (f3 .ensures)
