@@ -252,8 +252,3 @@ accepted-priority t ok v =
     (λ l. sound .priority-small v l)
     (λ l. rw (List·getD-eq-default (t .priorities) 0 {n = v} (omega (arith, sound .priority-each))) zero-le)
     (lt-or-ge v (vertices t))
-
--- No edge starts at the number of vertices or above.
-pub accepted-no-edges-above : (t : Tables) → Accepted t → (v w : ℕ) → gameOf t .size ≤ v → Edge (gameOf t) v w → ⊥
-unfolding gameOf
-accepted-no-edges-above t ok = no-edges-above t (accepted-sound t ok)

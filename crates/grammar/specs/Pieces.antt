@@ -11,9 +11,6 @@ pub blank-more : {s : List ℕ} (b : ℕ) → separates b ≡ true → Blank s �
 blank-more b h Blank.empty = Blank.more b h Blank.empty
 blank-more b h (Blank.more x p r) = Blank.more x p (blank-more b h r)
 
-pub blank-one : (b : ℕ) → separates b ≡ true → Blank (b ∷ [])
-blank-one b h = Blank.more b h Blank.empty
-
 pub gap-more : {s : List ℕ} (b : ℕ) → separates b ≡ true → Gap s → Gap (s ++ (b ∷ []))
 gap-more b h (Gap.gap x p r) = Gap.gap x p (blank-more b h r)
 

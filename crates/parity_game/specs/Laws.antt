@@ -2,7 +2,6 @@
 -- is known of tables that were accepted.
 use mathlib.Core.Bool.{Bool, true, false, not, _&&_, _||_}
 use mathlib.Core.List.{List, [], _∷_}
-use mathlib.Core.Logic.{_↔_}
 use mathlib.Core.Path.{_≡_, refl, sym, _∙_, ap, subst}
 use Prim.Native.Nat.{ℕ, _+_, _<_, _≤_}
 use native.Mathlib.Omega.{arith}
@@ -11,13 +10,10 @@ use lib.Dec.{eqb, ltb}
 use lib.ListN.{length, getD}
 use Rattle.rules.specs.Counting.{some, everyOf}
 use Rattle.rules.specs.Outcome.{Outcome, Verdict, none, refused, given, givenAt, outcome, answered, _then_}
-use Rattle.rules.specs.Tables.{Tables, vertices, edgesIn, words, workWords, tableChecks, Accepted}
+use Rattle.rules.specs.Tables.{Tables, vertices, edgesIn, words, workWords, tableChecks}
 pub use Rattle.accepted.specs.Tables.{then-none, given-none, givenAt-none, check1-none, check2-none, check3-none, check4-none}
 pub use Rattle.accepted.specs.Tables.{check5-none, check6-none, check7-none, check8-none, never-falls, Sound, accepted-sound}
 use Rattle.rules.specs.Tables.{check1, check2, check3, check4, check5, check6, check7, check8, check9, check10}
-use Rattle.parity_game.specs.declared.answer.Answer.{Answer}
-use Rattle.parity_game.specs.declared.answer.Answer.the-variants.{Answered}
-use Rattle.parity_game.specs.Said.{said}
 
 -- ---- one check after another
 
@@ -166,20 +162,6 @@ pub zero-none : (v : Verdict) (o : Outcome) → Numbered v → outcome v o .numb
 zero-none none o h e = refl
 zero-none (refused k p) o h e = absurd (omega arith)
 
--- an answer's verdict is none
-pub answered-none : (k : ℕ) (v : Verdict) (o : Outcome) → Numbered v → said (Answered k) ≡ outcome v o → v ≡ none
-answered-none k v o h e = zero-none v o h (sym (ap (λ (x : Outcome). x .number) e))
-
--- the number that `check_tables` gives is 0 exactly for tables that are accepted
-pub zero-iff-accepted :
-    (t : Tables) (r : Answer) → said r ≡ outcome (tableChecks t) (answered 0) → (said r .number ≡ 0) ↔ Accepted t
-unfolding Accepted
-zero-iff-accepted t r e =
-    let number = ap (λ (x : Outcome). x .number) e in (
-      λ z. zero-none (tableChecks t) (answered 0) (numbered-tables t) (sym number ∙ z),
-      λ a. number ∙ ap (λ (v : Verdict). outcome v (answered 0) .number) a,
-    )
-
 -- ---- the sizes of sets, tables and the work area
 
 -- one set is checked, then the other sets and the tables
@@ -208,10 +190,6 @@ check9-table n b tables = go (eqb b n)
         given 9 0 (not true || not (x && true)) then given 9 0 (not true || not (everyOf tables (λ k. eqb k n)))
     go true = refl
     go false = refl
-
-pub check9-nothing : (n : ℕ) → check9 n [] [] ≡ none
-unfolding check9 everyOf
-check9-nothing n = refl
 
 pub check9-set-none : (n a : ℕ) → check9 n (a ∷ []) [] ≡ none → a ≡ words n
 unfolding check9 everyOf

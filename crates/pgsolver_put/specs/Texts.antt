@@ -6,7 +6,7 @@ use native.Mathlib.Omega.{arith}
 use borrow.Author.Tests.{eq-eqb, ne-eqb, lt-ltb, le-ltb}
 use lib.ListN.{length, drop, length-append, take-append-drop}
 use Rattle.rules.specs.Decimal.{decimal}
-use Rattle.rules.specs.Outcome.{Outcome, Verdict, none, refused, outcome, answered}
+use Rattle.rules.specs.Outcome.{Verdict, none, refused, outcome, answered}
 use Rattle.rules.specs.Pgsolver.{parityWord}
 use Rattle.rules.specs.Tables.{Tables, vertices, Accepted}
 use Rattle.rules.specs.Writing.{blank, lineEnd, recordsText, headerText, textOf, check33, check34, writingChecks, writtenText}
@@ -49,20 +49,6 @@ refusal-leaves :
     before ≡ writtenText v t before
 refusal-leaves none t before k h = absurd (h refl)
 refusal-leaves (refused n p) t before k h = refl
-
--- a refusal meets the contract where nothing was written
-pub writes-refused :
-    (t : Tables) (before : List ℕ) (o : Outcome) →
-    o ≡ outcome (writingChecks t (length before)) (answered (length (textOf t))) →
-    (o .number ≡ 0 → ⊥) →
-    Writes t before before o
-writes-refused t before o e h =
-    record {
-      gives = e;
-      leaves =
-          refusal-leaves (writingChecks t (length before)) t before (length (textOf t))
-          (λ z. h (ap (λ (x : Outcome). x .number) e ∙ z));
-    }
 
 -- 33
 pub writes-empty :

@@ -1,15 +1,13 @@
 -- One pass of a solver for a over a set V that shrinks: it keeps a's small dominions; where it finds nothing, no small dominion
 -- of the opponent's is there; and where none of half the size is there, a pass at full precision leaves at most half of each.
-use mathlib.Core.Bool.{Bool, true, false, _&&_, cond}
-use mathlib.Core.Logic.{_⊎_, inl, inr, ⊎-elim}
-use mathlib.Core.Path.{_≡_, refl, sym, ap, subst, fun-ext, _∙_}
-use Prim.Native.Nat.{ℕ, zero, suc, _+_, _*_, _/_, _≤_, _<_}
+use mathlib.Core.Bool.{true, false, _&&_, cond}
+use mathlib.Core.Logic.{⊎-elim}
+use mathlib.Core.Path.{_≡_, refl, sym, subst, _∙_}
+use Prim.Native.Nat.{ℕ, zero, suc, _+_, _≤_, _<_}
 use native.Mathlib.Nat.{le-refl, le-trans}
 use native.Mathlib.Omega.{arith}
-use borrow.Author.Tests.{eqb-true, leb-true}
-use lib.Dec.{eqb, leb}
 use Rattle.rules.specs.Counting.{Set, without, count}
-use Rattle.rules.specs.Game.{Player, opponent, Game, Edge, parity}
+use Rattle.rules.specs.Game.{Player, opponent, Game, parity}
 use Rattle.rules.specs.Attractor.{IsAttractor, attractor}
 use Rattle.rules.specs.Zielonka.{withPriority}
 use Rattle.basics.specs.Basics.{bool-cases, clash, bool-ext, not-true-is-false, and-left, and-right, and-intro, lt-or-ge, Subset}
@@ -303,15 +301,6 @@ pub ends-half :
     Narrowed g a own V₀ V' → Halved g a full half V₀ V' → Barren g a V' half → Separates g a V₀ own full V'
 ends-half {V' = V'} m halved barren =
     separates-narrowed m (λ D small v. barren (both D V') (left-small m D small _ (halved D small)) v)
-
--- or nothing of half the size, where there are no more vertices than that
-pub ends-few :
-    {g : Game} {a : Player} {own full half : ℕ} {V₀ V' : Set} →
-    Narrowed g a own V₀ V' → count (g .size) V' ≤ half → Barren g a V' half → Separates g a V₀ own full V'
-ends-few {g} {V' = V'} m few barren =
-    separates-narrowed m
-    (λ D small v.
-    barren (both D V') (left-small m D small _ (le-trans (fewer g (λ u p. and-right (D u) (V' u) p)) few)) v)
 
 -- nothing has no vertex
 pub barren-none : {g : Game} (a : Player) {V' : Set} → ((v : ℕ) → V' v ≡ true → v < g .size) → Barren g a V' 0

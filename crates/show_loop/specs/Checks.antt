@@ -1,16 +1,16 @@
 -- The refusals 1 to 45, by the lengths that they go by, and what is known of what passes them.
-use mathlib.Core.Bool.{true, not, _||_}
+use mathlib.Core.Bool.{not, _||_}
 use mathlib.Core.List.{List}
-use mathlib.Core.Path.{_≡_, refl}
+use mathlib.Core.Path.{_≡_}
 use Prim.Native.Nat.{ℕ, _*_, _≤_, _<_}
 use native.Mathlib.Omega.{arith}
 use borrow.Author.Tests.{ltb-true, ltb-false, not-false}
 use lib.Dec.{ltb}
 use lib.ListN.{length}
-use Rattle.rules.specs.Loop.{LentRun, loopChecks, check44, check45, check46}
+use Rattle.rules.specs.Loop.{LentRun, loopChecks, check44, check45}
 use Rattle.rules.specs.Outcome.{Outcome, Verdict, none, outcome, _then_}
-use Rattle.rules.specs.Solitaire.{solitaire, soleOwner, check11}
-use Rattle.rules.specs.Tables.{Tables, gameOf, vertices, edgesIn, workWords, tableChecks, Accepted, check10}
+use Rattle.rules.specs.Solitaire.{check11}
+use Rattle.rules.specs.Tables.{Tables, vertices, edgesIn, workWords, tableChecks, Accepted, check10}
 use Rattle.basics.specs.Basics.{or-false-both}
 use Rattle.parity_game.specs.Laws.{then-none, given-none, check10-none}
 use Rattle.parity_game.specs.Laws.{Numbered, numbered-then, numbered-given, numbered-tables, numbered-check10}
@@ -45,10 +45,6 @@ numbered-check44 n v = numbered-given 44 v (not (ltb v n)) (omega arith)
 numbered-check45 : (n path cycle : ℕ) → Numbered (check45 n path cycle)
 unfolding check45
 numbered-check45 n path cycle = numbered-given 45 0 (ltb path (2 * n) || ltb cycle (2 * n)) (omega arith)
-
-pub numbered-check46 : (t : Tables) (v : ℕ) → Numbered (check46 t v)
-unfolding check46
-numbered-check46 t v = numbered-given 46 v (not (solitaire (gameOf t) (soleOwner t) v)) (omega arith)
 
 pub numbered-checks : (t : Tables) (v : ℕ) (l : LentRun) → Numbered (loopChecks t v l)
 numbered-checks t v l =

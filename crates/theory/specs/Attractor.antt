@@ -2,7 +2,7 @@
 -- and that there is only one such set.
 use mathlib.Core.Bool.{true, false, _&&_, _||_, not, cond}
 use mathlib.Core.Logic.{_⊎_, inl, inr, ⊎-elim}
-use mathlib.Core.Path.{_≡_, ap₂, subst, fun-ext, _∙_}
+use mathlib.Core.Path.{_≡_, ap₂, fun-ext, _∙_}
 use Prim.Native.Nat.{ℕ, zero, suc, _≤_, _<_, zero-le}
 use native.Mathlib.Nat.{le-of-suc-le-suc, eq-or-lt-of-le}
 use native.Mathlib.Omega.{arith}
@@ -206,11 +206,6 @@ pub attractor-unique :
     {g : Game} {a : Player} {V' T S S' : Set} → IsAttractor g a V' T S → IsAttractor g a V' T S' → (v : ℕ) → S v ≡ S' v
 attractor-unique {S} {S'} is is' v =
     bool-ext (S v) (S' v) (is .smallest S' (is' .closed) v) (is' .smallest S (is .closed) v)
-
--- a set that agrees with an attractor at every vertex is one
-pub attractor-agrees :
-    {g : Game} {a : Player} {V' T S S' : Set} → ((v : ℕ) → S v ≡ S' v) → IsAttractor g a V' T S → IsAttractor g a V' T S'
-attractor-agrees {g} {a} {V'} {T} e is = subst (λ (X : Set). IsAttractor g a V' T X) (fun-ext e) is
 
 -- the attractor depends on V' and T only by their members
 pub attractor-same :

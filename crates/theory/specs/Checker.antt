@@ -501,21 +501,6 @@ pub accepted-certificate-yes :
     Certified (gameOf t) even odd strategy
 accepted-certificate-yes t ok = certificate-yes (gameOf t) (accepted-total t ok)
 
--- where one pair of winning sets covers the vertices, every pair does
-pub winning-sets-cover :
-    (g : Game) (won won' : Player → Set) →
-    WinningSets g won →
-    WinningSets g won' →
-    ((v : ℕ) → v < g .size → (won Even v ≡ true) ⊎ (won Odd v ≡ true)) →
-    (v : ℕ) →
-    v < g .size →
-    (won' Even v ≡ true) ⊎ (won' Odd v ≡ true)
-winning-sets-cover g won won' sets sets' cover v l =
-    ⊎-elim
-    (λ p. inl (sets' Even v l .1 (sets Even v l .0 p)))
-    (λ p. inr (sets' Odd v l .1 (sets Odd v l .0 p)))
-    (cover v l)
-
 module _
     (g : Game)
     (total : Total g)

@@ -20,7 +20,7 @@ use Rattle.rules.specs.Checker.{winnerOf, keptEdges, check22, check23, check24}
 use Rattle.basics.specs.Basics.{bool-ext, and-intro, and-left, and-right, some-intro, some-elim, some-cong}
 use Rattle.theory.specs.Dominion.{owner-cases}
 use Rattle.theory.specs.Walks.{highest-le}
-use Rattle.theory.specs.Links.{Linked, first-step, good-part-cycle, cycle-good-part, good-part-on-cycle, good-part-agrees}
+use Rattle.theory.specs.Links.{Linked, good-part-cycle, good-part-on-cycle, good-part-agrees}
 use Rattle.theory.specs.Solitaire.{edge-test, test-edge, at-most-elim, at-most-intro, priority-le-highest}
 use Rattle.theory.specs.Checker.{after22, after23, kept-elim, kept-intro, badCycle}
 
@@ -44,17 +44,6 @@ chosen-part-cycle g entries p v q =
     let ends = atMost g p x && atMost g p y in
     at-most-elim g p x (and-left (atMost g p x) (atMost g p y) (and-left ends _ e)) .1)
     (and-right (atMost g p v) _ q)
-
-pub cycle-chosen-part :
-    (g : Game) (entries : List ℕ) (p v : ℕ) →
-    Cycle (g .priority) (Linked (g .size) (chosenLinks g entries (atMost g p))) v p →
-    chosenPart g entries p v ≡ true
-cycle-chosen-part g entries p v c =
-    let (w, e, back) = first-step c in
-    let ends = atMost g p v && atMost g p w in
-    and-intro
-    (and-left (atMost g p v) (atMost g p w) (and-left ends _ (e .edge)))
-    (cycle-good-part g (chosenLinks g entries (atMost g p)) p v c)
 
 -- so p is a priority of the game
 pub chosen-part-highest :

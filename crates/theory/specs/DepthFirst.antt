@@ -11,11 +11,11 @@ use native.Mathlib.Omega.{arith}
 use borrow.Author.Tests.{eqb-true, eqb-false}
 use lib.Dec.{eqb}
 use lib.ListN.{length, getD, take, length-append, List·getD-append}
-use lib.Seq.{take-suc, take-append-seam, take-append-le, getD-append-seam}
+use lib.Seq.{take-append-seam, take-append-le, getD-append-seam}
 use Rattle.rules.specs.Counting.{Set, count}
 use Rattle.rules.specs.Winning.{Reach, here, step}
 use Rattle.basics.specs.Basics.{bool-cases, clash, count-cong, count-none, count-le, count-strict, below-suc}
-use Rattle.theory.specs.Walks.{Relation, Among, reach-append, reach-step, reach-stays}
+use Rattle.theory.specs.Walks.{Relation, Among, reach-append, reach-stays}
 
 -- P holds of each entry of a list and the entries before it
 abbrev pub Each : (List ℕ → ℕ → Type 0) → List ℕ → Type 0
@@ -133,21 +133,6 @@ through-visited :
     s .visited w ≡ true
 through-visited {s} k u w m r =
     reach-stays (λ x. s .visited x ≡ true) (λ x y e p. k .closed x y (e .start) (e .edge)) (k .finished u m) r
-
--- Where a path leaves the finished vertices it comes to the stack, and from there the path's start can be reached.
-pub dfs-frontier :
-    {R : Relation} {n : ℕ} {s : Search} →
-    Searched R n s →
-    (u w : ℕ) →
-    List·Memᴰ u (s .done) →
-    (List·Memᴰ w (s .done) → ⊥) →
-    Through (s .done) R u w →
-    List·Memᴰ w (s .stack) × Reach R w u
-dfs-frontier k u w m outside r =
-    ⊎-elim
-    (λ on. (on, k .back u w m on r))
-    (λ closed. absurd (outside closed))
-    (k .marked w (through-visited k u w m r))
 
 -- a path through a list with one more entry stays within the list, or comes to that entry through the list
 through-snoc :
@@ -306,20 +291,6 @@ pub data Move (R : ℕ → ℕ → Type 0) (n : ℕ) : Search → Search → Typ
       ((w : ℕ) → R t w → visited w ≡ true) →
       Move R n (searching visited (below ++ (t ∷ [])) done) (searching visited below (done ++ (t ∷ [])))
 
--- **Every move keeps what the search keeps.**
-pub dfs-keeps : {R : Relation} {n : ℕ} {s s' : Search} → Move R n s s' → Searched R n s → Searched R n s'
-dfs-keeps (root {visited'} {r} l fresh marks) kept =
-    dfs-pushes kept visited' r l fresh (λ u m. absurd (List·Memᴰ·not-nil m)) marks
-dfs-keeps {R} (push {visited'} {y} below t e l fresh marks) kept =
-    dfs-pushes kept visited' y l fresh
-    (λ u m.
-    ⊎-elim
-    (λ k. reach-step (each-last (ReachesUp R) below t (kept .chain) u k) e)
-    (λ q. rw q (step e here))
-    (snoc-cases below m))
-    marks
-dfs-keeps (pop below t seen) kept = dfs-pops below t seen kept
-
 -- an order of finishing for the vertices of X: whoever reaches one of them through those before it is reached from it
 pub record FinishingOrder (R : Relation) (X : Set) (order : List ℕ) : Type 0 where
   pub all : (v : ℕ) → X v ≡ true → List·Memᴰ v order
@@ -349,16 +320,3 @@ arrives before keeps (step {v = x} e r) =
     (λ m. step (record { start = m; edge = e .edge }) (arrives before keeps r))
     (λ q. rw q here)
     (keeps x (e .start))
-
--- **Whoever reaches a vertex by a path on which that vertex stands last in the order is reached from it.**
-pub last-comes-back :
-    {R : Relation} {X : Set} {order : List ℕ} →
-    FinishingOrder R X order →
-    (i : ℕ) →
-    i < length order →
-    (x : ℕ) →
-    Reach (Among (λ u. List·Memᴰ u (take (suc i) order)) R) x (getD order i 0) →
-    Reach R (getD order i 0) x
-last-comes-back {order} f i l x r =
-    f .ordered i l x
-    (arrives (take i order) (λ u m. snoc-cases (take i order) (rw (take-suc order i 0 l) at m)) r)

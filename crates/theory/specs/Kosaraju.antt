@@ -5,8 +5,8 @@ use mathlib.Core.List.{List, _∷_, _++_, List·Memᴰ, List·Memᴰ·cases-cons
 use mathlib.Core.Logic.{_⊎_, inl, inr, ⊎-elim}
 use mathlib.Core.Path.{_≡_, sym, ap, ap₂, _∙_}
 use Prim.Native.Nat.{ℕ, suc, _<_}
-use borrow.Author.Tests.{eqb-true, eq-eqb, lt-ltb}
-use lib.Dec.{eqb, ltb}
+use borrow.Author.Tests.{eqb-true, eq-eqb}
+use lib.Dec.{eqb}
 use native.Mathlib.Nat.{le-refl}
 use lib.ListN.{length, getD, take, drop, drop-of-length-le}
 use lib.Seq.{split-at, drop-cons}
@@ -311,10 +311,6 @@ labels-exact parts u w p q = (
   λ e. together-trans (rw e at (parts .root u p)) (together-sym (parts .root w q)),
   λ both. sym (parts .whole u w p both .1),
 )
-
--- links below n run among the numbers below n
-pub linked-ends : (n : ℕ) (links : Links) (v w : ℕ) → Linked n links v w → (ltb v n ≡ true) × (ltb w n ≡ true)
-linked-ends n links v w e = (lt-ltb v n (e .start), lt-ltb w n (e .end))
 
 -- The test samePart, from an assigned vertex, compares labels.
 pub labels-same-part :

@@ -155,19 +155,6 @@ pub ends-below :
     Carries (λ v w. links v w ≡ true) (Linked n links)
 ends-below small v w e = record { edge = e; start = small v w e .0; end = small v w e .1 }
 
--- The test reached says what can be reached along them.
-pub reached-exact :
-    {n : ℕ} {links : Links} →
-    ((v w : ℕ) → links v w ≡ true → (v < n) × (w < n)) →
-    (v w : ℕ) →
-    v < n →
-    (reached n links v w ≡ true → Reach (λ x y. links x y ≡ true) v w) ×
-    (Reach (λ x y. links x y ≡ true) v w → reached n links v w ≡ true)
-reached-exact {n} {links} small v w l = (
-  λ p. reach-map (λ x y e. e .edge) (reached-reach n links p),
-  λ r. reach-reached n links l (reach-map (ends-below small) r),
-)
-
 -- u and v reach one another along R: they are in the same strongly connected part
 abbrev pub Together : Relation → ℕ → ℕ → Type 0
 Together R v u = Reach R v u × Reach R u v

@@ -174,17 +174,6 @@ run-agrees {won} σ' agree (some-lost {B} {second} {a} top cut run cut₂ run₂
         (λ v p. result .mine v ∙ p)
         (λ v p. result .theirs v ∙ union-right B (second (opponent a)) v p)
 
--- **A run depends on its sets by their members alone, and on its entries at winners' own vertices alone.**
-pub run-cong :
-    {g : Game} {V₁ V₂ : Set} {won₁ won₂ : Player → Set} {σ₁ σ₂ : ℕ → ℕ} {n : ℕ} →
-    ((v : ℕ) → V₁ v ≡ V₂ v) →
-    ((c : Player) (v : ℕ) → won₁ c v ≡ won₂ c v) →
-    ((c : Player) (v : ℕ) → won₁ c v ≡ true → g .owner v ≡ c → σ₂ v ≡ σ₁ v) →
-    Run g V₁ won₁ σ₁ n →
-    Run g V₂ won₂ σ₂ n
-run-cong {g} {V₂} {σ₂} {n} same-set same-won agree run =
-    subst (λ (won : Player → Set). Run g V₂ won σ₂ n) (fun-ext (λ c. fun-ext (same-won c))) (run-over same-set (run-agrees σ₂ agree run))
-
 -- The rules' highest priority in a set that has a member is its highest priority.
 pub highest-top :
     (g : Game) (V' : Set) →

@@ -1,24 +1,20 @@
 -- Laws of the members of a set lent as words: each once, in rising order, as many as the set has, for any number of words.
-use mathlib.Core.Bool.{Bool, true, false, _&&_, _||_, not, cond}
+use mathlib.Core.Bool.{Bool, true, false, _&&_, cond}
 use mathlib.Core.List.{List, [], _∷_, _++_}
-use mathlib.Core.Logic.{_⊎_, inl, inr}
-use mathlib.Core.Path.{_≡_, refl, sym, ap, ap₂, _∙_, subst₂}
-use Prim.Native.Nat.{ℕ, zero, suc, _+_, _-_, _*_, _/_, _%_, _≤_, _<_, min, max, zero-le, suc-le-suc}
+use mathlib.Core.Path.{_≡_, refl, sym, ap, ap₂, _∙_}
+use Prim.Native.Nat.{ℕ, zero, suc, _+_, _-_, _*_, _/_, _%_, _≤_, _<_, zero-le, suc-le-suc}
 use native.Mathlib.Decide.{ℕ-discrete, decLt}
 use native.Mathlib.Nat.{add-assoc, add-zero, zero-add, le-of-suc-le-suc, le-trans, not-suc-le-zero}
 use native.Mathlib.Omega.{arith}
-use borrow.Author.Tests.{eqb-true, eq-eqb, ne-eqb}
-use lib.Dec.{eqb, ltb}
-use lib.ListN.{length, getD, take, drop, replicate, length-replicate, getD-replicate, length-append, length-take, length-drop, List·getD-eq-default}
-use lib.Seq.{getD-take, getD-drop, ext-getD}
-use Rattle.rules.specs.Counting.{some, every, count, times, everyOf}
+use borrow.Author.Tests.{eq-eqb, ne-eqb}
+use lib.Dec.{eqb}
+use lib.ListN.{length, getD, length-append}
+use Rattle.rules.specs.Counting.{every, count, times, everyOf}
 use Rattle.rules.specs.Words.{digit, bit, setOf}
-use Rattle.sets.specs.After.{Put, Combined, Cleared, Filled}
-use Rattle.basics.specs.Basics.{every-elim, some-false, count-cong, count-on, count-first}
+use Rattle.basics.specs.Basics.{count-cong, count-on, count-first}
 use Rattle.sets.specs.Digits.{digit-lt, digit-zero}
-use Rattle.walk.specs.declared.members.Members.{Members}
-use Rattle.walk.specs.Walk.{ofWord, ofWords, members, left}
-use Rattle.sets.specs.Whole.{bit-lt, flag-of-digit}
+use Rattle.walk.specs.Walk.{ofWord, ofWords, members}
+use Rattle.sets.specs.Whole.{flag-of-digit}
 
 times-append : (v : ℕ) (l m : List ℕ) → times v (l ++ m) ≡ times v l + times v m
 unfolding times
@@ -110,19 +106,10 @@ times-entry [] k h = absurd (not-suc-le-zero h)
 times-entry (x ∷ l) zero h = rw (eq-eqb x x refl) (omega arith)
 times-entry (x ∷ l) (suc k) h = omega (arith, times-entry l k (le-of-suc-le-suc h))
 
--- each entry among the members is a member
-pub members-entry : (xs : List ℕ) (k : ℕ) → k < length (members xs) → bit xs (getD (members xs) k 0) ≡ 1
-members-entry xs k h =
-    omega (arith, times-entry (members xs) k h, times-members xs (getD (members xs) k 0), bit-lt xs (getD (members xs) k 0))
-
 everyOf-entries : (l : List ℕ) (test : ℕ → Bool) → ((k : ℕ) → k < length l → test (getD l k 0) ≡ true) → everyOf l test ≡ true
 unfolding everyOf
 everyOf-entries [] test h = refl
 everyOf-entries (x ∷ l) test h = ap₂ _&&_ (h 0 (omega arith)) (everyOf-entries l test (λ k m. h (suc k) (suc-le-suc m)))
-
--- what holds of each member holds of every entry among the members
-pub members-every : (xs : List ℕ) (test : ℕ → Bool) → ((v : ℕ) → bit xs v ≡ 1 → test v ≡ true) → everyOf (members xs) test ≡ true
-members-every xs test h = everyOf-entries (members xs) test (λ k l. h (getD (members xs) k 0) (members-entry xs k l))
 
 length-where : (t : Bool) (x : ℕ) (l : List ℕ) → length (cond t (x ∷ l) l) ≡ cond t 1 0 + length l
 length-where true x l = omega arith
@@ -204,6 +191,3 @@ rising-ofWords i (x ∷ xs) = rising-word i x (ofWords (suc i) xs) (rising-ofWor
 -- the members rise, and so does what a walk has still to come
 pub rising-members : (xs : List ℕ) → Rising 0 (members xs)
 rising-members xs = rising-ofWords 0 xs
-
-pub rising-left : (xs : List ℕ) (c : Members) → Rising (64 * c .at) (left xs c)
-rising-left xs c = rising-word (c .at) (c .word) (ofWords (suc (c .at)) (drop (suc (c .at)) xs)) (rising-ofWords (suc (c .at)) (drop (suc (c .at)) xs))
