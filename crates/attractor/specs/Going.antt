@@ -121,17 +121,14 @@ module _ (owners offsets targets : List ℕ) (alpha within set : ℕ) (before : 
     pub this-low : layers n m ≤ this
     this-low = ⊎-elim (λ e. omega (arith, e .0)) (λ e. omega (arith, e .0)) (c .sides)
 
-    pub next-high : next + layerWords n ≤ metAt n m
+    next-high : next + layerWords n ≤ metAt n m
     next-high = ⊎-elim (λ e. omega (arith, e .1)) (λ e. omega (arith, e .1)) (c .sides)
 
-    pub next-low : layers n m ≤ next
+    next-low : layers n m ≤ next
     next-low = ⊎-elim (λ e. omega (arith, e .1)) (λ e. omega (arith, e .1)) (c .sides)
 
     pub layers-apart : (this + layerWords n ≤ next) ⊎ (next + layerWords n ≤ this)
     layers-apart = ⊎-elim (λ e. inl (omega (arith, e .0, e .1))) (λ e. inr (omega (arith, e .0, e .1))) (c .sides)
-
-    pub layer-fits : this + layerWords n ≤ length after
-    layer-fits = omega (arith, this-high, c .long, given .placed .within-low, given .placed .within-high)
 
     inside-now : setAt n within after ≡ V'
     inside-now =

@@ -1,9 +1,9 @@
 -- What the operations make of a layer: the laws that answer their contracts, and those that callers use.
 use mathlib.Core.Bool.{Bool, true, false, _||_, cond, or-false}
 use mathlib.Core.List.{List}
-use mathlib.Core.Logic.{_⊎_, inl, inr, ⊎-elim}
-use mathlib.Core.Path.{_≡_, refl, sym, ap, ap₂, _∙_}
-use Prim.Native.Nat.{ℕ, suc, _+_, _-_, _*_, _/_, _%_, _^_, _≤_, _<_}
+use mathlib.Core.Logic.{⊎-elim}
+use mathlib.Core.Path.{_≡_, refl, sym, ap, _∙_}
+use Prim.Native.Nat.{ℕ, _+_, _-_, _*_, _/_, _%_, _^_, _≤_, _<_}
 use native.Mathlib.Decide.{ℕ-discrete}
 use native.Mathlib.Omega.{arith}
 use borrow.Author.Tests.{eq-eqb, ne-eqb}
@@ -14,7 +14,7 @@ use lib.Seq.{getD-set-same, getD-set-other}
 use Rattle.rules.specs.Words.{digit, bit, setOf}
 use Rattle.basics.specs.Basics.{lt-or-ge, clash}
 use Rattle.sets.specs.Digits.{digit-zero}
-use Rattle.sets.specs.Laws.{bit-past, bit-take, bit-member, bit-other, bit-of-set, put-set}
+use Rattle.sets.specs.Laws.{bit-past, bit-take, bit-other, put-set}
 use Rattle.sets.specs.Single.{digit-insert, put-insert}
 use Rattle.layer.specs.Lowest.{others, lowestOf, others-higher, others-same, below-lowest, lowest-small, lowest-set}
 use Rattle.layer.specs.Lowest.{inWord, in-word, off-word}

@@ -8,7 +8,7 @@ use Prim.Native.Nat.{ℕ, zero, suc, _+_, _-_, _*_, _/_, _%_, _^_, _≤_, _<_}
 use native.Mathlib.Decide.{ℕ-discrete}
 use native.Mathlib.Nat.{not-suc-le-zero, zero-add}
 use native.Mathlib.Omega.{arith}
-use borrow.Author.Tests.{eq-eqb, ne-eqb, eqb-true}
+use borrow.Author.Tests.{eq-eqb, ne-eqb}
 use lib.Bits.{bitAnd}
 use lib.Count.{trailingZeros}
 use lib.Dec.{eqb}
@@ -21,7 +21,7 @@ use Rattle.sets.specs.Laws.{bit-inside}
 use Rattle.walk.specs.Walk.{members}
 use Rattle.walk.specs.Steps.{left-start, left-member}
 use Rattle.walk.specs.MemberLaws.{times-members, Rising, rising-members}
-use Rattle.basics.specs.Basics.{times-member, member-place, and-left}
+use Rattle.basics.specs.Basics.{times-member, member-place}
 
 -- the word without its lowest set digit
 abbrev pub others : ℕ → ℕ
@@ -86,18 +86,15 @@ module _ (word : ℕ) (fits : word < 2 ^ 64) (some : word ≡ 0 → ⊥) where
       above lo (x ∷ l) r zero h = r .0
       above lo (x ∷ l) r (suc k) h = let up = above (suc x) l (r .1) k (omega arith) in omega (arith, r .0)
 
-  -- and it is one of the 64
-  pub lowest-small : lowestOf word < 64
-  lowest-small =
-      bit-inside (word ∷ []) (lowestOf word) (omega (arith, apart (lowestOf word), bit-lt (word ∷ []) (lowestOf word), here))
-    where
-      here : _≡_ {A = ℕ} (cond (eqb (lowestOf word) (lowestOf word)) 1 0) 1
-      here = rw (eq-eqb (lowestOf word) (lowestOf word) refl)
-
-  -- its digit is set, and is the one that the others lack
   one-here : _≡_ {A = ℕ} (cond (eqb (lowestOf word) (lowestOf word)) 1 0) 1
   one-here = rw (eq-eqb (lowestOf word) (lowestOf word) refl)
 
+  -- and it is one of the 64
+  pub lowest-small : lowestOf word < 64
+  lowest-small =
+      bit-inside (word ∷ []) (lowestOf word) (omega (arith, apart (lowestOf word), bit-lt (word ∷ []) (lowestOf word), one-here))
+
+  -- its digit is set, and is the one that the others lack
   pub lowest-set : digit word (lowestOf word) ≡ 1
   lowest-set = omega (arith, lowest-digits (lowestOf word) lowest-small, digit-lt word (lowestOf word), one-here)
 

@@ -1,7 +1,6 @@
 -- `attract` meets its contract: layer by layer and word by word, in rising order, each member is taken by one of the rules'
 -- steps.
 use Prim.Native.Nat.{ℕ, _+_, _-_, _≤_, _<_}
-use mathlib.Core.List.{List}
 use mathlib.Core.Path.{_≡_, sym, ap, _∙_}
 use native.Mathlib.Omega.{arith}
 use borrow.Author.Needs.{needs}

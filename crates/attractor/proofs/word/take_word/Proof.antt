@@ -5,9 +5,9 @@ use mathlib.Core.Path.{_≡_, sym, subst, _∙_}
 use native.Mathlib.Omega.{arith}
 use lib.Bits.{and-le-r}
 use lib.Count.{trailing-le}
-use lib.ListN.{length, getD}
+use lib.ListN.{length}
 use Rattle.layer.specs.Lowest.{lowestOf}
-use Rattle.attractor.specs.OneWord.{Stands, Taking, TookWord, word-fits, word-rises, word-few, word-ready, word-more}
+use Rattle.attractor.specs.OneWord.{Stands, Taking, word-fits, word-rises, word-few, word-ready, word-more}
 use Rattle.attractor.proofs.word.take_word.Statement.{statement}
 use Rattle.attractor.proofs.word.take_word.Tie as tie
 
