@@ -190,7 +190,7 @@ module _ (owners offsets targets : List ℕ) (alpha within set : ℕ) (before : 
             moved P p = subst₂ P mid-left (sym mid-state) p
 
         -- **the members of the word may be taken**
-        pub word-stands : Stands owners offsets targets alpha within set next at far from word 0 mid
+        word-stands : Stands owners offsets targets alpha within set next at far from word 0 mid
         word-stands =
             record {
               given = given;
