@@ -27,7 +27,8 @@ use Rattle.attractor_step.specs.Layers.{takenOf, Layered, layered-first}
 use Rattle.attractor_step.specs.View.{cells, layerAt, stateAt}
 use Rattle.attractor.specs.Attracted.{Attractable, listed-kept}
 use Rattle.attractor.specs.Begun.{Beginnable, Begun, layerOf}
-use Rattle.attractor.specs.Running.{Running, nowAt, takenAt, fits, Same}
+use Rattle.attractor.specs.Going.{nowAt, takenAt, fits}
+use Rattle.attractor.specs.Running.{Running, Same}
 
 module _ (owners offsets targets : List ℕ) (alpha within set s : ℕ) (work : List ℕ)
     (given : Attractable owners offsets targets alpha within set work) (size : s ≡ words (length owners))

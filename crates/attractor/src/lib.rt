@@ -3,5 +3,6 @@
 // set of those whose counter was made; sets stand at bases that the caller gives.
 mod begin;
 mod whole;
+mod word;
 
 pub use whole::attract;

@@ -1,8 +1,8 @@
 // The whole attractor: the set at `set` grows from the target to the attractor in the set at `within`. Gives the
 // looks.
 use crate::begin::begin_layers;
-use attractor_step::step::take;
-use layer::marked::pop;
+use crate::word::take_word;
+use layer::marked::pop_word;
 ghost use mathlib.Core.List.{List};
 ghost use Prim.Native.Nat.{ℕ};
 ghost use Rattle.rules.specs.Game.{playerOf};
@@ -36,9 +36,8 @@ pub fn attract(
     let mut far: u64 = 1;
     let mut looks: u64 = 0;
     while work[this + s] != 0 {
-        let w = pop(&mut work[this..this + s + 1]);
-        looks += work[w + 1] - work[w];
-        take(
+        let popped = pop_word(&mut work[this..this + s + 1]);
+        looks += take_word(
             owners,
             offsets,
             targets,
@@ -48,7 +47,8 @@ pub fn attract(
             within,
             set,
             next,
-            w,
+            popped.at,
+            popped.word,
             far,
         );
         if work[this + s] == 0 {

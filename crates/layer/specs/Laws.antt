@@ -1,11 +1,10 @@
 -- What the operations make of a layer: the laws that answer their contracts, and those that callers use.
-use mathlib.Core.Bool.{Bool, true, false, cond}
+use mathlib.Core.Bool.{Bool, true, false, _||_, cond, or-false}
 use mathlib.Core.List.{List}
-use mathlib.Core.Logic.{_⊎_, inl, inr, ⊎-elim}
-use mathlib.Core.Path.{_≡_, refl, sym, ap, ap₂, _∙_}
-use Prim.Native.Nat.{ℕ, suc, _+_, _-_, _*_, _/_, _%_, _^_, _≤_, _<_}
+use mathlib.Core.Logic.{⊎-elim}
+use mathlib.Core.Path.{_≡_, refl, sym, ap, _∙_}
+use Prim.Native.Nat.{ℕ, _+_, _-_, _*_, _/_, _%_, _^_, _≤_, _<_}
 use native.Mathlib.Decide.{ℕ-discrete}
-use native.Mathlib.Nat.{zero-add}
 use native.Mathlib.Omega.{arith}
 use borrow.Author.Tests.{eq-eqb, ne-eqb}
 use lib.Bits.{bitOr}
@@ -13,11 +12,12 @@ use lib.Dec.{eqb}
 use lib.ListN.{length, getD, take, set, length-set, length-take}
 use lib.Seq.{getD-set-same, getD-set-other}
 use Rattle.rules.specs.Words.{digit, bit, setOf}
-use Rattle.basics.specs.Basics.{lt-or-ge}
-use Rattle.sets.specs.Digits.{digit-lt, digit-zero, digits-tell}
-use Rattle.sets.specs.Laws.{bit-past, bit-take, bit-member, bit-other, bit-of-set, put-set}
+use Rattle.basics.specs.Basics.{lt-or-ge, clash}
+use Rattle.sets.specs.Digits.{digit-zero}
+use Rattle.sets.specs.Laws.{bit-past, bit-take, bit-other, put-set}
 use Rattle.sets.specs.Single.{digit-insert, put-insert}
-use Rattle.layer.specs.Lowest.{others, lowestOf, lowest-digits, others-higher, lowest-small}
+use Rattle.layer.specs.Lowest.{others, lowestOf, others-higher, others-same, below-lowest, lowest-small, lowest-set}
+use Rattle.layer.specs.Lowest.{inWord, in-word, off-word}
 use Rattle.layer.specs.Layer.{room, marks, inLayer, Lent, Layer, Marked, Addable, Added, Poppable, Popped}
 
 -- ---- members by their words
@@ -38,13 +38,6 @@ set-word xs ys u e = ap (λ (x : ℕ). eqb (digit x (u % 64)) 1) e
 bit-blank : (xs : List ℕ) (u : ℕ) → getD xs (u / 64) 0 ≡ 0 → bit xs u ≡ 0
 unfolding bit
 bit-blank xs u e = ap (λ (x : ℕ). digit x (u % 64)) e ∙ digit-zero (u % 64)
-
-digit-cases : (x k : ℕ) → (digit x k ≡ 0) ⊎ (digit x k ≡ 1)
-digit-cases x k = go (ℕ-discrete (digit x k) 0)
-  where
-    go : Dec (digit x k ≡ 0) → (digit x k ≡ 0) ⊎ (digit x k ≡ 1)
-    go (yes z) = inl z
-    go (no d) = inr (omega (arith, d, digit-lt x k))
 
 -- two layers whose words are alike but at the place of v, where a digit changes
 alike :
@@ -165,233 +158,128 @@ module _ (xs : List ℕ) (v : ℕ) (given : Addable v xs) where
           let less : i < s = omega (arith, added-long) in
           word-there i less d ∙ given .layer .blank i less old
 
--- ---- the lowest member out
+-- ---- the lowest word out
 
 module _ (xs : List ℕ) (given : Poppable xs) (marks-fit : marks xs < 2 ^ 64) where
   abbrev pub at : ℕ
   at = lowestOf (marks xs)
 
-  -- a word whose digit in the marks is 1
-  mark-here : digit (marks xs) at ≡ 1
-  mark-here =
-      let one : _≡_ {A = ℕ} (cond (eqb at at) 1 0) 1 = rw (eq-eqb at at refl) in
-      omega (
-        arith,
-        lowest-digits (marks xs) marks-fit (given .some) at (lowest-small (marks xs) marks-fit (given .some)),
-        digit-lt (marks xs) at,
-      )
-
   pub at-small : at < 64
   at-small = lowest-small (marks xs) marks-fit (given .some)
 
+  -- a word whose digit in the marks is 1
+  marked-here : (at < room xs) × (getD xs at 0 ≡ 0 → ⊥)
+  marked-here = given .layer .marked at at-small (lowest-set (marks xs) marks-fit (given .some))
+
   pub at-below : at < room xs
-  at-below = given .layer .marked at at-small mark-here .0
+  at-below = marked-here .0
 
   abbrev word : ℕ
   word = getD xs at 0
 
-  pub word-some : word ≡ 0 → ⊥
-  word-some = given .layer .marked at at-small mark-here .1
-
-  -- the other marks
-  marks-other : (j : ℕ) → j < 64 → (j ≡ at → ⊥) → digit (others (marks xs)) j ≡ digit (marks xs) j
-  marks-other j l d =
-      sym (lowest-digits (marks xs) marks-fit (given .some) j l ∙ ap (λ (b : Bool). cond b 1 0 + digit (others (marks xs)) j)
-      (ne-eqb j at d) ∙ zero-add (digit (others (marks xs)) j))
-
   -- words below have none
   word-lower : (j : ℕ) → j < at → getD xs j 0 ≡ 0
   word-lower j l =
-      given .layer .blank j (omega (arith, at-below))
-      (let same = marks-other j (omega (arith, at-small)) (λ e. omega arith) in
-      ⊎-elim
-      (λ z. z)
-      (λ one. absurd (let h = others-higher (marks xs) marks-fit (given .some) j (omega (arith, at-small)) (same ∙ one)
-      in omega arith))
-      (digit-cases (marks xs) j))
+      given .layer .blank j (omega (arith, at-below)) (below-lowest (marks xs) marks-fit (given .some) j l)
 
-  module _ (word-fits : word < 2 ^ 64) where
-    abbrev low : ℕ
-    low = lowestOf word
+  abbrev emptied : List ℕ
+  emptied = set xs at 0
 
-    abbrev v : ℕ
-    v = 64 * at + low
+  abbrev less : List ℕ
+  less = set emptied (room xs) (others (marks xs))
 
-    low-small : low < 64
-    low-small = lowest-small word word-fits word-some
+  less-long : length less ≡ length xs
+  less-long = length-set emptied (room xs) (others (marks xs)) ∙ length-set xs at 0
 
-    v-word : v / 64 ≡ at
-    v-word = omega (arith, low-small)
+  less-here : getD less at 0 ≡ 0
+  less-here =
+      getD-set-other emptied (room xs) at (others (marks xs)) 0 (λ e. omega (arith, at-below)) ∙
+      getD-set-same xs at 0 0 (omega (arith, at-below))
 
-    v-place : v % 64 ≡ low
-    v-place = omega (arith, low-small)
+  less-there : (j : ℕ) → j < room xs → (j ≡ at → ⊥) → getD less j 0 ≡ getD xs j 0
+  less-there j l d =
+      getD-set-other emptied (room xs) j (others (marks xs)) 0 (λ e. omega arith) ∙ getD-set-other xs at j 0 0 d
 
-    v-small : v < 64 * room xs
-    v-small = omega (arith, low-small, at-below)
+  less-marks : marks less ≡ others (marks xs)
+  less-marks =
+      ap (λ (k : ℕ). getD less (k - 1) 0) less-long ∙
+      getD-set-same emptied (room xs) (others (marks xs)) 0 (omega (arith, length-set xs at 0, given .layer .lent .some))
 
-    low-set : digit word low ≡ 1
-    low-set =
-        let one : _≡_ {A = ℕ} (cond (eqb low low) 1 0) 1 = rw (eq-eqb low low refl) in
-        omega (arith, lowest-digits word word-fits word-some low low-small, digit-lt word low)
+  less-set : (u : ℕ) → inLayer xs u ≡ (inWord at word u || inLayer less u)
+  unfolding setOf bit
+  less-set u = ⊎-elim (λ l. below l (ℕ-discrete (u / 64) at)) past (lt-or-ge u (64 * room xs))
+    where
+      below : u < 64 * room xs → Dec (u / 64 ≡ at) → inLayer xs u ≡ (inWord at word u || inLayer less u)
+      below l (yes e) =
+          layer-bit xs u l ∙
+          ap (λ (i : ℕ). eqb (digit (getD xs i 0) (u % 64)) 1) e ∙
+          sym (in-word at word u e) ∙
+          sym (or-false (inWord at word u)) ∙
+          ap (λ (b : Bool). inWord at word u || b)
+          (sym (layer-bit less u (omega (arith, less-long)) ∙ bit-other less u (bit-blank less u (ap (λ (i : ℕ). getD less i 0) e ∙
+          less-here))))
+      below l (no d) =
+          layer-bit xs u l ∙
+          set-word xs less u (sym (less-there (u / 64) (omega arith) d)) ∙
+          sym (layer-bit less u (omega (arith, less-long))) ∙
+          ap (λ (b : Bool). b || inLayer less u) (sym (off-word at word u d))
 
-    word-other : (j : ℕ) → j < 64 → (j ≡ low → ⊥) → digit (others word) j ≡ digit word j
-    word-other j l d =
-        sym
-        (lowest-digits word word-fits word-some j l ∙
-        ap (λ (b : Bool). cond b 1 0 + digit (others word) j) (ne-eqb j low d) ∙
-        zero-add (digit (others word) j))
+      past : 64 * room xs ≤ u → inLayer xs u ≡ (inWord at word u || inLayer less u)
+      past l =
+          layer-past xs u l ∙
+          sym (layer-past less u (omega (arith, less-long))) ∙
+          ap (λ (b : Bool). b || inLayer less u) (sym (off-word at word u (λ e. omega (arith, at-below))))
 
-    word-gone : digit (others word) low ≡ 0
-    word-gone =
-        let one : _≡_ {A = ℕ} (cond (eqb low low) 1 0) 1 = rw (eq-eqb low low refl) in
-        omega (arith, lowest-digits word word-fits word-some low low-small, low-set)
+  less-higher : (u : ℕ) → inLayer less u ≡ true → 64 * at + 64 ≤ u
+  less-higher u p = ⊎-elim (λ l. absurd (clash p (none l (ℕ-discrete (u / 64) at)))) (λ l. l) (lt-or-ge u (64 * at + 64))
+    where
+      none : u < 64 * at + 64 → Dec (u / 64 ≡ at) → inLayer less u ≡ false
+      none l w =
+          layer-bit less u (omega (arith, less-long, at-below)) ∙ bit-other less u (bit-blank less u (blank w))
+        where
+          blank : Dec (u / 64 ≡ at) → getD less (u / 64) 0 ≡ 0
+          blank (yes e) = ap (λ (i : ℕ). getD less i 0) e ∙ less-here
+          blank (no d) = less-there (u / 64) (omega (arith, at-below)) d ∙ word-lower (u / 64) (omega (arith, d))
 
-    pub popped-member : inLayer xs v ≡ true
-    unfolding bit
-    popped-member =
-        layer-bit xs v v-small ∙
-        bit-member xs v (ap₂ (λ (i k : ℕ). digit (getD xs i 0) k) v-word v-place ∙ low-set)
+  pub layer-popped : Popped at word xs less
+  layer-popped =
+      record {
+        long = less-long;
+        small = at-small;
+        some = marked-here .1;
+        set = less-set;
+        higher = less-higher;
+        layer =
+            record {
+              lent =
+                  record {
+                    some = omega (arith, less-long, given .layer .lent .some);
+                    few = omega (
+                      arith,
+                      less-long,
+                      given .layer .lent .few,
+                    );
+                  };
+              marked = λ j l e. marked-at j l (ap (λ (x : ℕ). digit x j) (sym less-marks) ∙ e);
+              blank = λ j l e. blank-at j (omega (arith, less-long)) (ap (λ (x : ℕ). digit x j) (sym less-marks) ∙ e)
+                  (ℕ-discrete j at);
+            };
+      }
+    where
+      marked-at : (j : ℕ) → j < 64 → digit (others (marks xs)) j ≡ 1 → (j < room less) × (getD less j 0 ≡ 0 → ⊥)
+      marked-at j l e =
+          let higher = others-higher (marks xs) marks-fit (given .some) j l e in
+          let apart : j ≡ at → ⊥ = λ z. omega arith in
+          let (below, some) =
+          given .layer .marked j l (sym (others-same (marks xs) marks-fit (given .some) j l apart) ∙ e) in
+          (omega (arith, less-long), λ z. some (sym (less-there j below apart) ∙ z))
 
-    pub popped-lowest : (u : ℕ) → u < v → inLayer xs u ≡ false
-    unfolding bit
-    popped-lowest u l = layer-bit xs u (omega (arith, v-small)) ∙ bit-other xs u (zero-at (ℕ-discrete (u / 64) at))
-      where
-        zero-at : Dec (u / 64 ≡ at) → digit (getD xs (u / 64) 0) (u % 64) ≡ 0
-        zero-at (yes e) =
-            let lower : u % 64 < low = omega arith in
-            let same = word-other (u % 64) (omega arith) (λ z. omega arith) in
-            ap (λ (i : ℕ). digit (getD xs i 0) (u % 64)) e ∙
-            ⊎-elim
-            (λ z. z)
-            (λ one. absurd (let h = others-higher word word-fits word-some (u % 64) (omega arith) (same ∙ one) in omega arith))
-            (digit-cases word (u % 64))
-        zero-at (no d) =
-            let lower : u / 64 < at = omega (arith, low-small, d) in
-            ap (λ (x : ℕ). digit x (u % 64)) (word-lower (u / 64) lower) ∙ digit-zero (u % 64)
-
-    abbrev less : List ℕ
-    less = set xs at (others word)
-
-    less-long : length less ≡ length xs
-    less-long = length-set xs at (others word)
-
-    less-here : getD less at 0 ≡ others word
-    less-here = getD-set-same xs at (others word) 0 (omega (arith, at-below))
-
-    less-there : (j : ℕ) → (j ≡ at → ⊥) → getD less j 0 ≡ getD xs j 0
-    less-there j d = getD-set-other xs at j (others word) 0 d
-
-    less-bits : (u : ℕ) → setOf less u ≡ cond (eqb u v) false (setOf xs u)
-    unfolding setOf bit
-    less-bits u = at-word (ℕ-discrete (u / 64) at)
-      where
-        here : u / 64 ≡ at → Dec (u % 64 ≡ low) → eqb (digit (others word) (u % 64)) 1 ≡ cond (eqb u v) false (eqb (digit word
-            (u % 64)) 1)
-        here e (yes p) =
-            ap (λ (k : ℕ). eqb (digit (others word) k) 1) p ∙
-            ap (λ (x : ℕ). eqb x 1) word-gone ∙
-            ap (λ (b : Bool). cond b false (eqb (digit word (u % 64)) 1)) (sym (eq-eqb u v (omega arith)))
-        here e (no d) =
-            ap (λ (x : ℕ). eqb x 1) (word-other (u % 64) (omega arith) d) ∙
-            ap (λ (b : Bool). cond b false (eqb (digit word (u % 64)) 1))
-            (sym (ne-eqb u v (λ z. d (ap (λ (k : ℕ). k % 64) z ∙ v-place))))
-
-        at-word : Dec (u / 64 ≡ at) → eqb (digit (getD less (u / 64) 0) (u % 64)) 1 ≡ cond (eqb u v) false (eqb (digit (getD xs
-            (u / 64) 0) (u % 64)) 1)
-        at-word (yes e) =
-            ap (λ (i : ℕ). eqb (digit (getD less i 0) (u % 64)) 1) e ∙
-            ap (λ (x : ℕ). eqb (digit x (u % 64)) 1) less-here ∙
-            here e (ℕ-discrete (u % 64) low) ∙
-            ap (λ (i : ℕ). cond (eqb u v) false (eqb (digit (getD xs i 0) (u % 64)) 1)) (sym e)
-        at-word (no d) =
-            ap (λ (x : ℕ). eqb (digit x (u % 64)) 1) (less-there (u / 64) d) ∙
-            ap (λ (b : Bool). cond b false (eqb (digit (getD xs (u / 64) 0) (u % 64)) 1))
-            (sym (ne-eqb u v (λ z. d (ap (λ (k : ℕ). k / 64) z ∙ v-word))))
-
-    lent-still : (ys : List ℕ) → length ys ≡ length xs → Lent ys
-    lent-still ys long = record { some = omega (arith, given .layer .lent .some); few = omega (arith, given .layer .lent .few) }
-
-    less-marks : marks less ≡ marks xs
-    less-marks =
-        ap (λ (k : ℕ). getD less (k - 1) 0) less-long ∙ less-there (room xs) (λ e. omega (arith, at-below))
-
-    -- the word has members still
-    pub popped-some : (others word ≡ 0 → ⊥) → Popped v xs less
-    popped-some more =
-        record {
-          long = less-long;
-          member = popped-member;
-          lowest = popped-lowest;
-          set = alike xs less v false less-long v-small (λ u l. less-bits u);
-          layer =
-              record {
-                lent = lent-still less less-long;
-                marked = λ j l e. marked-at j l (ap (λ (x : ℕ). digit x j) (sym less-marks) ∙ e) (ℕ-discrete j at);
-                blank = λ j l e. blank-at j (omega (arith, less-long)) (ap (λ (x : ℕ). digit x j) (sym less-marks) ∙ e)
-                    (ℕ-discrete j at);
-              };
-        }
-      where
-        marked-at : (j : ℕ) → j < 64 → digit (marks xs) j ≡ 1 → Dec (j ≡ at) → (j < room less) × (getD less j 0 ≡ 0 → ⊥)
-        marked-at j l e (yes is) = (
-          omega (arith, less-long, at-below),
-          λ z. more (sym less-here ∙ ap (λ (k : ℕ). getD less k 0)
-              (sym is) ∙ z),
-        )
-        marked-at j l e (no d) =
-            let (below, some) = given .layer .marked j l e in
-            (omega (arith, less-long), λ z. some (sym (less-there j d) ∙ z))
-
-        blank-at : (j : ℕ) → j < room xs → digit (marks xs) j ≡ 0 → Dec (j ≡ at) → getD less j 0 ≡ 0
-        blank-at j l e (yes is) = absurd (let one = ap (λ (k : ℕ). digit (marks xs) k) is ∙ mark-here in omega arith)
-        blank-at j l e (no d) = less-there j d ∙ given .layer .blank j l e
-
-    -- the word is empty, and its mark goes
-    abbrev unmarked : List ℕ
-    unmarked = set less (room xs) (others (marks xs))
-
-    pub popped-last : others word ≡ 0 → Popped v xs unmarked
-    popped-last none =
-        record {
-          long = long;
-          member = popped-member;
-          lowest = popped-lowest;
-          set = alike xs unmarked v false long v-small (λ u l. set-word unmarked less u (there (u / 64) (omega arith)) ∙
-              less-bits u);
-          layer =
-              record {
-                lent = lent-still unmarked long;
-                marked = λ j l e. marked-at j l (ap (λ (x : ℕ). digit x j) (sym new-marks) ∙ e);
-                blank = λ j l e. blank-at j (omega (arith, long)) (ap (λ (x : ℕ). digit x j) (sym new-marks) ∙ e)
-                    (ℕ-discrete j at);
-              };
-        }
-      where
-        long : length unmarked ≡ length xs
-        long = length-set less (room xs) (others (marks xs)) ∙ less-long
-
-        there : (j : ℕ) → j < room xs → getD unmarked j 0 ≡ getD less j 0
-        there j l = getD-set-other less (room xs) j (others (marks xs)) 0 (λ e. omega arith)
-
-        new-marks : marks unmarked ≡ others (marks xs)
-        new-marks =
-            ap (λ (k : ℕ). getD unmarked (k - 1) 0) long ∙
-            getD-set-same less (room xs) (others (marks xs)) 0 (omega (arith, less-long, given .layer .lent .some))
-
-        marked-at : (j : ℕ) → j < 64 → digit (others (marks xs)) j ≡ 1 → (j < room unmarked) × (getD unmarked j 0 ≡ 0 → ⊥)
-        marked-at j l e =
-            let higher = others-higher (marks xs) marks-fit (given .some) j l e in
-            let apart : j ≡ at → ⊥ = λ z. omega arith in
-            let (below, some) = given .layer .marked j l (sym (marks-other j l apart) ∙ e) in
-            (omega (arith, long), λ z. some (sym (there j below ∙ less-there j apart) ∙ z))
-
-        blank-at : (j : ℕ) → j < room xs → digit (others (marks xs)) j ≡ 0 → Dec (j ≡ at) → getD unmarked j 0 ≡ 0
-        blank-at j l e (yes is) =
-            ap (λ (k : ℕ). getD unmarked k 0) is ∙ there at at-below ∙ less-here ∙ none
-        blank-at j l e (no d) =
-            there j l ∙
-            less-there j d ∙
-            given .layer .blank j l (sym (marks-other j (omega (arith, given .layer .lent .few)) d) ∙ e)
+      blank-at : (j : ℕ) → j < room xs → digit (others (marks xs)) j ≡ 0 → Dec (j ≡ at) → getD less j 0 ≡ 0
+      blank-at j l e (yes is) = ap (λ (k : ℕ). getD less k 0) is ∙ less-here
+      blank-at j l e (no d) =
+          less-there j l d ∙
+          given .layer .blank j l
+          (sym (others-same (marks xs) marks-fit (given .some) j (omega (arith, given .layer .lent .few)) d) ∙ e)
 
 -- ---- marks for words that stand there
 

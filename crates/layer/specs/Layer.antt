@@ -1,13 +1,14 @@
 -- A layer as words: all but the last are a set, and the last has a digit for each of them that is not 0. What the operations
 -- ask for and leave.
-use mathlib.Core.Bool.{true, false, cond}
+use mathlib.Core.Bool.{true, _||_, cond}
 use mathlib.Core.List.{List}
 use mathlib.Core.Path.{_≡_}
-use Prim.Native.Nat.{ℕ, _-_, _*_, _≤_, _<_}
+use Prim.Native.Nat.{ℕ, _+_, _-_, _*_, _≤_, _<_}
 use lib.Dec.{eqb}
 use lib.ListN.{length, getD, take}
 use Rattle.rules.specs.Counting.{Set}
 use Rattle.rules.specs.Words.{digit, setOf}
+use Rattle.layer.specs.Lowest.{inWord}
 
 -- how many words the set has
 abbrev pub room : List ℕ → ℕ
@@ -52,10 +53,11 @@ pub record Poppable (xs : List ℕ) : Type 0 where
   pub layer : Layer xs
   pub some : marks xs ≡ 0 → ⊥
 
--- after `pop`: v, the lowest member, went out
-pub record Popped (v : ℕ) (before after : List ℕ) : Type 0 where
+-- after `pop_word`: the lowest word with a member went out
+pub record Popped (at word : ℕ) (before after : List ℕ) : Type 0 where
   pub long : length after ≡ length before
-  pub member : inLayer before v ≡ true
-  pub lowest : (u : ℕ) → u < v → inLayer before u ≡ false
-  pub set : (u : ℕ) → inLayer after u ≡ cond (eqb u v) false (inLayer before u)
+  pub small : at < 64
+  pub some : word ≡ 0 → ⊥
+  pub set : (u : ℕ) → inLayer before u ≡ (inWord at word u || inLayer after u)
+  pub higher : (u : ℕ) → inLayer after u ≡ true → 64 * at + 64 ≤ u
   pub layer : Layer after

@@ -1,5 +1,11 @@
-// The operations on a layer: marks for words that stand there, one member more, the lowest member out.
+// The operations on a layer: marks for words that stand there, one member more, the lowest word out.
 ghost use Rattle.layer.specs.Layer.{Lent, Marked, Addable, Added, Poppable, Popped};
+
+// A word of a set, and which one it is.
+pub struct Word {
+    pub at: usize,
+    pub word: u64,
+}
 
 // The last word comes to say which of the others are not 0.
 pub fn mark(layer: &mut [u64])
@@ -26,21 +32,16 @@ pub fn add(layer: &mut [u64], v: usize)
     layer[s] |= 1u64 << (v / 64);
 }
 
-// Takes the lowest member out.
-pub fn pop(layer: &mut [u64]) -> usize
+// Takes the lowest word that is not 0 out.
+pub fn pop_word(layer: &mut [u64]) -> Word
     requires { ⌜ Poppable (now layer) ⌝ }
-    ensures { λ r. ⌜ Popped r (now (layer .entry)) (now (layer .exit)) ⌝ }
+    ensures { λ r. ⌜ Popped (r .at) (r .word) (now (layer .entry)) (now (layer .exit)) ⌝ }
 {
     let s = layer.len() - 1;
     let marks = layer[s];
-    let i = u64::trailing_zeros(marks) as usize;
-    let word = layer[i];
-    let v = 64 * i + u64::trailing_zeros(word) as usize;
-    let rest = word & (word - 1);
-    layer[i] = rest;
-    if rest != 0 {
-        return v;
-    }
+    let at = u64::trailing_zeros(marks) as usize;
+    let word = layer[at];
+    layer[at] = 0;
     layer[s] = marks & (marks - 1);
-    v
+    Word { at, word }
 }

@@ -1,6 +1,6 @@
--- `attract` meets its contract: layer by layer, in rising order, each member is taken by one of the rules' steps.
+-- `attract` meets its contract: layer by layer and word by word, in rising order, each member is taken by one of the rules'
+-- steps.
 use Prim.Native.Nat.{ℕ, _+_, _-_, _≤_, _<_}
-use mathlib.Core.List.{List}
 use mathlib.Core.Path.{_≡_, sym, ap, _∙_}
 use native.Mathlib.Omega.{arith}
 use borrow.Author.Needs.{needs}
@@ -13,9 +13,9 @@ use Rattle.attractor_step.specs.View.{layerAt}
 use Rattle.area.specs.Area.{layerWords}
 use Rattle.attractor.specs.Attracted.{Attractable}
 use Rattle.attractor.specs.Started.{clear-ready, begin-ready, started-same, started-given, started}
-use Rattle.attractor.specs.Running.{Running, Going, Same, takenAt, marks-read, layer-fits}
-use Rattle.attractor.specs.Running.{pop-ready, mid, mid-long, next-fits, row-rises, looks-few}
-use Rattle.attractor.specs.Running.{take-ready, taken-grows, going-more, turned}
+use Rattle.attractor.specs.Going.{Going, nowAt, takenAt}
+use Rattle.attractor.specs.Running.{Running, Same, marks-read, layer-fits, pop-ready}
+use Rattle.attractor.specs.Running.{take-word-ready, word-grows, word-looks-few, going-word, turned}
 use Rattle.attractor.specs.Running.{running-on, running-turn, running-all, attracted-moved}
 use Rattle.attractor.proofs.whole.attract.Statement.{statement}
 use Rattle.attractor.proofs.whole.attract.Tie as tie
@@ -90,130 +90,63 @@ fits c =
     (given b) (l .this) (l .next) (l .far) (l .looks) (l .work) (l .inv .going)
 
 -- the loop's head of a turn
-abbrev head : tie.After-pop Inv-loop μ-loop → tie.At-loop Inv-loop μ-loop
+abbrev head : tie.After-pop-word Inv-loop μ-loop → tie.At-loop Inv-loop μ-loop
 head c = c .before .before .before .before
 
-kept :
-    (c : tie.After-pop Inv-loop μ-loop) →
-    let b = begun (head c) in
-    let a = start-of b .args in
-    let l = head c .loop in
-    let work = mid (a .owners .now) (a .offsets .now) (a .targets .now) (a .alpha) (a .within) (a .set)
-    (b .begin-layers .last .0) (given b) (l .this) (l .next) (l .far) (l .looks) (l .work) (l .inv .going)
-    (sized b .set-words .result) (size (head c)) (c .before .before .if1 .taken) (c .pop .result) (c .pop .last .0)
-    (c .pop .ensures) in
-    length work ≡ length (b .begin-layers .last .0)
-kept c =
-    let b = begun (head c) in
-    let a = start-of b .args in
-    let l = head c .loop in
-    mid-long (a .owners .now) (a .offsets .now) (a .targets .now) (a .alpha) (a .within) (a .set)
-    (b .begin-layers .last .0) (given b) (l .this) (l .next) (l .far) (l .looks) (l .work) (l .inv .going)
-    (sized b .set-words .result) (size (head c)) (c .before .before .if1 .taken) (c .pop .result) (c .pop .last .0)
-    (c .pop .ensures)
-
-starts :
-    (c : tie.After-pop Inv-loop μ-loop) →
-    let b = begun (head c) in
-    let a = start-of b .args in
-    let l = head c .loop in
-    let work = mid (a .owners .now) (a .offsets .now) (a .targets .now) (a .alpha) (a .within) (a .set)
-    (b .begin-layers .last .0) (given b) (l .this) (l .next) (l .far) (l .looks) (l .work) (l .inv .going)
-    (sized b .set-words .result) (size (head c)) (c .before .before .if1 .taken) (c .pop .result) (c .pop .last .0)
-    (c .pop .ensures) in
-    c .pop .result + 1 < length work
-starts c =
-    let b = begun (head c) in
-    let a = start-of b .args in
-    let l = head c .loop in
-    next-fits (a .owners .now) (a .offsets .now) (a .targets .now) (a .alpha) (a .within) (a .set)
-    (b .begin-layers .last .0) (given b) (l .this) (l .next) (l .far) (l .looks) (l .work) (l .inv .going)
-    (sized b .set-words .result) (size (head c)) (c .before .before .if1 .taken) (c .pop .result) (c .pop .last .0)
-    (c .pop .ensures)
-
-rises :
-    (c : tie.After-pop Inv-loop μ-loop) →
-    let b = begun (head c) in
-    let a = start-of b .args in
-    let l = head c .loop in
-    let work = mid (a .owners .now) (a .offsets .now) (a .targets .now) (a .alpha) (a .within) (a .set)
-    (b .begin-layers .last .0) (given b) (l .this) (l .next) (l .far) (l .looks) (l .work) (l .inv .going)
-    (sized b .set-words .result) (size (head c)) (c .before .before .if1 .taken) (c .pop .result) (c .pop .last .0)
-    (c .pop .ensures) in
-    getD work (c .pop .result) 0 ≤ getD work (c .pop .result + 1) 0
-rises c =
-    let b = begun (head c) in
-    let a = start-of b .args in
-    let l = head c .loop in
-    row-rises (a .owners .now) (a .offsets .now) (a .targets .now) (a .alpha) (a .within) (a .set)
-    (b .begin-layers .last .0) (given b) (l .this) (l .next) (l .far) (l .looks) (l .work) (l .inv .going)
-    (sized b .set-words .result) (size (head c)) (c .before .before .if1 .taken) (c .pop .result) (c .pop .last .0)
-    (c .pop .ensures)
-
-few :
-    (c : tie.After-pop Inv-loop μ-loop) →
-    let b = begun (head c) in
-    let a = start-of b .args in
-    let l = head c .loop in
-    let work = mid (a .owners .now) (a .offsets .now) (a .targets .now) (a .alpha) (a .within) (a .set)
-    (b .begin-layers .last .0) (given b) (l .this) (l .next) (l .far) (l .looks) (l .work) (l .inv .going)
-    (sized b .set-words .result) (size (head c)) (c .before .before .if1 .taken) (c .pop .result) (c .pop .last .0)
-    (c .pop .ensures) in
-    l .looks + (getD work (c .pop .result + 1) 0 - getD work (c .pop .result) 0) ≤ 67125248
-few c =
-    let b = begun (head c) in
-    let a = start-of b .args in
-    let l = head c .loop in
-    looks-few (a .owners .now) (a .offsets .now) (a .targets .now) (a .alpha) (a .within) (a .set)
-    (b .begin-layers .last .0) (given b) (l .this) (l .next) (l .far) (l .looks) (l .work) (l .inv .going)
-    (sized b .set-words .result) (size (head c)) (c .before .before .if1 .taken) (c .pop .result) (c .pop .last .0)
-    (c .pop .ensures)
-
--- the turn of w
-abbrev popped : tie.After-take Inv-loop μ-loop → tie.After-pop Inv-loop μ-loop
-popped c = c .before .before .before .before .before .before
+-- the turn of a word
+abbrev popped : tie.After-take-word Inv-loop μ-loop → tie.After-pop-word Inv-loop μ-loop
+popped c = c .before .before .before .before
 
 going :
-    (c : tie.After-take Inv-loop μ-loop) →
+    (c : tie.After-take-word Inv-loop μ-loop) →
     let P = popped c in
     let b = begun (head P) in
     let a = start-of b .args in
     let l = head P .loop in
-    let work = mid (a .owners .now) (a .offsets .now) (a .targets .now) (a .alpha) (a .within) (a .set)
-    (b .begin-layers .last .0) (given b) (l .this) (l .next) (l .far) (l .looks) (l .work) (l .inv .going)
-    (sized b .set-words .result) (size (head P)) (P .before .before .if1 .taken) (P .pop .result) (P .pop .last .0)
-    (P .pop .ensures) in
     Going (a .owners .now) (a .offsets .now) (a .targets .now) (a .alpha) (a .within) (a .set) (b .begin-layers .last .0)
-    (l .this) (l .next) (l .far)
-    (l .looks + (getD work (P .pop .result + 1) 0 - getD work (P .pop .result) 0)) (c .take .last .1 .1 .1 .1 .1 .0)
+    (l .this) (l .next) (l .far) (l .looks + c .take-word .result)
+    (nowAt (length (a .owners .now)) (l .this) (c .take-word .last .1 .1 .1 .1 .1 .0)) (c .take-word .last .1 .1 .1 .1 .1 .0)
 going c =
     let P = popped c in
     let b = begun (head P) in
     let a = start-of b .args in
     let l = head P .loop in
-    going-more (a .owners .now) (a .offsets .now) (a .targets .now) (a .alpha) (a .within) (a .set)
+    going-word (a .owners .now) (a .offsets .now) (a .targets .now) (a .alpha) (a .within) (a .set)
     (b .begin-layers .last .0) (given b) (l .this) (l .next) (l .far) (l .looks) (l .work) (l .inv .going)
-    (sized b .set-words .result) (size (head P)) (P .before .before .if1 .taken) (P .pop .result) (P .pop .last .0)
-    (P .pop .ensures) (c .take .last .1 .1 .1 .1 .1 .0) (c .take .ensures)
+    (sized b .set-words .result) (size (head P)) (P .before .before .if1 .taken) (P .pop-word .result .at)
+    (P .pop-word .result .word) (P .pop-word .last .0) (P .pop-word .ensures) (c .take-word .last .1 .1 .1 .1 .1 .0)
+    (c .take-word .result) (c .take-word .ensures)
 
 grows :
-    (c : tie.After-take Inv-loop μ-loop) →
+    (c : tie.After-take-word Inv-loop μ-loop) →
     let P = popped c in
     let a = start-of (begun (head P)) .args in
     let l = head P .loop in
     let n = length (a .owners .now) in
-    let m = length (a .targets .now) in
     count n (takenAt n (a .set) (l .this) (l .next) (l .work)) < count n (takenAt n (a .set) (l .this) (l .next)
-    (c .take .last .1 .1 .1 .1 .1 .0))
+    (c .take-word .last .1 .1 .1 .1 .1 .0))
 grows c =
     let P = popped c in
     let b = begun (head P) in
     let a = start-of b .args in
     let l = head P .loop in
-    taken-grows (a .owners .now) (a .offsets .now) (a .targets .now) (a .alpha) (a .within) (a .set)
+    word-grows (a .owners .now) (a .offsets .now) (a .targets .now) (a .alpha) (a .within) (a .set)
     (b .begin-layers .last .0) (given b) (l .this) (l .next) (l .far) (l .looks) (l .work) (l .inv .going)
-    (sized b .set-words .result) (size (head P)) (P .before .before .if1 .taken) (P .pop .result) (P .pop .last .0)
-    (P .pop .ensures) (c .take .last .1 .1 .1 .1 .1 .0) (c .take .ensures)
+    (sized b .set-words .result) (size (head P)) (P .before .before .if1 .taken) (P .pop-word .result .at)
+    (P .pop-word .result .word) (P .pop-word .last .0) (P .pop-word .ensures) (c .take-word .last .1 .1 .1 .1 .1 .0)
+    (c .take-word .result) (c .take-word .ensures)
+
+few : (c : tie.After-take-word Inv-loop μ-loop) → head (popped c) .loop .looks + c .take-word .result ≤ 67125248
+few c =
+    let P = popped c in
+    let b = begun (head P) in
+    let a = start-of b .args in
+    let l = head P .loop in
+    word-looks-few (a .owners .now) (a .offsets .now) (a .targets .now) (a .alpha) (a .within) (a .set)
+    (b .begin-layers .last .0) (given b) (l .this) (l .next) (l .far) (l .looks) (l .work) (l .inv .going)
+    (sized b .set-words .result) (size (head P)) (P .before .before .if1 .taken) (P .pop-word .result .at)
+    (P .pop-word .result .word) (P .pop-word .last .0) (P .pop-word .ensures) (c .take-word .last .1 .1 .1 .1 .1 .0)
+    (c .take-word .result) (c .take-word .ensures)
 
 set-words-requires : tie.Need-set-words-requires Inv-loop μ-loop
 set-words-requires c κs = search needs
@@ -303,8 +236,8 @@ mul-if1 c = omega (arith, fits (c), size (c), long (c), start-of (begun (c)) .go
 slice-read-if1 : tie.Need-slice-read-if1 Inv-loop μ-loop
 slice-read-if1 c = omega (arith, fits (c .before), size (c .before), long (c .before), start-of (begun (c .before)) .good)
 
-add-pop : tie.Need-add-pop Inv-loop μ-loop
-add-pop c = omega (
+add-pop-word : tie.Need-add-pop-word Inv-loop μ-loop
+add-pop-word c = omega (
   arith,
   fits (c .before .before),
   size (c .before .before),
@@ -313,8 +246,8 @@ add-pop c = omega (
       (c .before .before)) .good,
 )
 
-add-pop-2 : tie.Need-add-pop-2 Inv-loop μ-loop
-add-pop-2 c = omega (
+add-pop-word-2 : tie.Need-add-pop-word-2 Inv-loop μ-loop
+add-pop-word-2 c = omega (
   arith,
   fits (c .before .before),
   size (c .before .before),
@@ -323,8 +256,8 @@ add-pop-2 c = omega (
       (c .before .before)) .good,
 )
 
-mul-pop : tie.Need-mul-pop Inv-loop μ-loop
-mul-pop c = omega (
+mul-pop-word : tie.Need-mul-pop-word Inv-loop μ-loop
+mul-pop-word c = omega (
   arith,
   fits (c .before .before),
   size (c .before .before),
@@ -333,8 +266,8 @@ mul-pop c = omega (
       (c .before .before)) .good,
 )
 
-sub-pop : tie.Need-sub-pop Inv-loop μ-loop
-sub-pop c = omega (
+sub-pop-word : tie.Need-sub-pop-word Inv-loop μ-loop
+sub-pop-word c = omega (
   arith,
   fits (c .before .before),
   size (c .before .before),
@@ -343,8 +276,8 @@ sub-pop c = omega (
       (c .before .before)) .good,
 )
 
-part-pop-start : tie.Need-part-pop-start Inv-loop μ-loop
-part-pop-start c = omega (
+part-pop-word-start : tie.Need-part-pop-word-start Inv-loop μ-loop
+part-pop-word-start c = omega (
   arith,
   fits (c .before .before),
   size (c .before .before),
@@ -353,8 +286,8 @@ part-pop-start c = omega (
       (c .before .before)) .good,
 )
 
-part-pop-end : tie.Need-part-pop-end Inv-loop μ-loop
-part-pop-end c = omega (
+part-pop-word-end : tie.Need-part-pop-word-end Inv-loop μ-loop
+part-pop-word-end c = omega (
   arith,
   fits (c .before .before),
   size (c .before .before),
@@ -363,8 +296,8 @@ part-pop-end c = omega (
       (c .before .before)) .good,
 )
 
-pop-requires : tie.Need-pop-requires Inv-loop μ-loop
-pop-requires c κs =
+pop-word-requires : tie.Need-pop-word-requires Inv-loop μ-loop
+pop-word-requires c κs =
     let d = c .before .before .before in
     let b = begun d in
     let a = start-of b .args in
@@ -373,56 +306,19 @@ pop-requires c κs =
     (b .begin-layers .last .0) (given b) (l .this) (l .next) (l .far) (l .looks) (l .work) (l .inv .going)
     (sized b .set-words .result) (size d) (c .before .if1 .taken)
 
-add-looks : tie.Need-add-looks Inv-loop μ-loop
-add-looks c = omega (
-  arith,
-  starts (c .before .before),
-  kept (c .before .before),
-  same (begun (head (c .before .before))) .long,
-  start-of (begun (head (c .before .before))) .good,
-)
-
-mul-looks : tie.Need-mul-looks Inv-loop μ-loop
-mul-looks c = omega (
-  arith,
-  starts (c .before .before),
-  kept (c .before .before),
-  same (begun (head (c .before .before))) .long,
-  start-of (begun (head (c .before .before))) .good,
-)
-
-slice-read-looks : tie.Need-slice-read-looks Inv-loop μ-loop
-slice-read-looks c = starts (c .before .before .before)
-
-mul-looks-2 : tie.Need-mul-looks-2 Inv-loop μ-loop
-mul-looks-2 c = omega (
-  arith,
-  starts (c .before .before .before),
-  kept (c .before .before .before),
-  same (begun (head
-      (c .before .before .before))) .long,
-  start-of (begun (head (c .before .before .before))) .good,
-)
-
-slice-read-looks-2 : tie.Need-slice-read-looks-2 Inv-loop μ-loop
-slice-read-looks-2 c = omega (arith, starts (c .before .before .before .before))
-
-sub-looks : tie.Need-sub-looks Inv-loop μ-loop
-sub-looks c = rises (c .before .before .before .before)
-
-add-looks-2 : tie.Need-add-looks-2 Inv-loop μ-loop
-add-looks-2 c = omega (arith, few (c .before .before .before .before))
-
-take-requires : tie.Need-take-requires Inv-loop μ-loop
-take-requires c κs =
-    let P = c .before .before .before .before .before in
+take-word-requires : tie.Need-take-word-requires Inv-loop μ-loop
+take-word-requires c κs =
+    let P = c .before .before .before in
     let b = begun (head P) in
     let a = start-of b .args in
     let l = head P .loop in
-    take-ready (a .owners .now) (a .offsets .now) (a .targets .now) (a .alpha) (a .within) (a .set)
+    take-word-ready (a .owners .now) (a .offsets .now) (a .targets .now) (a .alpha) (a .within) (a .set)
     (b .begin-layers .last .0) (given b) (l .this) (l .next) (l .far) (l .looks) (l .work) (l .inv .going)
-    (sized b .set-words .result) (size (head P)) (P .before .before .if1 .taken) (P .pop .result) (P .pop .last .0)
-    (P .pop .ensures)
+    (sized b .set-words .result) (size (head P)) (P .before .before .if1 .taken) (P .pop-word .result .at)
+    (P .pop-word .result .word) (P .pop-word .last .0) (P .pop-word .ensures)
+
+add-looks : tie.Need-add-looks Inv-loop μ-loop
+add-looks c = omega (arith, few (c .before .before))
 
 add-if2 : tie.Need-add-if2 Inv-loop μ-loop
 add-if2 c =
@@ -468,9 +364,9 @@ loop-less c =
     ap (count n)
     (turned (a .owners .now) (a .offsets .now) (a .targets .now) (a .alpha) (a .within) (a .set) (b .begin-layers .last .0)
     (given b) (l .this) (l .next) (l .far)
-    _ (e .take .last .1 .1 .1 .1 .1 .0) (going e)
-    (ap (λ (k : ℕ). getD (e .take .last .1 .1 .1 .1 .1 .0) (l .this + k) 0) (sym (size (head P))) ∙ c .if2 .taken)) in
-    omega (arith, grows e, count-le n (takenAt n (a .set) (l .this) (l .next) (e .take .last .1 .1 .1 .1 .1 .0)))
+    _ (e .take-word .last .1 .1 .1 .1 .1 .0) (going e)
+    (ap (λ (k : ℕ). getD (e .take-word .last .1 .1 .1 .1 .1 .0) (l .this + k) 0) (sym (size (head P))) ∙ c .if2 .taken)) in
+    omega (arith, grows e, count-le n (takenAt n (a .set) (l .this) (l .next) (e .take-word .last .1 .1 .1 .1 .1 .0)))
 
 loop-again : tie.Need-loop-again Inv-loop μ-loop
 loop-again c =
@@ -481,8 +377,8 @@ loop-again c =
     let l = head P .loop in
     running-turn (a .owners .now) (a .offsets .now) (a .targets .now) (a .alpha) (a .within) (a .set) (b .begin-layers .last .0)
     (given b) (l .this) (l .next)
-    (l .far) _ (e .take .last .1 .1 .1 .1 .1 .0) (going e) (omega (arith, grows e, l .inv .deep))
-    (ap (λ (k : ℕ). getD (e .take .last .1 .1 .1 .1 .1 .0) (l .this + k) 0) (sym (size (head P))) ∙ c .if2 .taken)
+    (l .far) _ (e .take-word .last .1 .1 .1 .1 .1 .0) (going e) (omega (arith, grows e, l .inv .deep))
+    (ap (λ (k : ℕ). getD (e .take-word .last .1 .1 .1 .1 .1 .0) (l .this + k) 0) (sym (size (head P))) ∙ c .if2 .taken)
 
 loop-less-2 : tie.Need-loop-less-2 Inv-loop μ-loop
 loop-less-2 c =
@@ -495,7 +391,7 @@ loop-less-2 c =
       arith,
       grows e,
       count-le (length (a .owners .now)) (takenAt (length (a .owners .now))
-          (a .set) (l .this) (l .next) (e .take .last .1 .1 .1 .1 .1 .0)),
+          (a .set) (l .this) (l .next) (e .take-word .last .1 .1 .1 .1 .1 .0)),
     )
 
 loop-again-2 : tie.Need-loop-again-2 Inv-loop μ-loop
@@ -507,8 +403,8 @@ loop-again-2 c =
     let l = head P .loop in
     running-on (a .owners .now) (a .offsets .now) (a .targets .now) (a .alpha) (a .within) (a .set) (b .begin-layers .last .0)
     (given b) (l .this) (l .next)
-    (l .far) _ (e .take .last .1 .1 .1 .1 .1 .0) (going e) (omega (arith, grows e, l .inv .deep))
-    (λ z. c .if2 .left (ap (λ (k : ℕ). getD (e .take .last .1 .1 .1 .1 .1 .0) (l .this + k) 0) (size (head P)) ∙ z))
+    (l .far) _ (e .take-word .last .1 .1 .1 .1 .1 .0) (going e) (omega (arith, grows e, l .inv .deep))
+    (λ z. c .if2 .left (ap (λ (k : ℕ). getD (e .take-word .last .1 .1 .1 .1 .1 .0) (l .this + k) 0) (size (head P)) ∙ z))
 
 same-length : tie.Need-same-length Inv-loop μ-loop
 same-length c = long (c .before .before)
@@ -553,21 +449,15 @@ attract-spec =
     add-if1
     mul-if1
     slice-read-if1
-    add-pop
-    add-pop-2
-    mul-pop
-    sub-pop
-    part-pop-start
-    part-pop-end
-    pop-requires
+    add-pop-word
+    add-pop-word-2
+    mul-pop-word
+    sub-pop-word
+    part-pop-word-start
+    part-pop-word-end
+    pop-word-requires
+    take-word-requires
     add-looks
-    mul-looks
-    slice-read-looks
-    mul-looks-2
-    slice-read-looks-2
-    sub-looks
-    add-looks-2
-    take-requires
     add-if2
     mul-if2
     slice-read-if2
