@@ -1,4 +1,4 @@
--- The layers at first: the target stands in the first one, marked, and the second is empty.
+-- The layers at first: the target stands in the first one, marked, and the second is empty, as are the words of those met.
 use mathlib.Core.Bool.{false}
 use mathlib.Core.List.{List, _++_}
 use mathlib.Core.Logic.{inl, inr, ⊎-elim}
@@ -19,10 +19,10 @@ use Rattle.layer.specs.Layer.{Lent, Layer, Marked, inLayer, room, marks}
 use Rattle.layer.specs.Laws.{layer-past, layer-bit, zeros-layer, unmarked-empty}
 use Rattle.attractor_step.specs.Views.{Changes, back-changes}
 
--- what `begin_layers` asks for: room for two layers before the set
+-- what `begin_layers` asks for: room for two layers and those met before the set
 pub record Beginnable (first set s : ℕ) (work : List ℕ) : Type 0 where
   pub few : s ≤ 64
-  pub before-set : first + 2 * (s + 1) ≤ set
+  pub before-set : first + 2 * (s + 1) + s ≤ set
   pub high : set + s ≤ length work
 
 -- s words and one more
@@ -32,11 +32,12 @@ layerOf s base work = take (s + 1) (drop base work)
 -- what it leaves
 pub record Begun (first set s : ℕ) (before after : List ℕ) : Type 0 where
   pub long : length after ≡ length before
-  pub rest : (i : ℕ) → Beside (2 * (s + 1)) first i → getD after i 0 ≡ getD before i 0
+  pub rest : (i : ℕ) → Beside (2 * (s + 1) + s) first i → getD after i 0 ≡ getD before i 0
   pub layer : Layer (layerOf s first after)
   pub is : inLayer (layerOf s first after) ≡ setOf (take s (drop set before))
   pub next-layer : Layer (layerOf s (first + s + 1) after)
   pub next-none : (u : ℕ) → inLayer (layerOf s (first + s + 1) after) u ≡ false
+  pub unmet : (i : ℕ) → first + 2 * (s + 1) ≤ i → i < first + 2 * (s + 1) + s → getD after i 0 ≡ 0
 
 -- a word of a part
 part-word : (k base i : ℕ) (work : List ℕ) → i < k → getD (take k (drop base work)) i 0 ≡ getD work (base + i) 0
@@ -89,10 +90,10 @@ module _ (first set s : ℕ) (work : List ℕ) (given : Beginnable first set s w
       marked-layer : layerOf s first marked ≡ ys
       marked-layer = ap (λ (l : List ℕ). layerOf s first l) is-back ∙ back-part first (s + 1) copied ys fits ys-long
 
-      pub clear-ready : first + s + 1 + (s + 1) ≤ length marked
+      pub clear-ready : first + s + 1 + (s + 1 + s) ≤ length marked
       clear-ready = omega (arith, marked-changes .long, copy .long, given .before-set, given .high)
 
-      module _ (after : List ℕ) (clear : Cleared (first + s + 1) (s + 1) marked after) where
+      module _ (after : List ℕ) (clear : Cleared (first + s + 1) (s + 1 + s) marked after) where
         first-layer : layerOf s first after ≡ ys
         first-layer =
             slice-alike (s + 1) first marked after (clear .long) (λ i l. clear .rest (first + i) (inl (omega arith))) ∙
@@ -151,4 +152,5 @@ module _ (first set s : ℕ) (work : List ℕ) (given : Beginnable first set s w
               next-none =
                   unmarked-empty (layerOf s (first + s + 1) after) second-layer
                   (second-zero (room (layerOf s (first + s + 1) after)) (omega (arith, second-long)));
+              unmet = λ i low high. clear .zeros i (omega arith) (omega arith);
             }

@@ -13,7 +13,6 @@ use Rattle.rules.specs.Attractor.{atFirst, Takes, stop}
 use Rattle.rules.specs.Words.{setOf}
 use Rattle.basics.specs.Basics.{bool-cases, clash}
 use Rattle.basics.specs.Sums.{countOf}
-use Rattle.sets.specs.After.{Cleared}
 use Rattle.area.specs.Area.{entries, layers, layerWords, metAt, free, setAt}
 use Rattle.area.specs.Lent.{set-alike, words-few}
 use Rattle.area.specs.SetsAt.{set-zeros}
@@ -42,187 +41,177 @@ module _ (owners offsets targets : List ℕ) (alpha within set s : ℕ) (work : 
     abbrev own : Set
     own = ownBy owners alpha
 
-    pub clear-ready : layers (length owners) (length targets) + 2 * (s + 1) + s ≤ length work
-    clear-ready = omega (arith, size, given .placed .set-low, given .placed .set-high)
+    pub begin-ready : Beginnable (layers n m) set s work
+    begin-ready =
+        record {
+          few = rw size (words-few n (given .edges .few-vertices));
+          before-set = omega (arith, size, given .placed .set-low);
+          high = omega (arith, size, given .placed .set-high);
+        }
 
-    module _ (between : List ℕ) (cleared' : Cleared (layers n m + 2 * (s + 1)) s work between) where
-      cleared : Cleared (metAt n m) (words n) work between
-      cleared = subst (λ (k : ℕ). Cleared (layers n m + 2 * (k + 1)) k work between) size cleared'
+    module _ (after : List ℕ) (begun' : Begun (layers n m) set s work after) where
+      begun : Begun (layers n m) set (words n) work after
+      begun = subst (λ (k : ℕ). Begun (layers n m) set k work after) size begun'
 
-      pub begin-ready : Beginnable (layers n m) set s between
-      begin-ready =
+      abbrev second : ℕ
+      second = layers n m + words n + 1
+
+      -- what stands before the layers and in the free part is as it was
+      same : (i : ℕ) → (i < layers n m) ⊎ (free n m ≤ i) → getD after i 0 ≡ getD work i 0
+      same i (inl l) = begun .rest i (inl l)
+      same i (inr l) = begun .rest i (inr (omega arith))
+
+      all-long : length after ≡ length work
+      all-long = begun .long
+
+      abbrev V' : Set
+      V' = setAt n within after
+
+      abbrev T : Set
+      T = setAt n set after
+
+      abbrev state : State
+      state = stateAt (insideCount offsets targets V') n m set second after
+
+      -- V, the target, the entries and all that is to stay are as they were
+      inside-same : V' ≡ setAt n within work
+      inside-same =
+          set-alike n within work after all-long
+          (λ i l. same (within + i) (inr (omega (arith, given .placed .within-low))))
+
+      target-same : T ≡ setAt n set work
+      target-same =
+          set-alike n set work after all-long
+          (λ i l. same (set + i) (inr (omega (arith, given .placed .set-low))))
+
+      pub started-same : Same n m within set work after
+      started-same =
           record {
-            few = rw size (words-few n (given .edges .few-vertices));
-            before-set = omega (arith, size, given .placed .set-low);
-            high = omega (arith, size, cleared .long, given .placed .set-high);
+            long = all-long;
+            inside = inside-same;
+            target = target-same;
+            entry = λ v l. same (entries n m + v) (inl (omega arith));
+            table = λ i l. same i (inl (omega arith));
+            rest = λ i l. same i (inr l);
           }
 
-      module _ (after : List ℕ) (begun' : Begun (layers n m) set s between after) where
-        begun : Begun (layers n m) set (words n) between after
-        begun = subst (λ (k : ℕ). Begun (layers n m) set k between after) size begun'
+      -- what is asked for holds where the loop begins
+      pub started-given : Attractable owners offsets targets alpha within set after
+      started-given =
+          record {
+            placed =
+                record {
+                  within-low = given .placed .within-low;
+                  within-high = omega (arith, all-long, given .placed .within-high);
+                  set-low = given .placed .set-low;
+                  set-high = omega (arith, all-long, given .placed .set-high);
+                  apart = given .placed .apart;
+                };
+            nested =
+                record {
+                  below = λ v p. given .nested .below v (ap (λ (S : Set). S v) (sym inside-same) ∙ p);
+                  part =
+                      λ v p.
+                      ap (λ (S : Set). S v) inside-same ∙ given .nested .part v (ap (λ (S : Set). S v) (sym target-same) ∙ p);
+                };
+            edges = given .edges;
+            listed = listed-kept n offsets targets work after all-long (λ i l. same i (inl (omega arith))) (given .listed);
+            side = given .side;
+          }
 
-        abbrev second : ℕ
-        second = layers n m + words n + 1
+      now-is : nowAt n (layers n m) after ≡ T
+      now-is =
+          begun .is ∙ sym target-same
 
-        -- what stands before the layers and in the free part is as it was
-        same : (i : ℕ) → (i < layers n m) ⊎ (free n m ≤ i) → getD after i 0 ≡ getD work i 0
-        same i (inl l) = begun .rest i (inl l) ∙ cleared .rest i (inl (omega arith))
-        same i (inr l) = begun .rest i (inr (omega arith)) ∙ cleared .rest i (inr l)
+      none : (u : ℕ) → state .next u ≡ false
+      none u = begun .next-none u
 
-        all-long : length after ≡ length work
-        all-long = begun .long ∙ cleared .long
+      untaken : takenAt n set (layers n m) second after ≡ (λ u. false)
+      untaken =
+          fun-ext
+          (λ u.
+          ap (λ (d : Bool). T u && not (d || state .next u)) (ap (λ (S : Set). S u) now-is) ∙
+          neither-way (T u) (state .next u))
+        where
+          neither-way : (b d : Bool) → (b && not (b || d)) ≡ false
+          neither-way true d = refl
+          neither-way false d = refl
 
-        abbrev V' : Set
-        V' = setAt n within after
+      none-met : (u : ℕ) → setAt n (metAt n m) after u ≡ false
+      none-met =
+          set-zeros n (metAt n m) after
+          (λ i low high. begun .unmet i (omega arith) (omega arith))
 
-        abbrev T : Set
-        T = setAt n set after
+      counter-at : (u : ℕ) → V' u ≡ true → state .counter u ≡ countOf (targetsOf offsets targets u) V'
+      counter-at u i =
+          counter-new (insideCount offsets targets V') n m after u (started-given .nested .below u i) (none-met u)
 
-        abbrev state : State
-        state = stateAt (insideCount offsets targets V') n m set second after
+      mark-first :
+          (u : ℕ) →
+          Mark (V' u) (T u) (own u) (countOf (targetsOf offsets targets u) V') (state .members u) (state .counter u)
+          (countOf (targetsOf offsets targets u) (λ v. false))
+      mark-first u =
+          let unseen = tally-nobody (targetsOf offsets targets u) in
+          record {
+            member-inside = λ p. started-given .nested .part u p;
+            target-in = λ p. p;
+            own-out = λ i o p. unseen;
+            other-out = λ i o p. let h = counter-at u i in omega arith;
+            waiting = λ i o p q. absurd (omega arith);
+            in-met = λ p t. absurd (clash p t);
+            other-in = λ p t o. absurd (clash p t);
+          }
 
-        -- V, the target, the entries and all that is to stay are as they were
-        inside-same : V' ≡ setAt n within work
-        inside-same =
-            set-alike n within work after all-long
-            (λ i l. same (within + i) (inr (omega (arith, given .placed .within-low))))
+      first-stands : Standing n (targetsOf offsets targets) V' T own (λ u. false) state
+      first-stands = record { marks = mark-first; early = λ u p. absurd (clash p refl) }
 
-        target-same : T ≡ setAt n set work
-        target-same =
-            set-alike n set work after all-long
-            (λ i l. same (set + i) (inr (omega (arith, given .placed .set-low))))
+      begins : Running owners offsets targets alpha within set after (layers n m) second 1 0 after
+      unfolding atFirst gameOf
+      begins =
+          record {
+            going =
+                record {
+                  long = refl;
+                  table = λ i l. refl;
+                  rest = λ i l o. refl;
+                  sides = inl (refl, second-is);
+                  layer = begun .layer;
+                  next-layer = begun .next-layer;
+                  parts =
+                      record {
+                        inside = λ u p. ap (λ (S : Set). S u) (sym now-is) ∙ p;
+                        found = λ u p. absurd (clash p (none u));
+                        apart = λ u p. none u;
+                      };
+                  stands =
+                      subst (λ (S : Set). Standing n (targetsOf offsets targets) V' T own S state) (sym untaken) first-stands;
+                  few = zero-le;
+                  far-some = omega arith;
+                  run =
+                      λ priorities ok.
+                      let g = gameOf (tablesOf owners priorities offsets targets) in
+                      let a = playerOf alpha in (
+                        subst
+                            (λ (X : Set). Takes g a V' (atFirst T) (growing X 0 state))
+                            (sym untaken)
+                            stop,
+                        subst
+                            (λ (N : Set). Layered g a V' T own (cells n (entries n m) after) 0 N state)
+                            (sym now-is)
+                            (layered-first g a V' T own
+                            (fits owners offsets targets alpha within set after started-given priorities ok)
+                            (cells n (entries n m) after) state refl none refl),
+                      );
+                };
+            deep = omega arith;
+            last = λ e u. none u;
+          }
+        where
+          second-is : second ≡ layers n m + layerWords n
+          second-is = omega arith
 
-        pub started-same : Same n m within set work after
-        started-same =
-            record {
-              long = all-long;
-              inside = inside-same;
-              target = target-same;
-              entry = λ v l. same (entries n m + v) (inl (omega arith));
-              table = λ i l. same i (inl (omega arith));
-              rest = λ i l. same i (inr l);
-            }
-
-        -- what is asked for holds where the loop begins
-        pub started-given : Attractable owners offsets targets alpha within set after
-        started-given =
-            record {
-              placed =
-                  record {
-                    within-low = given .placed .within-low;
-                    within-high = omega (arith, all-long, given .placed .within-high);
-                    set-low = given .placed .set-low;
-                    set-high = omega (arith, all-long, given .placed .set-high);
-                    apart = given .placed .apart;
-                  };
-              nested =
-                  record {
-                    below = λ v p. given .nested .below v (ap (λ (S : Set). S v) (sym inside-same) ∙ p);
-                    part =
-                        λ v p.
-                        ap (λ (S : Set). S v) inside-same ∙ given .nested .part v (ap (λ (S : Set). S v) (sym target-same) ∙ p);
-                  };
-              edges = given .edges;
-              listed = listed-kept n offsets targets work after all-long (λ i l. same i (inl (omega arith))) (given .listed);
-              side = given .side;
-            }
-
-        now-is : nowAt n (layers n m) after ≡ T
-        now-is =
-            begun .is ∙
-            set-alike n set work between (cleared .long)
-            (λ i l. cleared .rest (set + i) (inr (omega (arith, given .placed .set-low)))) ∙
-            sym target-same
-
-        none : (u : ℕ) → state .next u ≡ false
-        none u = begun .next-none u
-
-        untaken : takenAt n set (layers n m) second after ≡ (λ u. false)
-        untaken =
-            fun-ext
-            (λ u.
-            ap (λ (d : Bool). T u && not (d || state .next u)) (ap (λ (S : Set). S u) now-is) ∙
-            neither-way (T u) (state .next u))
-          where
-            neither-way : (b d : Bool) → (b && not (b || d)) ≡ false
-            neither-way true d = refl
-            neither-way false d = refl
-
-        none-met : (u : ℕ) → setAt n (metAt n m) after u ≡ false
-        none-met =
-            set-zeros n (metAt n m) after
-            (λ i low high. begun .rest i (inr (omega arith)) ∙ cleared .zeros i (omega arith) (omega arith))
-
-        counter-at : (u : ℕ) → V' u ≡ true → state .counter u ≡ countOf (targetsOf offsets targets u) V'
-        counter-at u i =
-            counter-new (insideCount offsets targets V') n m after u (started-given .nested .below u i) (none-met u)
-
-        mark-first :
-            (u : ℕ) →
-            Mark (V' u) (T u) (own u) (countOf (targetsOf offsets targets u) V') (state .members u) (state .counter u)
-            (countOf (targetsOf offsets targets u) (λ v. false))
-        mark-first u =
-            let unseen = tally-nobody (targetsOf offsets targets u) in
-            record {
-              member-inside = λ p. started-given .nested .part u p;
-              target-in = λ p. p;
-              own-out = λ i o p. unseen;
-              other-out = λ i o p. let h = counter-at u i in omega arith;
-              waiting = λ i o p q. absurd (omega arith);
-              in-met = λ p t. absurd (clash p t);
-              other-in = λ p t o. absurd (clash p t);
-            }
-
-        first-stands : Standing n (targetsOf offsets targets) V' T own (λ u. false) state
-        first-stands = record { marks = mark-first; early = λ u p. absurd (clash p refl) }
-
-        begins : Running owners offsets targets alpha within set after (layers n m) second 1 0 after
-        unfolding atFirst gameOf
-        begins =
-            record {
-              going =
-                  record {
-                    long = refl;
-                    table = λ i l. refl;
-                    rest = λ i l o. refl;
-                    sides = inl (refl, second-is);
-                    layer = begun .layer;
-                    next-layer = begun .next-layer;
-                    parts =
-                        record {
-                          inside = λ u p. ap (λ (S : Set). S u) (sym now-is) ∙ p;
-                          found = λ u p. absurd (clash p (none u));
-                          apart = λ u p. none u;
-                        };
-                    stands =
-                        subst (λ (S : Set). Standing n (targetsOf offsets targets) V' T own S state) (sym untaken) first-stands;
-                    few = zero-le;
-                    far-some = omega arith;
-                    run =
-                        λ priorities ok.
-                        let g = gameOf (tablesOf owners priorities offsets targets) in
-                        let a = playerOf alpha in (
-                          subst
-                              (λ (X : Set). Takes g a V' (atFirst T) (growing X 0 state))
-                              (sym untaken)
-                              stop,
-                          subst
-                              (λ (N : Set). Layered g a V' T own (cells n (entries n m) after) 0 N state)
-                              (sym now-is)
-                              (layered-first g a V' T own
-                              (fits owners offsets targets alpha within set after started-given priorities ok)
-                              (cells n (entries n m) after) state refl none refl),
-                        );
-                  };
-              deep = omega arith;
-              last = λ e u. none u;
-            }
-          where
-            second-is : second ≡ layers n m + layerWords n
-            second-is = omega arith
-
-        -- **the loop begins**
-        pub started : Running owners offsets targets alpha within set after (layers n m) (layers n m + s + 1) 1 0 after
-        started =
-            subst (λ (k : ℕ). Running owners offsets targets alpha within set after (layers n m) (layers n m + k + 1) 1 0 after)
-            (sym size) begins
+      -- **the loop begins**
+      pub started : Running owners offsets targets alpha within set after (layers n m) (layers n m + s + 1) 1 0 after
+      started =
+          subst (λ (k : ℕ). Running owners offsets targets alpha within set after (layers n m) (layers n m + k + 1) 1 0 after)
+          (sym size) begins

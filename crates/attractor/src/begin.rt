@@ -1,4 +1,5 @@
-// The layers at first: the target is the one that is taken first, and none is found yet.
+// The layers at first: the target is the one that is taken first, none is found yet, and no vertex was met. Those met
+// stand behind the layers, so that one pass clears both.
 use layer::marked::mark;
 ghost use Rattle.attractor.specs.Begun.{Beginnable, Begun};
 
@@ -8,5 +9,5 @@ pub fn begin_layers(work: &mut [u64], first: usize, set: usize, s: usize)
 {
     sets::copy_with(work, first, set, s);
     mark(&mut work[first..first + s + 1]);
-    sets::clear(work, first + s + 1, s + 1);
+    sets::clear(work, first + s + 1, s + 1 + s);
 }

@@ -29,7 +29,6 @@ pub fn attract(
     let m = targets.len();
     let s = parity_game::set_words(n);
     let first = n + 1 + m + n + n + n;
-    sets::clear(work, first + 2 * (s + 1), s);
     begin_layers(work, first, set, s);
     let mut this = first;
     let mut next = first + s + 1;

@@ -45,6 +45,9 @@ add-clear-2 c = search needs
 add-clear-3 : tie.Need-add-clear-3
 add-clear-3 c = search needs
 
+add-clear-4 : tie.Need-add-clear-4
+add-clear-4 c = search needs
+
 clear-requires : tie.Need-clear-requires
 clear-requires c κs = search needs
 
@@ -77,6 +80,7 @@ begin-layers-spec =
     add-clear
     add-clear-2
     add-clear-3
+    add-clear-4
     clear-requires
     same-length
     returns)

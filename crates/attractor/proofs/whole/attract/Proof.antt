@@ -12,7 +12,7 @@ use Rattle.layer.specs.Laws.{unmarked-empty}
 use Rattle.attractor_step.specs.View.{layerAt}
 use Rattle.area.specs.Area.{layerWords}
 use Rattle.attractor.specs.Attracted.{Attractable}
-use Rattle.attractor.specs.Started.{clear-ready, begin-ready, started-same, started-given, started}
+use Rattle.attractor.specs.Started.{begin-ready, started-same, started-given, started}
 use Rattle.attractor.specs.Going.{Going, nowAt, takenAt}
 use Rattle.attractor.specs.Running.{Running, Same, marks-read, layer-fits, pop-ready}
 use Rattle.attractor.specs.Running.{take-word-ready, word-grows, word-looks-few, going-word, turned}
@@ -32,11 +32,8 @@ abbrev μ-loop : tie.MeasureT-loop
 abbrev at1 : tie.After-set-words Inv-loop μ-loop → tie.Start Inv-loop μ-loop
 at1 c = c .before .before .before .before .before
 
-abbrev cleared : tie.After-begin-layers Inv-loop μ-loop → tie.After-clear Inv-loop μ-loop
-cleared c = c .before .before .before .before
-
 abbrev sized : tie.After-begin-layers Inv-loop μ-loop → tie.After-set-words Inv-loop μ-loop
-sized c = cleared c .before .before
+sized c = c .before .before
 
 abbrev start-of : tie.After-begin-layers Inv-loop μ-loop → tie.Start Inv-loop μ-loop
 start-of c = at1 (sized c)
@@ -47,26 +44,24 @@ given :
     let a = start-of c .args in
     Attractable (a .owners .now) (a .offsets .now) (a .targets .now) (a .alpha) (a .within) (a .set) (c .begin-layers .last .0)
 given c =
-    let i = cleared c in
     let w = sized c in
     let g = at1 w in
     let a = g .args in
     started-given (a .owners .now) (a .offsets .now) (a .targets .now) (a .alpha) (a .within) (a .set) (w .set-words .result)
     (a .work .now)
-    (g .pre) (w .set-words .ensures) _ (i .clear .ensures) _ (c .begin-layers .ensures)
+    (g .pre) (w .set-words .ensures) _ (c .begin-layers .ensures)
 
 same :
     (c : tie.After-begin-layers Inv-loop μ-loop) →
     let a = start-of c .args in
     Same (length (a .owners .now)) (length (a .targets .now)) (a .within) (a .set) (a .work .now) (c .begin-layers .last .0)
 same c =
-    let i = cleared c in
     let w = sized c in
     let g = at1 w in
     let a = g .args in
     started-same (a .owners .now) (a .offsets .now) (a .targets .now) (a .alpha) (a .within) (a .set) (w .set-words .result)
     (a .work .now)
-    (g .pre) (w .set-words .ensures) _ (i .clear .ensures) _ (c .begin-layers .ensures)
+    (g .pre) (w .set-words .ensures) _ (c .begin-layers .ensures)
 
 abbrev begun : tie.At-loop Inv-loop μ-loop → tie.After-begin-layers Inv-loop μ-loop
 begun c = c .before .before .before
@@ -166,31 +161,14 @@ add-first-4 c = search needs
 add-first-5 : tie.Need-add-first-5 Inv-loop μ-loop
 add-first-5 c = search needs
 
-add-clear : tie.Need-add-clear Inv-loop μ-loop
-add-clear c = search needs
-
-mul-clear : tie.Need-mul-clear Inv-loop μ-loop
-mul-clear c = search needs
-
-add-clear-2 : tie.Need-add-clear-2 Inv-loop μ-loop
-add-clear-2 c = search needs
-
-clear-requires : tie.Need-clear-requires Inv-loop μ-loop
-clear-requires c κs =
-    let g = at1 (c .before) in
-    let a = g .args in
-    clear-ready (a .owners .now) (a .offsets .now) (a .targets .now) (a .alpha) (a .within) (a .set)
-    (c .before .set-words .result) (a .work .now) (g .pre) (c .before .set-words .ensures)
-
 begin-layers-requires : tie.Need-begin-layers-requires Inv-loop μ-loop
 begin-layers-requires c κs =
-    let i = c .before .before .before in
-    let w = i .before .before in
+    let w = c .before in
     let g = at1 w in
     let a = g .args in
     begin-ready (a .owners .now) (a .offsets .now) (a .targets .now) (a .alpha) (a .within) (a .set) (w .set-words .result)
     (a .work .now)
-    (g .pre) (w .set-words .ensures) _ (i .clear .ensures)
+    (g .pre) (w .set-words .ensures)
 
 add-next : tie.Need-add-next Inv-loop μ-loop
 add-next c =
@@ -219,13 +197,12 @@ add-next-2 c =
 loop-holds : tie.Need-loop-holds Inv-loop μ-loop
 loop-holds c =
     let b = c .before .before in
-    let i = cleared b in
     let w = sized b in
     let g = at1 w in
     let a = g .args in
     started (a .owners .now) (a .offsets .now) (a .targets .now) (a .alpha) (a .within) (a .set) (w .set-words .result)
     (a .work .now)
-    (g .pre) (w .set-words .ensures) _ (i .clear .ensures) _ (b .begin-layers .ensures)
+    (g .pre) (w .set-words .ensures) _ (b .begin-layers .ensures)
 
 add-if1 : tie.Need-add-if1 Inv-loop μ-loop
 add-if1 c = omega (arith, fits (c), size (c), long (c), start-of (begun (c)) .good)
@@ -438,10 +415,6 @@ attract-spec =
     add-first-3
     add-first-4
     add-first-5
-    add-clear
-    mul-clear
-    add-clear-2
-    clear-requires
     begin-layers-requires
     add-next
     add-next-2
