@@ -1,8 +1,8 @@
--- R closes: an own vertex of R that has no entry takes its lowest-numbered successor in R. Only entries change.
+-- R closes: an own head of R that has no entry takes its lowest-numbered successor in R. Only entries change.
 use mathlib.Core.Bool.{true}
 use mathlib.Core.List.{List}
 use mathlib.Core.Logic.{inr}
-use mathlib.Core.Path.{_≡_, refl, sym, ap, subst, _∙_}
+use mathlib.Core.Path.{_≡_, refl, ap, subst, _∙_}
 use Prim.Native.Nat.{ℕ, _+_, _-_, _≤_, _<_}
 use native.Mathlib.Omega.{arith}
 use lib.ListN.{length, getD, take, drop, set}
@@ -23,13 +23,14 @@ pub record Fills (owners offsets targets : List ℕ) (alpha : ℕ) (S : Set) (u 
   pub filled : getD owners u 0 ≡ alpha → old ≡ noEntry → new ≡ lowest (length owners) (endIn offsets targets u S)
 
 -- what the walk asks for
-pub record FillAll (owners offsets targets : List ℕ) (s held entries : ℕ) (work : List ℕ) : Type 0 where
+pub record FillAll (owners offsets targets : List ℕ) (s heads held entries : ℕ) (work : List ℕ) : Type 0 where
   pub size : s ≡ words (length owners)
   pub few : length owners ≤ 4096
   pub edges : SoundEdges (length owners) offsets targets
   pub order : entries + length owners ≤ held
-  pub high : held + words (length owners) ≤ length work
-  pub below : (v : ℕ) → setAt (length owners) held work v ≡ true → v < length owners
+  pub behind : held ≤ heads
+  pub high : heads + words (length owners) ≤ length work
+  pub below : (v : ℕ) → setAt (length owners) heads work v ≡ true → v < length owners
 
 -- and one turn of it
 pub record Fillable (owners offsets targets : List ℕ) (s held entries v : ℕ) (work : List ℕ) : Type 0 where
@@ -44,9 +45,9 @@ Filled owners offsets targets alpha held entries v before after =
     Turn (length owners) (Beside (length owners) entries) Always (wordOf entries)
     (Fills owners offsets targets alpha (setAt (length owners) held before)) v before after
 
-abbrev pub FilledAll : List ℕ → List ℕ → List ℕ → ℕ → ℕ → ℕ → List ℕ → List ℕ → Type 0
-FilledAll owners offsets targets alpha held entries before after =
-    Walked (length owners) held (Beside (length owners) entries) Always (wordOf entries)
+abbrev pub FilledAll : List ℕ → List ℕ → List ℕ → ℕ → ℕ → ℕ → ℕ → List ℕ → List ℕ → Type 0
+FilledAll owners offsets targets alpha heads held entries before after =
+    Walked (length owners) heads (Beside (length owners) entries) Always (wordOf entries)
     (Fills owners offsets targets alpha (setAt (length owners) held before)) before after
 
 module _ {owners offsets targets : List ℕ} {s held entries v : ℕ} {work : List ℕ}
@@ -87,17 +88,17 @@ module _ {owners offsets targets : List ℕ} {s held entries v : ℕ} {work : Li
 
 -- ---- the walk
 
-module _ {owners offsets targets : List ℕ} {s held entries : ℕ} {work : List ℕ}
-    (given : FillAll owners offsets targets s held entries work)
+module _ {owners offsets targets : List ℕ} {s heads held entries : ℕ} {work : List ℕ}
+    (given : FillAll owners offsets targets s heads held entries work)
   where
-    pub fill-walkable : Walkable (length owners) s held (Beside (length owners) entries) work
+    pub fill-walkable : Walkable (length owners) s heads (Beside (length owners) entries) work
     fill-walkable =
         record {
           size = given .size;
           few = given .few;
           high = given .high;
           below = given .below;
-          out = λ i low high. inr (omega (arith, given .order));
+          out = λ i low high. inr (omega (arith, given .order, given .behind));
         }
 
     module _ {now : List ℕ} (keeps : Keeps (Beside (length owners) entries) Always work now) where
@@ -107,7 +108,7 @@ module _ {owners offsets targets : List ℕ} {s held entries : ℕ} {work : List
             size = given .size;
             edges = given .edges;
             order = given .order;
-            high = rw (keeps .long) (given .high);
+            high = rw (keeps .long) (omega (arith, given .behind, given .high));
             small = small;
           }
 

@@ -29,7 +29,7 @@ fn fill_entry(
     }
 }
 
-// Own vertices of R without an entry get one.
+// Own vertices of R without an entry get one: they are heads, of which R's stand at `heads`.
 pub fn assign_missing_strategies(
     owners: &[u8],
     offsets: &[u16],
@@ -37,17 +37,18 @@ pub fn assign_missing_strategies(
     alpha: u8,
     s: usize,
     work: &mut [u64],
+    heads: usize,
     held: usize,
     entries: usize,
 )
-    requires { ⌜ FillAll (now owners) (now offsets) (now targets) s held entries (now work) ⌝ }
+    requires { ⌜ FillAll (now owners) (now offsets) (now targets) s heads held entries (now work) ⌝ }
     ensures { λ r.
-        ⌜ FilledAll (now (owners .entry)) (now (offsets .entry)) (now (targets .entry)) alpha held entries
+        ⌜ FilledAll (now (owners .entry)) (now (offsets .entry)) (now (targets .entry)) alpha heads held entries
         (now (work .entry)) (now (work .exit)) ⌝ }
 {
-    let mut walk = Members::new(&work[held..held + s]);
+    let mut walk = Members::new(&work[heads..heads + s]);
     loop {
-        let next = walk.next(&work[held..held + s]);
+        let next = walk.next(&work[heads..heads + s]);
         let Next::Member(index, rest) = next else {
             return;
         };

@@ -1,31 +1,34 @@
 -- R is attracted within the current level, and leaves the level after it: R, the regions and the entries are then as a round of the
--- rules asks.
+-- rules asks. R's heads stand where the level after that would.
 use mathlib.Core.Bool.{Bool, true, false, _&&_, not, cond, and-false}
 use mathlib.Core.List.{List}
 use mathlib.Core.Logic.{_⊎_, inl, inr, ⊎-elim}
-use mathlib.Core.Path.{_≡_, refl, sym, ap, _∙_}
-use Prim.Native.Nat.{ℕ, suc, _+_, _*_, _%_, _≤_, _<_}
+use mathlib.Core.Path.{_≡_, refl, sym, ap, ap₂, subst, _∙_}
+use Prim.Native.Nat.{ℕ, suc, _+_, _%_, _≤_, _<_}
 use native.Mathlib.Nat.{le-refl}
 use native.Mathlib.Omega.{arith}
-use borrow.Author.Tests.{not-true}
+use borrow.Author.Tests.{not-true, lt-ltb}
+use lib.Dec.{eqb, ltb}
 use lib.ListN.{length, getD}
 use Rattle.rules.specs.Counting.{Set}
-use Rattle.rules.specs.Game.{Game, Even, Odd, parity}
+use Rattle.rules.specs.Game.{Game, Even, parity}
 use Rattle.rules.specs.Tables.{Tables, words, gameOf, Accepted, tablesOf}
 use Rattle.rules.specs.Words.{noEntry}
 use Rattle.rules.specs.Attractor.{attractor}
 use Rattle.rules.specs.Promotion.{unsolved}
 use Rattle.basics.specs.Basics.{bool-cases, clash, not-true-is-false, not-false-is-true, and-left, and-right, lt-or-ge}
-use Rattle.theory.specs.AttractorRank.{Certificate}
 use Rattle.theory.specs.PromotionBasics.{atRegion, upTo}
 use Rattle.theory.specs.PromotionEntries.{Attracts}
 use Rattle.sets.specs.Laws.{bit-other}
 use Rattle.area.specs.Area.{entries, free, setAt, wordsAt}
 use Rattle.area.specs.SetsAt.{set-kept}
 use Rattle.attractor.specs.Attracted.{Nested, Attractable, Attracted, listed-kept}
-use Rattle.promotion_levels.specs.Nesting.{regionOf, Nesting, inside-all, drawn-nests, drawn-region, drawn-proper}
-use Rattle.promotion_levels.specs.Layout.{heldAt, wonAt, depthAt, topsAt, deep, levelsAt, levelAt, endAt, depthIn, topIn, levelIn, heldIn, regionIn, entryIn, Ready}
-use Rattle.promotion_levels.specs.Places.{next-level, level-apart, level-high, level-kept, sets-kept, upTo-is, at-region-is}
+use Rattle.priority_sets.specs.Sorting.{SetsOf, Placeable, setOfPriority, set-room}
+use Rattle.priority_sets.specs.Meeting.{Meets, Met, met-set}
+use Rattle.promotion_levels.specs.Nesting.{regionOf, Nesting, inside-all, falls-all}
+use Rattle.promotion_levels.specs.Nesting.{drawn-nests, drawn-region, drawn-proper}
+use Rattle.promotion_levels.specs.Layout.{heldAt, wonAt, depthAt, topsAt, levelsAt, levelAt, endAt, depthIn, topIn, levelIn, heldIn, regionIn, entryIn, Ready}
+use Rattle.promotion_levels.specs.Places.{next-level, level-apart, level-kept, sets-kept, upTo-is, at-region-is}
 use Rattle.promotion_levels.specs.Pulled.{Pulled, pulled-as, attract-pulled}
 use Rattle.promotion_levels.specs.Without.{WithoutAt}
 
@@ -38,6 +41,8 @@ pub record QueryReady (owners offsets targets : List ℕ) (s p held base : ℕ) 
   pub held-is : held ≡ heldAt (length owners) (length targets) s
   pub base-is :
       base ≡ levelAt (length owners) (length targets) s (depthIn (length owners) (length targets) s work)
+  -- there is room for two levels more
+  pub room : base + s + s + s ≤ endAt (length owners) (length targets) s
 
 -- what it leaves: R is the attractor of region p, and has region p now
 pub record Queried (owners priorities offsets targets : List ℕ) (s p : ℕ) (before after : List ℕ) : Type 0 where
@@ -63,6 +68,12 @@ pub record Queried (owners priorities offsets targets : List ℕ) (s p : ℕ) (b
       let g = gameOf (tablesOf owners priorities offsets targets) in
       let T = regionIn n m s priorities before in
       Attracts g (unsolved g T) T p (heldIn n m s after) (entryIn n m s before) (entryIn n m s after)
+  -- R's heads, of priority p, stand two levels further on
+  pub heads :
+      (v : ℕ) →
+      setAt (length owners)
+      (levelAt (length owners) (length targets) s (suc (suc (depthIn (length owners) (length targets) s before)))) after v ≡
+      (heldIn (length owners) (length targets) s after v && eqb (getD priorities v 0) p)
   pub won :
       (i : ℕ) →
       wonAt (length owners) (length targets) s Even ≤ i →
@@ -73,6 +84,9 @@ pub record Queried (owners priorities offsets targets : List ℕ) (s p : ℕ) (b
 
 module _ (owners priorities : List ℕ) {offsets targets : List ℕ} (ok : Accepted (tablesOf owners priorities offsets targets))
     {s : ℕ} {w0 : List ℕ} (ready : Ready (length owners) priorities offsets targets s w0)
+    (z-end :
+    levelAt (length owners) (length targets) s (suc (suc (depthIn (length owners) (length targets) s w0))) + s ≤
+    endAt (length owners) (length targets) s)
   where
     abbrev n : ℕ
     n = length owners
@@ -92,15 +106,21 @@ module _ (owners priorities : List ℕ) {offsets targets : List ℕ} (ok : Accep
     abbrev p : ℕ
     p = topIn n m s w0 k
 
-    -- the current level, the level after it, and R
+    -- the current level, the level after it, R's heads, R, and the set of priority p
     abbrev X : ℕ
     X = levelAt n m s k
 
     abbrev Y : ℕ
     Y = levelAt n m s (suc k)
 
+    abbrev Z : ℕ
+    Z = levelAt n m s (suc (suc k))
+
     abbrev H : ℕ
     H = heldAt n m s
+
+    abbrev O : ℕ
+    O = setOfPriority (words n) (free n m) p
 
     abbrev L : ℕ → Set
     L = levelIn n m s w0
@@ -111,10 +131,20 @@ module _ (owners priorities : List ℕ) {offsets targets : List ℕ} (ok : Accep
     y-is : Y ≡ X + s
     y-is = next-level n m s k
 
+    z-is : Z ≡ X + s + s
+    z-is = next-level n m s (suc k) ∙ ap (λ (x : ℕ). x + s) y-is
+
+    z-high : Z + s ≤ length w0
+    z-high = omega (arith, z-end, ready .room)
+
     y-high : Y + s ≤ length w0
-    y-high =
-        let high = level-high n m s (suc k) (omega (arith, ready .depth)) in
-        omega (arith, ready .room)
+    y-high = omega (arith, z-high, z-is, y-is)
+
+    p-small : p < 256
+    p-small = let low = falls-all (ready .nests) 0 k (omega arith) (le-refl k) in omega (arith, ready .nests .small)
+
+    o-low : O + s ≤ H
+    o-low = omega (arith, size, set-room (words n) (free n m) p p-small)
 
     x-low : levelsAt n m s ≤ X
     x-low = omega arith
@@ -175,14 +205,14 @@ module _ (owners priorities : List ℕ) {offsets targets : List ℕ} (ok : Accep
       pub without-fits : Y + s ≤ length w1
       without-fits = omega (arith, y-high, c1 .long)
 
-      module _ {w2 : List ℕ} (c2 : WithoutAt n Y X H w1 w2) where
+      module _ {wl w2 : List ℕ} (lost : WithoutAt n Y X H w1 wl) (c2 : Met Z H O s wl w2) where
         long2 : length w2 ≡ length w0
-        long2 = c2 .long ∙ c1 .long
+        long2 = c2 .long ∙ lost .long ∙ c1 .long
 
-        -- words that neither R nor the level after is
-        same2 : (i : ℕ) → (i < Y) ⊎ (Y + s ≤ i) → getD w2 i 0 ≡ getD w1 i 0
-        same2 i (inl l) = c2 .rest i (inl l)
-        same2 i (inr l) = c2 .rest i (inr (omega (arith, size)))
+        -- words that neither R, nor the level after, nor the heads are
+        same2 : (i : ℕ) → (i < Y) ⊎ (Z + s ≤ i) → getD w2 i 0 ≡ getD w1 i 0
+        same2 i (inl l) = c2 .rest i (inl (omega (arith, y-is, z-is))) ∙ lost .rest i (inl l)
+        same2 i (inr l) = c2 .rest i (inr l) ∙ lost .rest i (inr (omega (arith, size, y-is, z-is)))
 
         low2 : (i : ℕ) → free n m ≤ i → (i < H) ⊎ (H + s ≤ i) → i < Y → getD w2 i 0 ≡ getD w0 i 0
         low2 i low o l = same2 i (inl l) ∙ same1 i low o
@@ -212,7 +242,9 @@ module _ (owners priorities : List ℕ) {offsets targets : List ℕ} (ok : Accep
 
         last2 : (v : ℕ) → L2 (suc k) v ≡ (L k v && not (R v))
         last2 v =
-            c2 .made v ∙ ap (λ (b : Bool). b && not (setAt n H w1 v)) (level1 k v) ∙
+            set-kept n Y wl w2 (λ i low high. c2 .rest i (inl (omega (arith, size, y-is, z-is)))) v ∙
+            lost .made v ∙
+            ap (λ (b : Bool). b && not (setAt n H w1 v)) (level1 k v) ∙
             ap (λ (b : Bool). L k v && not b) (sym (held2 v))
 
         R-is : (v : ℕ) → S v ≡ R v
@@ -302,6 +334,25 @@ module _ (owners priorities : List ℕ) {offsets targets : List ℕ} (ok : Accep
                 pulled2 .kept v l (λ r. absurd (clash r out)) ∙
                 sym (entry0 v (not-true-is-false (L (suc k) v) (λ h. clash (ready .nests .inside k v (le-refl k) h) i)))
 
+        sorted2 : SetsOf n priorities n (free n m) w2
+        sorted2 =
+            sets-kept n (free n m) priorities w0 w2
+            (λ i low high. low2 i low (inl (omega (arith, size))) (omega (arith, size, y-is))) (ready .sorted)
+
+        heads2 : (v : ℕ) → setAt n Z w2 v ≡ (R v && eqb (getD priorities v 0) p)
+        heads2 v =
+            met-set n (subst (λ (j : ℕ). Met Z H O j wl w2) size c2) v ∙
+            ap₂ (λ (x y : Bool). x && y)
+            (sym (set-kept n H wl w2 (λ i low high. c2 .rest i (inl (omega (arith, size, y-is, z-is)))) v))
+            (sym (set-kept n O wl w2 (λ i low high. c2 .rest i (inl (omega (arith, size, o-low, z-is)))) v) ∙ sorted2 p v p-small) ∙
+            go (bool-cases (R v))
+          where
+            go :
+                (R v ≡ true) ⊎ (R v ≡ false) →
+                (R v && (ltb v n && eqb (getD priorities v 0) p)) ≡ (R v && eqb (getD priorities v 0) p)
+            go (inl i) = rw (i, lt-ltb v n (small2 v i))
+            go (inr i) = rw i
+
         -- **all is as a round of the rules asks**
         pub queried : Queried owners priorities offsets targets s p w0 w2
         queried =
@@ -316,9 +367,7 @@ module _ (owners priorities : List ℕ) {offsets targets : List ℕ} (ok : Accep
                         (λ i l. same2 i (inl (omega (arith, y-is))) ∙ c1 .table i l) (ready .listed);
                     room = omega (arith, ready .room, long2);
                     depth = rw depth2 (ready .depth);
-                    sorted =
-                        sets-kept n (free n m) priorities w0 w2
-                        (λ i low high. low2 i low (inl (omega (arith, size))) (omega (arith, size, y-is))) (ready .sorted);
+                    sorted = sorted2;
                     nests = rw depth2 nests2;
                     proper = rw depth2 (drawn-proper k L L2 (ready .proper) R gained2 level2 last2);
                     held = λ v. rw depth2 (held-between v);
@@ -330,11 +379,10 @@ module _ (owners priorities : List ℕ) {offsets targets : List ℕ} (ok : Accep
                   λ v. ap (λ (j : ℕ). regionOf L2 (topIn n m s w2) (λ u. getD priorities u 0) j v) depth2 ∙
                   drawn-region (ready .nests) {R = R} gained2 part2 level2 top2 last2 v;
               attracts = attracts2;
+              heads = heads2;
               won = λ i low high. low2 i (omega arith) (inr (omega arith)) (omega (arith, y-is));
               rest =
-                  λ i l.
-                  let high = level-high n m s (suc k) (omega (arith, ready .depth)) in
-                  same2 i (inr (omega arith)) ∙ same1 i (omega arith) (inr (omega arith));
+                  λ i l. same2 i (inr (omega (arith, z-end))) ∙ same1 i (omega arith) (inr (omega arith));
             }
 
 -- ---- the same for the numbers that the code has
@@ -342,25 +390,64 @@ module _ (owners priorities : List ℕ) {offsets targets : List ℕ} (ok : Accep
 module _ {owners offsets targets : List ℕ} {s p held base : ℕ} {w0 : List ℕ}
     (q : QueryReady owners offsets targets s p held base w0)
   where
+    abbrev n′ : ℕ
+    n′ = length owners
+
+    abbrev m′ : ℕ
+    m′ = length targets
+
+    room-behind : levelAt n′ m′ s (suc (suc (depthIn n′ m′ s w0))) + s ≤ endAt n′ m′ s
+    room-behind =
+        let after = next-level n′ m′ s (depthIn n′ m′ s w0) in
+        let behind = next-level n′ m′ s (suc (depthIn n′ m′ s w0)) in
+        omega (arith, q .base-is, q .room)
+
     pub given-attract : Attractable owners offsets targets (p % 2) base held w0
     given-attract =
-        rw (q .current, q .base-is, q .held-is) (attract-ready owners (q .priorities) (q .accepted) (q .ready))
+        rw (q .current, q .base-is, q .held-is)
+        (attract-ready owners (q .priorities) (q .accepted) (q .ready) room-behind)
 
     -- the places of `without`
-    pub given-fits : (base + s + s ≤ length w0) × (held + s ≤ base)
+    pub given-fits : (base + s + s + s ≤ length w0) × (held + s ≤ base)
     given-fits =
-        let high = y-high owners (q .priorities) (q .accepted) (q .ready) in
-        let is = y-is owners (q .priorities) (q .accepted) (q .ready) in
+        let high = z-high owners (q .priorities) (q .accepted) (q .ready) room-behind in
+        let is = z-is owners (q .priorities) (q .accepted) (q .ready) room-behind in
         (omega (arith, q .base-is), omega (arith, q .base-is, q .held-is))
 
+    -- and of the heads
+    pub given-place : Placeable (length owners) (length targets) s p
+    given-place =
+        record {
+          size = q .ready .size;
+          few = q .ready .edges .few-vertices;
+          few-edges = q .ready .edges .few-edges;
+          small = rw (q .current) (p-small owners (q .priorities) (q .accepted) (q .ready) room-behind);
+        }
+
+    pub given-meets :
+        {of : ℕ} {work : List ℕ} → of ≡ setOfPriority (words (length owners)) (free (length owners) (length targets)) p →
+        length work ≡ length w0 → Meets (base + s + s) held of s work
+    given-meets {of} is long =
+        let low = o-low owners (q .priorities) (q .accepted) (q .ready) room-behind in
+        let at : of ≡ setOfPriority (words n′) (free n′ m′) (topIn n′ m′ s w0 (depthIn n′ m′ s w0)) =
+        is ∙ ap (setOfPriority (words n′) (free n′ m′)) (q .current) in
+        record {
+          one-below = omega (arith, given-fits .1);
+          other-below = omega (arith, given-fits .1, q .held-is);
+          high = omega (arith, given-fits .0);
+        }
+
     module _ (priorities : List ℕ) (ok : Accepted (tablesOf owners priorities offsets targets))
-        (ready : Ready (length owners) priorities offsets targets s w0) {w1 w2 : List ℕ} {looks : ℕ}
+        (ready : Ready (length owners) priorities offsets targets s w0) {w1 w2 w3 : List ℕ} {looks of : ℕ}
       where
         pub given-queried :
             Attracted (tablesOf owners priorities offsets targets) (parity p) base held w0 w1 looks →
             ((n : ℕ) → s ≡ words n → WithoutAt n (base + s) base held w1 w2) →
-            Queried owners priorities offsets targets s p w0 w2
-        given-queried c1 c2 =
+            of ≡ setOfPriority (words (length owners)) (free (length owners) (length targets)) p →
+            Met (base + s + s) held of s w2 w3 →
+            Queried owners priorities offsets targets s p w0 w3
+        given-queried c1 c2 is c3 =
             let drawn = rw (q .current, q .base-is, q .held-is) at c1 in
-            let made = rw (q .base-is, q .held-is, ← y-is owners priorities ok ready) at (c2 (length owners) (ready .size)) in
-            rw (q .current) (queried owners priorities ok ready drawn made)
+            let made = rw (q .base-is, q .held-is, ← y-is owners priorities ok ready room-behind) at (c2 (length owners) (ready .size)) in
+            let met = rw (q .base-is, q .held-is, is, q .current, ← z-is owners priorities ok ready room-behind) at c3 in
+            rw (q .current) (queried owners priorities ok ready room-behind drawn made met)

@@ -1,4 +1,4 @@
-// R is drawn in.
+// R is drawn in, and its heads are set apart.
 ghost use mathlib.Core.List.{List};
 ghost use Prim.Native.Nat.{ℕ};
 ghost use Rattle.rules.specs.Tables.{Accepted, tablesOf};
@@ -6,7 +6,8 @@ ghost use Rattle.promotion_region.specs.Query.{QueryReady, Queried};
 ghost use Rattle.promotion_levels.specs.Layout.{Ready};
 ghost use lib.ListN.{length};
 
-// R, at `held`, is the attractor of region p within the current level, at `base`, and leaves the level after it.
+// R, at `held`, is the attractor of region p within the current level, at `base`, and leaves the level after it. Its
+// heads, of priority p, stand in the place of the level after that, which is not in use.
 pub fn query(
     owners: &[u8],
     offsets: &[u16],
@@ -29,4 +30,6 @@ pub fn query(
     let alpha = (p % 2) as u8;
     attractor::attract(owners, offsets, targets, alpha, work, base, held);
     promotion_levels::without(s, work, base + s, base, held);
+    let of = priority_sets::set_at(owners.len(), targets.len(), s, p);
+    priority_sets::meet(work, base + s + s, held, of, s);
 }

@@ -1,20 +1,25 @@
 -- One round over the work area as the code makes it: what each call finds, and that the state after is the rules' round.
-use mathlib.Core.Bool.{Bool, true, false}
+use mathlib.Core.Bool.{Bool, true, false, _&&_}
 use mathlib.Core.List.{List}
 use mathlib.Core.Logic.{inr}
-use mathlib.Core.Path.{_≡_, refl, sym, ap, ap₂, subst, subst₂, _∙_}
+use mathlib.Core.Path.{_≡_, refl, sym, ap, ap₂, subst, subst₂, fun-ext, _∙_}
 use Prim.Native.Nat.{ℕ, suc, _+_, _-_, _*_, _%_, _≤_, _<_}
 use native.Mathlib.Omega.{arith}
+use lib.Dec.{eqb}
 use lib.ListN.{length, getD, take, drop, length-take}
 use Rattle.rules.specs.Counting.{count}
 use Rattle.rules.specs.Game.{Even, Game}
 use Rattle.rules.specs.Tables.{gameOf, words, Accepted, tablesOf}
 use Rattle.rules.specs.Words.{setOf}
-use Rattle.rules.specs.Promotion.{Regions, regionSet, isOpen, roundOf, afterRounds}
-use Rattle.accepted.specs.Tables.{accepted-sound}
-use Rattle.theory.specs.PromotionEntries.{mover, RoundEntries, AttractedEntries, Fills}
+use Rattle.rules.specs.Promotion.{Regions, unsolved, regionSet, isOpen, roundOf, afterRounds}
+use Rattle.basics.specs.Basics.{and-left, count-some}
+use Rattle.accepted.specs.Tables.{accepted-sound, accepted-few}
+use Rattle.theory.specs.PromotionAccepted.{accepted-invariant}
+use Rattle.theory.specs.PromotionEntries.{mover, remaining, RoundEntries, AttractedEntries, Fills}
+use Rattle.theory.specs.PromotionInside.{Entered}
 use Rattle.theory.specs.PromotionRounds.{attractedRegion}
 use Rattle.theory.specs.PromotionTable.{attracts-table}
+use Rattle.promotion_heads.specs.Heads.{entry-but-heads}
 use Rattle.walk.specs.MemberLaws.{length-members}
 use Rattle.area.specs.Area.{entries, free, setAt, wordsAt}
 use Rattle.area.specs.Lent.{words-few}
@@ -23,7 +28,9 @@ use Rattle.area.specs.Walking.{lent-part}
 use Rattle.priority_sets.specs.Sorting.{Placeable}
 use Rattle.promotion_levels.specs.Layout.{heldAt, wonAt, depthAt, topsAt, levelsAt, levelAt, endAt, deep, depthIn, topIn, levelIn}
 use Rattle.promotion_levels.specs.Layout.{heldIn, regionIn, entryIn, Ready}
+use Rattle.promotion_levels.specs.Nesting.{few-levels, levels-below}
 use Rattle.promotion_levels.specs.Places.{next-level, level-high}
+use Rattle.promotion_levels.specs.Going.{deeper}
 use Rattle.promotion_levels.specs.Kept as kept
 use Rattle.promotion_levels.specs.Descending.{Descends, Descended}
 use Rattle.promotion_region.specs.Query.{QueryReady, Queried}
@@ -35,6 +42,7 @@ use Rattle.promotion_moves.specs.Promotion.{Promotable, PromotedTo, promote-rea
 use Rattle.promotion_moves.specs.Dominion.{DominionReady, Dominated}
 use Rattle.promotion_rounds.specs.Shown as shown
 use Rattle.promotion_rounds.specs.Shown.{Shows}
+use Rattle.promotion_rounds.specs.Rounds.{RoundReady}
 use Rattle.promotion_rounds.specs.Opened as opened
 use Rattle.promotion_rounds.specs.Filled as filled
 use Rattle.promotion_rounds.specs.Promoted as promoted
@@ -77,21 +85,63 @@ module _ {n : ℕ} {priorities offsets targets : List ℕ} {s levels : ℕ} {wor
         (λ v i. ready .nests .below v (sym (first-in v) ∙ i)) ∙
         ap (λ (x : ℕ). count n (setAt n x work)) first-is
 
--- R, the levels and the number of the current one, as the code has them
-pub record Placed (n m s held levels k : ℕ) (work : List ℕ) : Type 0 where
-  pub held-is : held ≡ heldAt n m s
-  pub levels-is : levels ≡ levelsAt n m s
-  pub k-is : k ≡ depthIn n m s work
+-- what a round begins with: R, the levels and the number of the current one as the code has them, room for two levels more, and
+-- entries inside the regions
+pub record Begins (owners priorities offsets targets : List ℕ) (s current held levels k : ℕ) (work : List ℕ) : Type 0 where
+  pub held-is : held ≡ heldAt (length owners) (length targets) s
+  pub levels-is : levels ≡ levelsAt (length owners) (length targets) s
+  pub k-is : k ≡ depthIn (length owners) (length targets) s work
+  pub room : levels + k * s + s + s + s ≤ endAt (length owners) (length targets) s
+  pub entered :
+      let g = gameOf (tablesOf owners priorities offsets targets) in
+      let T = regionIn (length owners) (length targets) s priorities work in
+      Entered g (unsolved g T) T current (entryIn (length owners) (length targets) s work)
 
-pub levels-place :
-    (n m s : ℕ) {held levels : ℕ} → held ≡ heldAt n m s → levels ≡ held + 3 * s + 1 + deep n → levels ≡ levelsAt n m s
-levels-place n m s h l = omega (arith, h, l)
+module _ {owners priorities offsets targets : List ℕ} {s current left rounds : ℕ} {work : List ℕ}
+    (q : RoundReady owners priorities offsets targets s current left rounds work)
+  where
+    abbrev depth0 : ℕ
+    depth0 = depthIn (length owners) (length targets) s work
 
-pub placed-by :
-    (n m s : ℕ) (work : List ℕ) {held levels : ℕ} → held ≡ heldAt n m s → levels ≡ held + 3 * s + 1 + deep n →
-    Placed n m s held levels (getD work (held + 3 * s) 0) work
-placed-by n m s work h l =
-    record { held-is = h; levels-is = levels-place n m s h l; k-is = ap (λ (x : ℕ). getD work (x + 3 * s) 0) h }
+    -- while a vertex is unsolved there are fewer levels than vertices
+    room-behind :
+        levelAt (length owners) (length targets) s (suc (suc depth0)) + s ≤ endAt (length owners) (length targets) s
+    room-behind =
+        let ready = q .shows .ready in
+        let (v, l, i) =
+        count-some (length owners) (levelIn (length owners) (length targets) s work 0) (rw (q .shows .left) at (q .unsolved)) in
+        level-high (length owners) (length targets) s (suc (suc depth0))
+        (omega (arith, deeper (length owners) depth0 (levels-below (ready .nests) (ready .proper) v i) (few-levels (ready .nests))))
+
+    pub begins-by :
+        {held levels : ℕ} → held ≡ heldAt (length owners) (length targets) s → levels ≡ held + 3 * s + 1 + deep (length owners) →
+        Begins owners priorities offsets targets s current held levels (getD work (held + 3 * s) 0) work
+    begins-by {held} {levels} h l =
+        record {
+          held-is = h;
+          levels-is = levels-is;
+          k-is = k-is;
+          room =
+              let base : levels + getD work (held + 3 * s) 0 * s ≡ levelAt (length owners) (length targets) s depth0 =
+              ap₂ (λ (x y : ℕ). x + y * s) levels-is k-is in
+              let after = next-level (length owners) (length targets) s depth0 in
+              let behind = next-level (length owners) (length targets) s (suc depth0) in
+              omega (arith, room-behind);
+          entered =
+              subst₂
+              (λ (T : ℕ → ℕ) (x : ℕ).
+              Entered (gameOf (tablesOf owners priorities offsets targets)) (unsolved (gameOf (tablesOf owners priorities offsets targets)) T) T
+              x (entryIn (length owners) (length targets) s work))
+              (sym (fun-ext (shown.agrees0 (q .accepted) (q .made) (q .shows))))
+              (sym (q .shows .current))
+              (accepted-invariant (tablesOf owners priorities offsets targets) (q .accepted) (q .entries) .entered);
+        }
+      where
+        levels-is : levels ≡ levelsAt (length owners) (length targets) s
+        levels-is = omega (arith, h, l)
+
+        k-is : getD work (held + 3 * s) 0 ≡ depth0
+        k-is = ap (λ (x : ℕ). getD work (x + 3 * s) 0) h
 
 -- words behind the levels stay where one begins
 descended-rest :
@@ -102,7 +152,7 @@ descended-rest {priorities} {m} {s} {k} l c i high =
     let most = level-high (length priorities) m s (k + 1) (omega arith) in
     c .rest i (inr (omega arith)) (inr (omega arith)) (λ e. omega arith) (λ e. omega arith) (inr (omega arith))
 
--- R as the tests look at it
+-- R as the test for a way out looks at it
 held-escapes :
     (owners : List ℕ) {priorities offsets targets : List ℕ} (ok : Accepted (tablesOf owners priorities offsets targets))
     {s held : ℕ} {work : List ℕ} → Ready (length owners) priorities offsets targets s work →
@@ -155,7 +205,7 @@ module _ {owners priorities offsets targets : List ℕ} (ok : Accepted (tablesOf
         let few = words-few n (shows .ready .edges .few-vertices) in
         omega (arith, is, shows .ready .size, shows .ready .edges .few-vertices, shows .ready .edges .few-edges)
 
-    module _ {held levels k : ℕ} (at : Placed (length owners) (length targets) s held levels k w0) where
+    module _ {held levels k : ℕ} (at : Begins owners priorities offsets targets s current held levels k w0) where
       held-is : held ≡ heldAt n m s
       held-is = at .held-is
 
@@ -171,10 +221,11 @@ module _ {owners priorities offsets targets : List ℕ} (ok : Accepted (tablesOf
       below-is : levels + k * s + s ≡ levelAt n m s (suc (depthIn n m s w0))
       below-is = ap (λ (x : ℕ). x + s) base-is ∙ sym (next-level n m s (depthIn n m s w0))
 
-      pub base-room : levels + k * s + s + s ≤ length w0
-      base-room =
-          let high = level-high n m s (suc (depthIn n m s w0)) (omega (arith, shows .ready .depth)) in
-          omega (arith, below-is, shows .ready .room)
+      heads-at : levels + k * s + s + s ≡ levelAt n m s (suc (suc (depthIn n m s w0)))
+      heads-at = ap (λ (x : ℕ). x + s) below-is ∙ sym (next-level n m s (suc (depthIn n m s w0)))
+
+      pub base-room : levels + k * s + s + s + s ≤ length w0
+      base-room = omega (arith, at .room, shows .ready .room)
 
       pub round-query : QueryReady owners offsets targets s current held (levels + k * s) w0
       round-query =
@@ -185,6 +236,7 @@ module _ {owners priorities offsets targets : List ℕ} (ok : Accepted (tablesOf
             current = shows .top;
             held-is = held-is;
             base-is = base-is;
+            room = at .room;
           }
 
       module _ {w1 : List ℕ} (made1 : Queried owners priorities offsets targets s current w0 w1) where
@@ -197,24 +249,40 @@ module _ {owners priorities offsets targets : List ℕ} (ok : Accepted (tablesOf
         entries1 : AttractedEntries g r (entryIn n m s w0) (entryIn n m s w1)
         entries1 = attracts-table g r (regionIn n m s priorities w0) (shown.agrees0 ok made shows) (c1 .attracts)
 
-        pub round-openable : Openable owners offsets targets s held (levels + k * s + s) w1
+        -- R's heads
+        head-is : (v : ℕ) → setAt n (levels + k * s + s + s) w1 v ≡ (heldIn n m s w1 v && eqb (getD priorities v 0) p)
+        head-is v = ap (λ (x : ℕ). setAt n x w1 v) heads-at ∙ c1 .heads v
+
+        head-small : (v : ℕ) → setAt n (levels + k * s + s + s) w1 v ≡ true → v < n
+        head-small v i = filled.held-small owners ok 0 ready1 v (and-left (heldIn n m s w1 v) _ (sym (head-is v) ∙ i))
+
+        pub round-openable :
+            Openable owners offsets targets s (levels + k * s + s + s) held (levels + k * s + s) w1
         round-openable =
             record {
-              escapes = held-escapes owners ok ready1 held-is;
+              escapes =
+                  record {
+                    size = ready1 .size;
+                    edges = ready1 .edges;
+                    high = omega (arith, base-room, c1 .long, ready1 .size);
+                    below = head-small;
+                  };
+              held-room = held-escapes owners ok ready1 held-is .high;
               room = omega (arith, base-room, c1 .long, ready1 .size);
             }
 
         -- whether R is open, as the code tells it
         abbrev openSaid : Bool
-        openSaid = isOpenIn owners offsets targets (current % 2) held (levels + k * s + s) w1
+        openSaid = isOpenIn owners offsets targets (current % 2) (levels + k * s + s + s) held (levels + k * s + s) w1
 
         open-told : {b : Bool} → b ≡ openSaid → isOpen g r (regionSet g r) ≡ b
         open-told e =
             shown.open-is ok made shows c1 ∙
             sym
             (e ∙
-            ap (λ (x : ℕ). isOpenIn owners offsets targets (x % 2) held (levels + k * s + s) w1) (shows .current) ∙
-            ap₂ (λ (h b : ℕ). isOpenIn owners offsets targets (p % 2) h b w1) held-is below-is)
+            ap₂ (λ (x z : ℕ). isOpenIn owners offsets targets (x % 2) z held (levels + k * s + s) w1) (shows .current) heads-at ∙
+            ap₂ (λ (h b : ℕ). isOpenIn owners offsets targets (p % 2) (levelAt n m s (suc (suc (depthIn n m s w0)))) h b w1)
+            held-is below-is)
 
         -- **an open round**
         next-is : k + 1 ≡ suc (depthIn (length priorities) m s w1)
@@ -251,17 +319,21 @@ module _ {owners priorities offsets targets : List ℕ} (ok : Accepted (tablesOf
                 (subst (λ (x : ℕ). Descended priorities m s x p' w1 w2) next-is c2)
 
         pub round-fill :
-            FillAll owners offsets targets s held (entries (length owners) (length targets)) w1
+            FillAll owners offsets targets s (levels + k * s + s + s) held (entries (length owners) (length targets)) w1
         round-fill =
-            subst (λ (x : ℕ). FillAll owners offsets targets s x (entries n m) w1) (sym held-is)
-            (filled.fill-ready owners ok p ready1)
+            subst (λ (x : ℕ). FillAll owners offsets targets s (levels + k * s + s + s) x (entries n m) w1) (sym held-is)
+            (filled.fill-ready owners ok p ready1 (omega (arith, levels-is)) (omega (arith, base-room, c1 .long)) head-small)
 
         module _ {w2 : List ℕ}
-            (made2 : FilledAll owners offsets targets (current % 2) held (entries (length owners) (length targets)) w1 w2)
+            (made2 :
+            FilledAll owners offsets targets (current % 2) (levels + k * s + s + s) held
+            (entries (length owners) (length targets)) w1 w2)
           where
-            c2 : FilledAll owners offsets targets (current % 2) (heldAt n m s) (entries n m) w1 w2
+            c2 : FilledAll owners offsets targets (current % 2) (levels + k * s + s + s) (heldAt n m s) (entries n m) w1 w2
             c2 =
-                subst (λ (x : ℕ). FilledAll owners offsets targets (current % 2) x (entries n m) w1 w2) held-is made2
+                subst
+                (λ (x : ℕ). FilledAll owners offsets targets (current % 2) (levels + k * s + s + s) x (entries n m) w1 w2)
+                held-is made2
 
             ready2 : Ready n priorities offsets targets s w2
             ready2 = filled.filled-ready owners ok p ready1 c2
@@ -295,10 +367,17 @@ module _ {owners priorities offsets targets : List ℕ} (ok : Accepted (tablesOf
                 kept.level-same w2 ready1 long2 (filled.filled-table owners ok p ready1 c2) same2 0 v ∙
                 c1 .levels 0 v (omega arith)
 
+            entered0 : Entered g (remaining g r) (r .region) p (entryIn n m s w0)
+            entered0 =
+                subst₂ (λ (T : ℕ → ℕ) (x : ℕ). Entered g (unsolved g T) T x (entryIn n m s w0))
+                (fun-ext (shown.agrees0 ok made shows)) (shows .current) (at .entered)
+
             fills2 : Fills g (mover r) (regionSet g r) (entryIn n m s w1) (entryIn n m s w2)
             fills2 =
                 filled.filled-entries owners ok p ready1 c2 (ap (λ (x : ℕ). x % 2) (shows .current))
-                (shown.R-is ok made shows c1)
+                (shown.R-is ok made shows c1) head-is
+                (entry-but-heads (shown.total ok made shows) (accepted-few (tablesOf owners priorities offsets targets) ok) r
+                (shown.standing ok made shows .placed) entered0 entries1)
 
             same-all :
                 (length w2 ≡ length w0) × ((i : ℕ) → endAt n m s ≤ i → getD w2 i 0 ≡ getD w0 i 0)

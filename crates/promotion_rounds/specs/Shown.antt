@@ -1,37 +1,38 @@
 -- The work area and the small state show a state of the rules; and what they show once R is drawn in: the three kinds of round.
-use mathlib.Core.Bool.{Bool, true, false, _&&_, _||_, not, cond}
+use mathlib.Core.Bool.{Bool, true, false, _&&_, cond}
 use mathlib.Core.List.{List}
-use mathlib.Core.Logic.{_⊎_, inl, inr, ⊎-elim}
+use mathlib.Core.Logic.{⊎-elim}
 use mathlib.Core.Path.{_≡_, refl, sym, ap, ap₂, _∙_}
-use Prim.Native.Nat.{ℕ, suc, _+_, _%_, _≤_, _<_}
+use Prim.Native.Nat.{ℕ, suc, _%_, _≤_, _<_}
 use native.Mathlib.Nat.{le-refl}
-use native.Mathlib.Omega.{arith}
-use borrow.Author.Tests.{eqb-true, eq-eqb, lt-ltb, le-ltb, ltb-true, not-true}
 use lib.Dec.{eqb, ltb}
 use lib.ListN.{length, getD}
-use Rattle.rules.specs.Counting.{Set, count, some, lowest, greatest}
-use Rattle.rules.specs.Game.{Player, Even, Odd, Game, Total, Edge, parity, same}
+use Rattle.rules.specs.Counting.{Set, count, some}
+use Rattle.rules.specs.Game.{Player, Game, Total}
 use Rattle.rules.specs.Tables.{Tables, gameOf, Accepted, tablesOf}
-use Rattle.rules.specs.Promotion.{Regions, unsolved, regionSet, isOpen, roundOf, afterRounds}
-use Rattle.basics.specs.Basics.{bool-cases, not-true-is-false, and-intro, and-left, and-right, lt-or-ge, some-intro}
-use Rattle.basics.specs.Basics.{some-elim, false-some, some-cong, someOf-cong, someOf-intro, someOf-elim}
-use Rattle.theory.specs.Players.{same-false}
-use Rattle.theory.specs.Players.{false-same}
-use Rattle.basics.specs.Basics.{lowest-none, lowest-unique, count-cong}
-use Rattle.accepted.specs.Tables.{accepted-total, accepted-priority, accepted-sound}
+use Rattle.rules.specs.Promotion.{Regions, regionSet, isOpen, afterRounds}
+use Rattle.basics.specs.Basics.{lt-or-ge}
+use Rattle.basics.specs.Basics.{some-cong, someOf-cong}
+use Rattle.accepted.specs.Tables.{accepted-total, accepted-priority, accepted-few}
 use Rattle.basics.specs.Basics.{noted-below}
-use Rattle.theory.specs.PromotionEntries.{RoundEntries}
 use Rattle.theory.specs.PromotionRounds.{attractedRegion}
 use Rattle.theory.specs.PromotionStanding.{Standing}
 use Rattle.theory.specs.PromotionBound.{after-standing}
-use Rattle.theory.specs.PromotionTable.{openAt, above-solved, region-table, open-read, attracts-table}
+use Rattle.theory.specs.PromotionTable.{openAt, above-solved, region-table}
+use Rattle.promotion_heads.specs.Heads.{open-by-heads}
 use Rattle.area.specs.Area.{setAt}
 use Rattle.promotion_levels.specs.Nesting.{regionOf, Nesting, here-is, below-is}
-use Rattle.promotion_levels.specs.Layout.{heldAt, wonAt, levelAt, depthIn, topIn, levelIn, heldIn, regionIn, entryIn, Ready}
+use Rattle.promotion_levels.specs.Layout.{heldAt, wonAt, levelAt, depthIn, topIn, levelIn, heldIn, regionIn, Ready}
 use Rattle.promotion_levels.specs.Places.{solved-above}
 use Rattle.promotion_levels.specs.Pulled.{owner-test}
 use Rattle.promotion_region.specs.Query.{Queried}
 use Rattle.promotion_tests.specs.Opening.{isOpenIn}
+
+-- a head of R that passes a test
+head-first : (a b c : Bool) → ((a && b) && c) ≡ (b && (a && c))
+head-first true b c = refl
+head-first false true c = refl
+head-first false false c = refl
 
 -- the work area and the small state show a state of the rules
 pub record Shows (owners priorities offsets targets : List ℕ) (s : ℕ) (r : Regions) (at many : ℕ) (work : List ℕ) : Type 0 where
@@ -142,21 +143,24 @@ module _ {owners priorities offsets targets : List ℕ} (ok : Accepted (tablesOf
       pub last-is : (v : ℕ) → L (suc k) v ≡ ltb (T v) p
       last-is v = sym (below-is nests1 k v (le-refl k)) ∙ ap₂ (λ (x y : ℕ). ltb x y) (sym (T-is v)) top1
 
-      -- **open, as the code tells it**
+      -- **open by its heads, as the code tells it**
       pub open-same :
-          isOpenIn owners offsets targets (p % 2) (heldAt n m s) (levelAt n m s (suc k)) w1 ≡ some (g .size) (openAt g T p)
+          isOpenIn owners offsets targets (p % 2) (levelAt n m s (suc (suc k))) (heldAt n m s) (levelAt n m s (suc k)) w1 ≡
+          some (g .size) (λ v. eqb (g .priority v) p && openAt g T p v)
       unfolding gameOf
       open-same =
           some-cong n _ _
           (λ v l.
-          ap₂ (λ (x y : Bool). x && y) (held-is v)
+          ap₂ (λ (x y : Bool). x && y) (c1 .heads v ∙ ap (λ (x : Bool). x && eqb (getD priorities v 0) p) (held-is v))
           (rw (
             owner-test t ok p v l,
             someOf-cong (g .targets v) R (λ w. eqb (T w) p) (λ w e. held-is w),
             someOf-cong (g .targets v) (L (suc k)) (λ w. ltb (T w) p) (λ w e. last-is w),
-          )))
+          )) ∙
+          head-first (eqb (T v) p) (eqb (getD priorities v 0) p) _)
 
       pub open-is :
           isOpen g r (regionSet g r) ≡
-          isOpenIn owners offsets targets (p % 2) (heldAt n m s) (levelAt n m s (suc k)) w1
-      open-is = open-read g total r small T agrees1 ∙ sym open-same
+          isOpenIn owners offsets targets (p % 2) (levelAt n m s (suc (suc k))) (heldAt n m s) (levelAt n m s (suc k)) w1
+      open-is =
+          open-by-heads g total (λ v l. accepted-priority t ok v) (accepted-few t ok) made T agrees1 ∙ sym open-same

@@ -3,7 +3,7 @@ use mathlib.Core.Bool.{Bool, true, false, _&&_, not}
 use mathlib.Core.List.{List}
 use mathlib.Core.Logic.{⊎-elim}
 use mathlib.Core.Path.{_≡_, sym, ap, subst, _∙_}
-use Prim.Native.Nat.{ℕ, suc, _+_, _≤_, _<_}
+use Prim.Native.Nat.{ℕ, suc, _≤_, _<_}
 use native.Mathlib.Decide.{ℕ-discrete}
 use native.Mathlib.Numerals.{add-one}
 use native.Mathlib.Omega.{arith}
@@ -92,9 +92,11 @@ module _ {owners priorities offsets targets : List ℕ} {s : ℕ} where
   pub reached-ready :
       {at many made : ℕ} {work : List ℕ} →
       Reached owners priorities offsets targets s at many made work →
+      0 < many →
       made < 18446744073709551615 →
       RoundReady owners priorities offsets targets s at many made work
-  reached-ready {made = made} r l = record { accepted = r .accepted; made = made; shows = r .shows; more = l }
+  reached-ready {made = made} r left l =
+      record { accepted = r .accepted; made = made; shows = r .shows; entries = r .entries; unsolved = left; more = l }
 
   pub reached-more :
       {at many made at' many' made' : ℕ} {work after : List ℕ} →

@@ -45,28 +45,28 @@ pub fn round(
     let base = levels + k * s;
     let p = state.current.0;
     let alpha = (p % 2) as u8;
-    let unsolved = state.unsolved;
     let rounds = state.rounds + 1;
+    let below = base + s;
+    let heads = below + s;
     query(owners, offsets, targets, p, s, work, held, base);
-    if is_open(owners, offsets, targets, alpha, s, work, held, base + s) {
+    if is_open(owners, offsets, targets, alpha, s, work, heads, held, below) {
         let bound = one_less(p);
         let current = descend(priorities, m, s, work, held, levels, k + 1, bound);
         return State {
             current,
-            unsolved,
+            unsolved: state.unsolved,
             rounds,
         };
     }
-    let entries = n + 1 + m + n + n;
-    assign_missing_strategies(owners, offsets, targets, alpha, s, work, held, entries);
+    let entry = n + 1 + m + n + n;
+    assign_missing_strategies(owners, offsets, targets, alpha, s, work, heads, held, entry);
     let j = best_escape(owners, offsets, targets, alpha, s, work, held, levels, k);
     if 0 < j {
         let q = work[depth + j] as usize;
         promote(s, work, held, depth, levels + (j - 1) * s, j - 1);
-        let current = Priority(q);
         return State {
-            current,
-            unsolved,
+            current: Priority(q),
+            unsolved: state.unsolved,
             rounds,
         };
     }

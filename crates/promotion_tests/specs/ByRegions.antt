@@ -1,55 +1,18 @@
--- What the two tests find, told by regions in place of levels: R is open by the regions of its targets, and the highest level is
--- the lowest region above that of R.
-use mathlib.Core.Bool.{Bool, true, false, _&&_, not, cond}
+-- The highest level that the opponent can go to, told by regions in place of levels: it is the lowest region above that of R.
+use mathlib.Core.Bool.{true, false}
 use mathlib.Core.List.{List, List·Memᴰ}
 use mathlib.Core.Logic.{_⊎_, inl, inr, ⊎-elim}
-use mathlib.Core.Path.{_≡_, refl, sym, ap, ap₂, _∙_}
+use mathlib.Core.Path.{_≡_, refl, sym, ap, _∙_}
 use Prim.Native.Nat.{ℕ, zero, suc, _≤_, _<_}
 use native.Mathlib.Nat.{le-refl}
 use native.Mathlib.Omega.{arith}
 use borrow.Author.Tests.{lt-leb}
-use lib.Dec.{eqb, ltb}
-use lib.ListN.{length, getD}
-use Rattle.rules.specs.Counting.{Set, some, someOf}
+use lib.ListN.{getD}
+use Rattle.rules.specs.Counting.{Set, some}
 use Rattle.rules.specs.Tables.{targetsOf}
-use Rattle.basics.specs.Basics.{some-cong, someOf-cong}
-use Rattle.area.specs.Area.{setAt}
 use Rattle.promotion_levels.specs.Nesting.{regionOf, Nesting, falls-all, region-at, region-solved, region-over}
-use Rattle.promotion_levels.specs.Nesting.{below-is, here-is, up-is}
+use Rattle.promotion_levels.specs.Nesting.{up-is}
 use Rattle.promotion_tests.specs.Highest.{HighestLevel, highest-none-from}
-use Rattle.promotion_tests.specs.Opening.{isOpenIn}
-
--- ---- open
-
--- a vertex of region p makes the region open: an own one has no target of region p, or another's has one below
-abbrev pub opensBy : List ℕ → List ℕ → List ℕ → ℕ → (ℕ → ℕ) → ℕ → Set
-opensBy owners offsets targets alpha region p u =
-    cond
-    (eqb (getD owners u 0) alpha)
-    (not (someOf (targetsOf offsets targets u) (λ w. eqb (region w) p)))
-    (someOf (targetsOf offsets targets u) (λ w. ltb (region w) p))
-
--- **R, level k without the last, is open by its regions**
-pub open-by-regions :
-    (owners offsets targets : List ℕ) (alpha held below : ℕ) (work : List ℕ) {k : ℕ} {L : ℕ → Set} {P priority : ℕ → ℕ} →
-    Nesting (length owners) k L P priority →
-    ((v : ℕ) → setAt (length owners) held work v ≡ (L k v && not (L (suc k) v))) →
-    ((v : ℕ) → setAt (length owners) below work v ≡ L (suc k) v) →
-    isOpenIn owners offsets targets alpha held below work ≡
-    some (length owners)
-    (λ u. eqb (regionOf L P priority k u) (P k) && opensBy owners offsets targets alpha (regionOf L P priority k) (P k) u)
-open-by-regions owners offsets targets alpha held below work {k} {L} {P} {priority} nests here last =
-    some-cong (length owners) _ _
-    (λ u l.
-    ap₂ (λ (x y : Bool). x && y) (is-here u)
-    (ap₂ (λ (x y : Bool). cond (eqb (getD owners u 0) alpha) (not x) y)
-    (someOf-cong (targetsOf offsets targets u) (setAt (length owners) held work)
-    (λ w. eqb (regionOf L P priority k w) (P k)) (λ w e. is-here w))
-    (someOf-cong (targetsOf offsets targets u) (setAt (length owners) below work)
-    (λ w. ltb (regionOf L P priority k w) (P k)) (λ w e. last w ∙ sym (below-is nests k w (le-refl k))))))
-  where
-    is-here : (v : ℕ) → setAt (length owners) held work v ≡ eqb (regionOf L P priority k v) (P k)
-    is-here v = here v ∙ sym (here-is nests k v (le-refl k))
 
 -- ---- the lowest region above p
 

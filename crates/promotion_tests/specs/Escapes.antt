@@ -79,7 +79,7 @@ pub parts-asked :
     (setOf (take s (drop a xs)) v && not (setOf (take s (drop b xs)) v))
 parts-asked s a b v xs = ap₂ (λ (x y : Bool). x && not y) (part-asked s a v xs) (part-asked s b v xs)
 
--- ---- R and its edges
+-- ---- a set, R or its heads, and its edges
 
 pub record Escapes (owners offsets targets : List ℕ) (s held : ℕ) (work : List ℕ) : Type 0 where
   pub size : s ≡ words (length owners)
@@ -121,9 +121,10 @@ edges-ready {owners} {offsets} {targets} e v small =
 
 -- ---- what the two tests ask for
 
--- the last level stands at `below`
-pub record Openable (owners offsets targets : List ℕ) (s held below : ℕ) (work : List ℕ) : Type 0 where
-  pub escapes : Escapes owners offsets targets s held work
+-- R's heads stand at `heads`, R at `held`, and the last level at `below`
+pub record Openable (owners offsets targets : List ℕ) (s heads held below : ℕ) (work : List ℕ) : Type 0 where
+  pub escapes : Escapes owners offsets targets s heads work
+  pub held-room : held + words (length owners) ≤ length work
   pub room : below + words (length owners) ≤ length work
 
 -- levels 0 to k stand from `levels` on

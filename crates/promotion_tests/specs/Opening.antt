@@ -1,4 +1,4 @@
--- Whether R is open, by the sets in the work area.
+-- Whether R is open by its heads, told by the sets in the work area.
 use mathlib.Core.Bool.{Bool, true, false, _&&_, not, cond}
 use mathlib.Core.List.{List}
 use mathlib.Core.Logic.{_⊎_, inl, inr}
@@ -13,7 +13,7 @@ use Rattle.area.specs.Area.{setAt}
 use Rattle.area.specs.Walked.{Always, Walked}
 use Rattle.promotion_tests.specs.Escapes.{anything, nothing}
 
--- a vertex of R makes it open: an own one has no target in R, or another's has one in the last level
+-- a vertex makes R open: an own one has no target in R, or another's has one in the last level
 abbrev pub opensIn : List ℕ → List ℕ → List ℕ → ℕ → ℕ → ℕ → List ℕ → Set
 opensIn owners offsets targets alpha held below work u =
     cond
@@ -21,33 +21,34 @@ opensIn owners offsets targets alpha held below work u =
     (not (someOf (targetsOf offsets targets u) (setAt (length owners) held work)))
     (someOf (targetsOf offsets targets u) (setAt (length owners) below work))
 
-abbrev pub isOpenIn : List ℕ → List ℕ → List ℕ → ℕ → ℕ → ℕ → List ℕ → Bool
-isOpenIn owners offsets targets alpha held below work =
-    some (length owners) (λ u. setAt (length owners) held work u && opensIn owners offsets targets alpha held below work u)
+-- one of the heads does
+abbrev pub isOpenIn : List ℕ → List ℕ → List ℕ → ℕ → ℕ → ℕ → ℕ → List ℕ → Bool
+isOpenIn owners offsets targets alpha heads held below work =
+    some (length owners) (λ u. setAt (length owners) heads work u && opensIn owners offsets targets alpha held below work u)
 
 -- u does not
 abbrev pub Shut : List ℕ → List ℕ → List ℕ → ℕ → ℕ → ℕ → List ℕ → ℕ → Type 0
 Shut owners offsets targets alpha held below work u = opensIn owners offsets targets alpha held below work u ≡ false
 
-module _ (owners offsets targets : List ℕ) (alpha held below : ℕ) (work : List ℕ) where
+module _ (owners offsets targets : List ℕ) (alpha heads held below : ℕ) (work : List ℕ) where
   pub open-found :
       (v : ℕ) →
       v < length owners →
-      setAt (length owners) held work v ≡ true →
+      setAt (length owners) heads work v ≡ true →
       opensIn owners offsets targets alpha held below work v ≡ true →
-      true ≡ isOpenIn owners offsets targets alpha held below work
+      true ≡ isOpenIn owners offsets targets alpha heads held below work
   open-found v small member opens = sym (some-intro (length owners) _ v small (and-intro member opens))
 
   pub open-none :
-      Walked (length owners) held anything Always nothing
+      Walked (length owners) heads anything Always nothing
       (λ u c c'. Shut owners offsets targets alpha held below work u) work work →
-      false ≡ isOpenIn owners offsets targets alpha held below work
-  open-none w = sym (false-some (length owners) _ (λ u l. go u (bool-cases (setAt (length owners) held work u))))
+      false ≡ isOpenIn owners offsets targets alpha heads held below work
+  open-none w = sym (false-some (length owners) _ (λ u l. go u (bool-cases (setAt (length owners) heads work u))))
     where
       go :
           (u : ℕ) →
-          (setAt (length owners) held work u ≡ true) ⊎ (setAt (length owners) held work u ≡ false) →
-          (setAt (length owners) held work u && opensIn owners offsets targets alpha held below work u) ≡ false
+          (setAt (length owners) heads work u ≡ true) ⊎ (setAt (length owners) heads work u ≡ false) →
+          (setAt (length owners) heads work u && opensIn owners offsets targets alpha held below work u) ≡ false
       go u (inl m) = rw (m, w .inside u m)
       go u (inr m) = rw m
 

@@ -1,11 +1,12 @@
-// Whether R is open: the first edge that decides leaves the loop.
+// Whether R is open, by its heads: the first edge that decides leaves the loop.
 use walk::Members;
 use walk::Next;
 ghost use mathlib.Core.Path.{_≡_};
 ghost use Rattle.promotion_tests.specs.Opening.{isOpenIn};
 ghost use Rattle.promotion_tests.specs.Escapes.{Openable};
 
-// An opponent's vertex of R has an edge into the last level, which stands at `below`, or an own one has none into R.
+// An opponent's head of R, of those at `heads`, has an edge into the last level, at `below`, or an own one has none into
+// R, at `held`. No other vertex of R opens it.
 pub fn is_open(
     owners: &[u8],
     offsets: &[u16],
@@ -13,17 +14,18 @@ pub fn is_open(
     alpha: u8,
     s: usize,
     work: &[u64],
+    heads: usize,
     held: usize,
     below: usize,
 ) -> bool
-    requires { ⌜ Openable (now owners) (now offsets) (now targets) s held below (now work) ⌝ }
+    requires { ⌜ Openable (now owners) (now offsets) (now targets) s heads held below (now work) ⌝ }
     ensures { λ r.
-        ⌜ r ≡ isOpenIn (now (owners .entry)) (now (offsets .entry)) (now (targets .entry)) alpha held below
+        ⌜ r ≡ isOpenIn (now (owners .entry)) (now (offsets .entry)) (now (targets .entry)) alpha heads held below
         (now (work .entry)) ⌝ }
 {
-    let mut walk = Members::new(&work[held..held + s]);
+    let mut walk = Members::new(&work[heads..heads + s]);
     'vertices: loop {
-        let next = walk.next(&work[held..held + s]);
+        let next = walk.next(&work[heads..heads + s]);
         let Next::Member(index, rest) = next else {
             return false;
         };

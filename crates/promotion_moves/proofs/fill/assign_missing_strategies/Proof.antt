@@ -1,4 +1,4 @@
--- `assign_missing_strategies` meets its contract: the members of R that the walk has passed have got what they lacked.
+-- `assign_missing_strategies` meets its contract: the heads of R that the walk has passed have got what they lacked.
 use Rattle.promotion_moves.specs.Filling.{Fills, fill-walkable, fill-ready, fill-turn}
 use mathlib.Core.List.{List, _∷_}
 use mathlib.Core.Path.{_≡_, subst}
@@ -13,13 +13,13 @@ use Rattle.promotion_moves.proofs.fill.assign_missing_strategies.Statem
 use Rattle.promotion_moves.proofs.fill.assign_missing_strategies.Tie as tie
 
 abbrev Inv-loop : tie.InvT-loop
-Inv-loop owners offsets targets alpha s work₀ held entries walk₀ work walk =
-    WalkedTo (length owners) held (Beside (length owners) entries) Always (wordOf entries)
+Inv-loop owners offsets targets alpha s work₀ heads held entries walk₀ work walk =
+    WalkedTo (length owners) heads (Beside (length owners) entries) Always (wordOf entries)
     (Fills owners offsets targets alpha (setAt (length owners) held work₀)) work₀ walk work
 
 abbrev μ-loop : tie.MeasureT-loop
-μ-loop owners offsets targets alpha s work₀ held entries walk₀ work walk =
-    length (left (wordsAt (length owners) held work₀) walk)
+μ-loop owners offsets targets alpha s work₀ heads held entries walk₀ work walk =
+    length (left (wordsAt (length owners) heads work₀) walk)
 
 -- where the function begins, and the loop's head of a turn
 abbrev start-of : tie.At-loop Inv-loop μ-loop → tie.Start Inv-loop μ-loop
@@ -39,7 +39,7 @@ after c = c .next2 .given .0 .1 .0
 abbrev part : tie.At-loop Inv-loop μ-loop → List ℕ
 part c =
     let a = start-of c .args in
-    take ((a .held + a .s) - a .held) (drop (a .held) (c .loop .work))
+    take ((a .heads + a .s) - a .heads) (drop (a .heads) (c .loop .work))
 
 moved :
     (c : tie.After-next2 Inv-loop μ-loop) →
@@ -49,7 +49,7 @@ moved c = subst (Walks (part (turn c)) (turn c .loop .walk)) (c .next2 .given .1
 walkable :
     (g : tie.Start Inv-loop μ-loop) →
     let a = g .args in
-    Walkable (length (a .owners .now)) (a .s) (a .held) (Beside (length (a .owners .now)) (a .entries)) (a .work .now)
+    Walkable (length (a .owners .now)) (a .s) (a .heads) (Beside (length (a .owners .now)) (a .entries)) (a .work .now)
 walkable g = fill-walkable (g .pre)
 
 small : (c : tie.After-next2 Inv-loop μ-loop) → vertex c < (let a = start-of (turn c) .args in length (a .owners .now))

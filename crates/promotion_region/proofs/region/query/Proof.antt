@@ -1,7 +1,9 @@
 -- `query` meets its contract: each call finds what it asks for in what the call before it left.
-use mathlib.Core.Logic.{inl, inr}
+use mathlib.Core.Logic.{inr}
 use native.Mathlib.Omega.{arith}
-use Rattle.promotion_region.specs.Query.{given-attract, given-fits, given-queried}
+use mathlib.Core.Path.{_∙_}
+use lib.ListN.{length}
+use Rattle.promotion_region.specs.Query.{given-attract, given-fits, given-place, given-meets, given-queried}
 use borrow.Author.Needs.{needs}
 use Rattle.promotion_region.proofs.region.query.Statement.{statement}
 use Rattle.promotion_region.proofs.region.query.Tie as tie
@@ -31,14 +33,57 @@ without-requires c κs =
       record { into-fits = omega arith; from-fits = omega arith; apart = inr (omega arith) },
     )
 
+-- where R is drawn in, from where the level after has lost it, and that place from where the set of p is known
+abbrev drawn-of : tie.After-without → tie.After-attract
+drawn-of c = c .before .before .before .before
+
+abbrev lost-of : tie.After-set-at → tie.After-without
+lost-of c = c .before .before .before
+
+set-at-requires : tie.Need-set-at-requires
+set-at-requires c κs = given-place (start-of (drawn-of (c .before .before)) .pre)
+
+add-meet : tie.Need-add-meet
+add-meet c =
+    let g = start-of (drawn-of (lost-of (c .before))) in omega (arith, given-fits (g .pre) .0, g .good)
+
+add-meet-2 : tie.Need-add-meet-2
+add-meet-2 c =
+    let g = start-of (drawn-of (lost-of (c .before))) in omega (arith, given-fits (g .pre) .0, g .good)
+
+meet-requires : tie.Need-meet-requires
+meet-requires c κs =
+    let lost = lost-of (c .before) in
+    let drawn = drawn-of lost in
+    let g = start-of drawn in
+    let q = g .pre in
+    given-meets q (c .before .set-at .ensures)
+    (lost .without .ensures (length (g .args .owners .now)) (q .ready .size) .long ∙
+    drawn .attract .ensures (q .priorities) (q .accepted) .long)
+
 same-length : tie.Need-same-length
 same-length c = search needs
 
 returns : tie.Need-returns
 returns c priorities ok ready =
-    let made = c .before .before in
-    let drawn = made .before .before .before .before in
-    given-queried (start-of drawn .pre) priorities ok ready (drawn .attract .ensures priorities ok) (made .without .ensures)
+    let met = c .before .before in
+    let known = met .before .before in
+    let lost = lost-of known in
+    let drawn = drawn-of lost in
+    given-queried (start-of drawn .pre) priorities ok ready (drawn .attract .ensures priorities ok) (lost .without .ensures)
+    (known .set-at .ensures) (met .meet .ensures)
 
 pub query-spec : {M : Type 1} → statement M
-query-spec = tie.close (tie.spec cast-alpha attract-requires add-without without-requires same-length returns)
+query-spec =
+    tie.close
+    (tie.spec
+    cast-alpha
+    attract-requires
+    add-without
+    without-requires
+    set-at-requires
+    add-meet
+    add-meet-2
+    meet-requires
+    same-length
+    returns)

@@ -6,7 +6,7 @@ use lib.ListN.{length, getD}
 use Rattle.promotion_levels.specs.Layout.{endAt, Ready}
 use Rattle.promotion_region.specs.Query.{Queried}
 use Rattle.promotion_moves.specs.Promotion.{Promotable}
-use Rattle.promotion_rounds.specs.Round.{Placed, placed-by, round-places, round-depth, base-room, round-query}
+use Rattle.promotion_rounds.specs.Round.{Begins, begins-by, round-places, round-depth, base-room, round-query}
 use Rattle.promotion_rounds.specs.Round.{round-openable, round-descend, opened-same, round-opens, round-fill}
 use Rattle.promotion_rounds.specs.Round.{filled-long, round-escapable, top-fits, round-promotable, promoted-same}
 use Rattle.promotion_rounds.specs.Round.{round-promotes, round-dominion, round-first, solved-same, round-solves}
@@ -22,24 +22,21 @@ first h = h .before .before .before .before .before .before
 abbrev placed : tie.After-query → tie.After-levels-at
 placed q = q .before .before .before .before
 
--- R, the levels and the current level's number are where they should be
+-- R, the levels and the current level's number are where they should be, with what else a round begins with
 at :
     (l : tie.After-levels-at) →
     let a = first (l .before) .args in
     let h = l .before .held-at .result in
-    Placed (length (a .owners .now)) (length (a .targets .now)) (a .s) h (l .levels-at .result)
-    (getD (a .work .now) (h + 3 * a .s) 0) (a .work .now)
-at l =
-    let a = first (l .before) .args in
-    placed-by (length (a .owners .now)) (length (a .targets .now)) (a .s) (a .work .now) (l .before .held-at .ensures)
-    (l .levels-at .ensures)
+    Begins (a .owners .now) (a .priorities .now) (a .offsets .now) (a .targets .now) (a .s) (a .state .current .0) h
+    (l .levels-at .result) (getD (a .work .now) (h + 3 * a .s) 0) (a .work .now)
+at l = begins-by (first (l .before) .pre) (l .before .held-at .ensures) (l .levels-at .ensures)
 
--- the level after the current one has room
+-- the two levels after the current one have room
 room :
     (l : tie.After-levels-at) →
     let a = first (l .before) .args in
     let k = getD (a .work .now) (l .before .held-at .result + 3 * a .s) 0 in
-    l .levels-at .result + k * a .s + a .s + a .s ≤ length (a .work .now)
+    l .levels-at .result + k * a .s + a .s + a .s + a .s ≤ length (a .work .now)
 room l = let g = first (l .before) in base-room (g .pre .accepted) (g .pre .made) (g .pre .shows) (at l)
 
 -- the query, where it is known whether R is open
@@ -105,16 +102,21 @@ cast-alpha c = search needs
 add-rounds : tie.Need-add-rounds
 add-rounds c = search needs
 
+add-below : tie.Need-add-below
+add-below c =
+    let l = c .before .before in
+    omega (arith, room l, first (l .before) .good)
+
+add-heads : tie.Need-add-heads
+add-heads c =
+    let l = c .before .before in
+    omega (arith, room l, first (l .before) .good)
+
 query-requires : tie.Need-query-requires
 query-requires c κs =
     let l = c .before .before .before in
     let g = first (l .before) in
     round-query (g .pre .accepted) (g .pre .made) (g .pre .shows) (at l)
-
-add-is-open : tie.Need-add-is-open
-add-is-open c =
-    let l = placed (c .before .before .before) in
-    omega (arith, room l, first (l .before) .good)
 
 is-open-requires : tie.Need-is-open-requires
 is-open-requires c κs =
@@ -171,17 +173,17 @@ returns c =
       rest = same .1;
     }
 
-add-entries : tie.Need-add-entries
-add-entries c = search needs
+add-entry : tie.Need-add-entry
+add-entry c = search needs
 
-add-entries-2 : tie.Need-add-entries-2
-add-entries-2 c = search needs
+add-entry-2 : tie.Need-add-entry-2
+add-entry-2 c = search needs
 
-add-entries-3 : tie.Need-add-entries-3
-add-entries-3 c = search needs
+add-entry-3 : tie.Need-add-entry-3
+add-entry-3 c = search needs
 
-add-entries-4 : tie.Need-add-entries-4
-add-entries-4 c = search needs
+add-entry-4 : tie.Need-add-entry-4
+add-entry-4 c = search needs
 
 assign-missing-strategies-requires : tie.Need-assign-missing-strategies-requires
 assign-missing-strategies-requires c κs =
@@ -443,18 +445,19 @@ round-spec =
     add-base
     cast-alpha
     add-rounds
+    add-below
+    add-heads
     query-requires
-    add-is-open
     is-open-requires
     one-less-requires
     add-descend
     descend-requires
     same-length
     returns
-    add-entries
-    add-entries-2
-    add-entries-3
-    add-entries-4
+    add-entry
+    add-entry-2
+    add-entry-3
+    add-entry-4
     assign-missing-strategies-requires
     best-escape-requires
     add-q

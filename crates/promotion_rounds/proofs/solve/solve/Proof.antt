@@ -210,7 +210,7 @@ module _ {M : Type 1} (𝓤 : URA M) (H : Heap 𝓤) (A : Atoms 𝓤) (W : Given
 
       abbrev ready : RoundReady (owners .now) (priorities .now) (offsets .now) (targets .now) s (h .current .0)
           (h .unsolved) (h .rounds) zs
-      ready = reached-ready (t .reached)
+      ready = reached-ready (t .reached) more
           (omega (arith, left, are .1 .1 .1 .1 .0 .1))
 
       abbrev Done : State → List ℕ → Type 0

@@ -1,4 +1,4 @@
--- `is_open` meets its contract: no vertex of R that the walk has passed makes it open, and no edge before place e decides.
+-- `is_open` meets its contract: no head of R that the walk has passed makes it open, and no edge before place e decides.
 use Prim.Native.Nat.{ℕ, _+_, _-_, _≤_, _<_}
 use native.Mathlib.Nat.{le-refl}
 use native.Mathlib.Omega.{arith}
@@ -22,20 +22,20 @@ use Rattle.promotion_tests.proofs.open.is_open.Statement.{statement}
 use Rattle.promotion_tests.proofs.open.is_open.Tie as tie
 
 abbrev Inv-loop : tie.InvT-loop
-Inv-loop owners offsets targets alpha s work held below walk v own place e₀ e-end e =
+Inv-loop owners offsets targets alpha s work heads held below walk v own place e₀ e-end e =
     (getD offsets v 0 ≤ e) ×
     (e ≤ getD offsets (v + 1) 0) ×
     NoneBefore offsets targets v (setAt (length owners) place work) e
 
 abbrev μ-loop : tie.MeasureT-loop
-μ-loop owners offsets targets alpha s work held below walk v own place e₀ e-end e = e-end - e
+μ-loop owners offsets targets alpha s work heads held below walk v own place e₀ e-end e = e-end - e
 
 abbrev Inv-vertices : tie.InvT-vertices
-Inv-vertices owners offsets targets alpha s work held below walk₀ walk =
-    Passed (length owners) held (Shut owners offsets targets alpha held below work) work walk
+Inv-vertices owners offsets targets alpha s work heads held below walk₀ walk =
+    Passed (length owners) heads (Shut owners offsets targets alpha held below work) work walk
 
 abbrev μ-vertices : tie.MeasureT-vertices
-μ-vertices owners offsets targets alpha s work held below walk₀ walk = length (left (wordsAt (length owners) held work) walk)
+μ-vertices owners offsets targets alpha s work heads held below walk₀ walk = length (left (wordsAt (length owners) heads work) walk)
 
 -- where the function begins, and the outer loop's head of a turn
 abbrev start-of : tie.At-vertices Inv-loop μ-loop Inv-vertices μ-vertices → tie.Start Inv-loop μ-loop Inv-vertices μ-vertices
@@ -64,9 +64,9 @@ told c = c .before .before .before
 abbrev outer : tie.At-loop Inv-loop μ-loop Inv-vertices μ-vertices → tie.After-next2 Inv-loop μ-loop Inv-vertices μ-vertices
 outer c = told (joined c)
 
--- the words of R as they are lent
+-- the words of the heads as they are lent
 abbrev part : tie.Start Inv-loop μ-loop Inv-vertices μ-vertices → List ℕ
-part g = let a = g .args in take ((a .held + a .s) - a .held) (drop (a .held) (a .work .now))
+part g = let a = g .args in take ((a .heads + a .s) - a .heads) (drop (a .heads) (a .work .now))
 
 moved :
     (c : tie.After-next2 Inv-loop μ-loop Inv-vertices μ-vertices) →
@@ -79,7 +79,7 @@ small c = walked-small (escape-walkable (first c .pre .escapes)) (turn c .vertic
 member :
     (c : tie.After-next2 Inv-loop μ-loop Inv-vertices μ-vertices) →
     let a = first c .args in
-    setAt (length (a .owners .now)) (a .held) (a .work .now) (vertex c) ≡ true
+    setAt (length (a .owners .now)) (a .heads) (a .work .now) (vertex c) ≡ true
 member c = walked-member (escape-walkable (first c .pre .escapes)) (turn c .vertices .inv) (after c) (moved c)
 
 -- its edges
@@ -103,7 +103,7 @@ fits :
 fits c =
     let g = first (told c) in
     ⊎-elim
-    (λ y. omega (arith, y .1, g .pre .escapes .size, g .pre .escapes .high))
+    (λ y. omega (arith, y .1, g .pre .escapes .size, g .pre .held-room))
     (λ y. omega (arith, y .1, g .pre .escapes .size, g .pre .room))
     (looked c)
 
@@ -135,7 +135,7 @@ passed :
     (c : tie.After-next2 Inv-loop μ-loop Inv-vertices μ-vertices) →
     let a = first c .args in
     Shut (a .owners .now) (a .offsets .now) (a .targets .now) (a .alpha) (a .held) (a .below) (a .work .now) (vertex c) →
-    Passed (length (a .owners .now)) (a .held)
+    Passed (length (a .owners .now)) (a .heads)
     (Shut (a .owners .now) (a .offsets .now) (a .targets .now) (a .alpha) (a .held) (a .below) (a .work .now))
     (a .work .now) (after c)
 passed c shut =
@@ -144,7 +144,7 @@ passed c shut =
 shorter :
     (c : tie.After-next2 Inv-loop μ-loop Inv-vertices μ-vertices) →
     let a = first c .args in
-    let xs = wordsAt (length (a .owners .now)) (a .held) (a .work .now) in
+    let xs = wordsAt (length (a .owners .now)) (a .heads) (a .work .now) in
     length (left xs (after c)) < length (left xs (turn c .vertices .walk))
 shorter c = walked-shorter (escape-walkable (first c .pre .escapes)) (turn c .vertices .inv) (after c) (moved c)
 
@@ -200,7 +200,7 @@ returns c =
     let d = c .before .before .before .before in
     let g = start-of d in
     let a = g .args in
-    open-none (a .owners .now) (a .offsets .now) (a .targets .now) (a .alpha) (a .held) (a .below) (a .work .now)
+    open-none (a .owners .now) (a .offsets .now) (a .targets .now) (a .alpha) (a .heads) (a .held) (a .below) (a .work .now)
     (walked-all (escape-walkable (g .pre .escapes)) (d .vertices .inv)
     (subst (Walks (part g) (d .vertices .walk)) (c .enum-told .given .1) (c .before .before .next .ensures)))
 
@@ -314,7 +314,7 @@ returns-2 c =
     let l = c .before .before .before .before .before .before .before in
     let d = outer l in
     let a = first d .args in
-    open-found (a .owners .now) (a .offsets .now) (a .targets .now) (a .alpha) (a .held) (a .below) (a .work .now)
+    open-found (a .owners .now) (a .offsets .now) (a .targets .now) (a .alpha) (a .heads) (a .held) (a .below) (a .work .now)
     (vertex d) (small d) (member d)
     (open-other (a .owners .now) (a .offsets .now) (a .targets .now) (a .alpha) (a .held) (a .below) (a .work .now) (vertex d)
     (joined l .if1 .place) (c .if3 .left) (looked (joined l)) (found (c .before)))
@@ -343,7 +343,7 @@ returns-3 c =
     let l = c .before .before in
     let d = outer l in
     let a = first d .args in
-    open-found (a .owners .now) (a .offsets .now) (a .targets .now) (a .alpha) (a .held) (a .below) (a .work .now)
+    open-found (a .owners .now) (a .offsets .now) (a .targets .now) (a .alpha) (a .heads) (a .held) (a .below) (a .work .now)
     (vertex d) (small d) (member d)
     (open-own (a .owners .now) (a .offsets .now) (a .targets .now) (a .alpha) (a .held) (a .below) (a .work .now) (vertex d)
     (joined l .if1 .place) (c .if4 .taken) (looked (joined l)) (none (c .before)))
