@@ -6,17 +6,16 @@ ghost use mathlib.Core.List.{List};
 ghost use mathlib.Core.Path.{_≡_};
 ghost use Prim.Native.Nat.{ℕ, _+_, _*_, _≤_};
 ghost use lib.ListN.{length};
-ghost use Rattle.rules.specs.Counting.{count};
-ghost use Rattle.area.specs.Area.{setAt};
+ghost use Rattle.area.specs.Area.{setAt, sizeAt};
 ghost use Rattle.highest_priority.specs.Parts.{highestOf};
 ghost use Rattle.rules.specs.Game.{playerOf};
 ghost use Rattle.rules.specs.Tables.{Accepted, tablesOf};
 ghost use Rattle.quasi_level.specs.Level.{Held, HeldUnder, Ready, TopCut, Droppable, Dropped, Settled, GaveUp, TurnedOver};
 
-// The number of vertices of V.
+// The size of V.
 pub fn size_at(n: usize, s: usize, work: &[u64], base: usize) -> usize
     requires { ⌜ Held n s base (now work) ⌝ }
-    ensures { λ r. ⌜ r ≡ count n (setAt n base (now (work .entry))) ⌝ }
+    ensures { λ r. ⌜ r ≡ sizeAt n base (now (work .entry)) ⌝ }
 {
     sets::size(&work[base..base + s])
 }

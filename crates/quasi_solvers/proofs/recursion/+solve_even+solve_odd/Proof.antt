@@ -1,5 +1,5 @@
 -- `solve_even` and `solve_odd` meet their contracts together. The number that falls from call to call is the height; in the
--- loop of passes it is made of the vertices of V and the stages that are left. Each answer cites the law of the piece, for
+-- loop of passes it is made of the size of V and the stages that are left. Each answer cites the law of the piece, for
 -- either player.
 use mathlib.Core.List.{List}
 use mathlib.Core.Logic.{inl, inr}
