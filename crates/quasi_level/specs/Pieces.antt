@@ -210,23 +210,24 @@ module _ {t : Tables} {s base : ℕ} {w₀ w₁ : List ℕ} (ready : Ready t s b
         ap (λ (b : Bool). b && eqb (getD (t .priorities) v 0) p) (level-stays (ready .low) (omega arith) stays₁ v)
 
     -- what `attract` asks for
-    pub top-attractable : Attractable (t .owners) (t .offsets) (t .targets) (p % 2) base (base + s) w₂
-    top-attractable =
-        attractable (ready-stays stays₂ ready) (omega arith)
+    pub top-attractable : {alpha : ℕ} → alpha ≤ 1 → Attractable (t .owners) (t .offsets) (t .targets) alpha base (base + s) w₂
+    top-attractable side =
+        attractable (ready-stays stays₂ ready) side
         (λ v q. level₂ v ∙ and-left (onLevel t base w₀ v) (eqb (gameOf t .priority v) p) (sym (top-set v) ∙ q))
 
     -- **V without what is drawn to p stands at the next level.**
     pub top-made :
-        {looks : ℕ} {w₃ w₄ w₅ : List ℕ} →
-        Attracted t (parity p) base (base + s) w₂ w₃ looks →
+        {a : Player} {looks : ℕ} {w₃ w₄ w₅ : List ℕ} →
+        a ≡ parity p →
+        Attracted t a base (base + s) w₂ w₃ looks →
         Combined other (base + 8 * s) base s w₃ w₄ →
         Combined _-_ (base + 8 * s) (base + s) s w₄ w₅ →
         TopCut t p base w₀ w₅
-    top-made {looks} {w₃} {w₄} {w₅} drawn copied reduced =
+    top-made {looks = looks} {w₃} {w₄} {w₅} whose drawn copied reduced =
         record { stays = stays-on (stays-on stays₂ drawn-stays) above; rest = rest }
       where
         drawn′ : Attracted t (parity p) base (base + words (vertices t)) w₂ w₃ looks
-        drawn′ = rw size at drawn
+        drawn′ = rw (size, whose) at drawn
 
         copied′ : Combined other (base + 8 * words (vertices t)) base (words (vertices t)) w₃ w₄
         copied′ = rw size at copied
