@@ -7,6 +7,7 @@ use lib.ListN.{take, drop, getD}
 use Rattle.rules.specs.Counting.{Set}
 use Rattle.rules.specs.Tables.{words}
 use Rattle.rules.specs.Words.{setOf}
+use Rattle.sets.specs.Size.{size}
 
 abbrev pub counters : ℕ → ℕ → ℕ
 counters n m = n + 1 + m
@@ -38,6 +39,10 @@ wordsAt n base work = take (words n) (drop base work)
 -- that set
 abbrev pub setAt : ℕ → ℕ → List ℕ → Set
 setAt n base work = setOf (wordsAt n base work)
+
+-- and its size, by the ones of its words
+abbrev pub sizeAt : ℕ → ℕ → List ℕ → ℕ
+sizeAt n base work = size (wordsAt n base work)
 
 -- the distance and the entry of v
 abbrev pub distanceAt : ℕ → ℕ → List ℕ → ℕ → ℕ

@@ -8,23 +8,12 @@ use parity_game::STRAY_BIT;
 ghost use mathlib.Core.Path.{_≡_};
 ghost use Prim.Native.Nat.{_≤_};
 ghost use lib.ListN.{length};
-ghost use Rattle.rules.specs.Game.{playerOf};
 ghost use Rattle.rules.specs.Outcome.{outcome, answered};
 ghost use Rattle.rules.specs.Attractor.{check12};
 ghost use Rattle.rules.specs.Tables.{words, tablesOf, Accepted};
 ghost use Rattle.parity_game.specs.Said.{said, is};
 ghost use Rattle.rules.specs.Attracts.{Attracts};
 ghost use Rattle.attractor_door.specs.Door.{stray, Bits, sizeChecks, lentChecks};
-
-// alpha's number, 0 or 1.
-fn side(player: Player) -> u8
-    ensures { λ r. ⌜ (playerOf r ≡ is player) × (r ≤ 1) ⌝ }
-{
-    match player {
-        Player::Even => 0,
-        Player::Odd => 1,
-    }
-}
 
 // A bit at n or above in either set, or a target bit not in V.
 fn is_stray(n: usize, within: &[u64], target: &[u64], b: usize) -> bool
@@ -176,7 +165,7 @@ pub fn attractor(
         return verdict;
     }
     let w = parity_game::work_words(n, m);
-    let alpha = side(player);
+    let alpha = player.index();
     Answer::Answered(attractor_run::run(
         owners,
         offsets,

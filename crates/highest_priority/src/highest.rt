@@ -43,9 +43,16 @@ pub fn get_highest_prio(priorities: &[u16], set: &[u64], top: usize) -> Priority
 }
 
 // U: the members of V with priority p, found by words.
-pub fn collect(priorities: &[u16], p: usize, s: usize, work: &mut [u64], within: usize, into: usize)
+pub fn collect(
+    priorities: &[u16],
+    p: Priority,
+    s: usize,
+    work: &mut [u64],
+    within: usize,
+    into: usize,
+)
     requires { ⌜ Collects (length (now priorities)) s within into (now work) ⌝ }
-    ensures { λ r. ⌜ Collected (now (priorities .entry)) p within into (now (work .entry)) (now (work .exit)) ⌝ }
+    ensures { λ r. ⌜ Collected (now (priorities .entry)) (p .0) within into (now (work .entry)) (now (work .exit)) ⌝ }
 {
     let mut walk = Members::new(&work[within..within + s]);
     loop {
@@ -54,7 +61,7 @@ pub fn collect(priorities: &[u16], p: usize, s: usize, work: &mut [u64], within:
             return;
         };
         let v = member.0;
-        if priorities[v] as usize == p {
+        if priorities[v] as usize == p.0 {
             sets::insert(&mut work[into..into + s], v);
         }
         walk = rest;
@@ -67,14 +74,14 @@ pub fn extend_lowest(
     owners: &[u8],
     offsets: &[u16],
     targets: &[u16],
-    p: usize,
+    p: Priority,
     s: usize,
     work: &mut [u64],
     base: usize,
 )
     requires { ⌜ Extends (now owners) (now offsets) (now targets) s base (now work) ⌝ }
     ensures { λ r.
-        ⌜ Extended (now (owners .entry)) (now (offsets .entry)) (now (targets .entry)) p s base
+        ⌜ Extended (now (owners .entry)) (now (offsets .entry)) (now (targets .entry)) (p .0) s base
         (now (work .entry)) (now (work .exit)) ⌝ }
 {
     let n = owners.len();
@@ -87,7 +94,7 @@ pub fn extend_lowest(
             return;
         };
         let v = member.0;
-        if owners[v] as usize == p % 2 {
+        if owners[v] as usize == p.0 % 2 {
             let w = lowest_inside(n, offsets, targets, v, &work[base..base + s]);
             work[n + 1 + m + n + n + v] = w;
         }

@@ -1,5 +1,6 @@
 // Vertex numbers and priorities kept apart, and the two players.
 ghost use mathlib.Core.Path.{_≡_};
+ghost use Prim.Native.Nat.{_≤_};
 ghost use Rattle.rules.specs.Game.{opponent, parity, playerOf};
 ghost use Rattle.parity_game.specs.Said.{is};
 
@@ -31,6 +32,16 @@ impl Player {
         ensures { λ r. ⌜ is r ≡ playerOf i ⌝ }
     {
         if i == 0 { Player::Even } else { Player::Odd }
+    }
+
+    // 0 for Even, 1 for Odd.
+    pub fn index(self) -> u8
+        ensures { λ r. ⌜ (playerOf r ≡ is self) × (r ≤ 1) ⌝ }
+    {
+        match self {
+            Player::Even => 0,
+            Player::Odd => 1,
+        }
     }
 
     pub fn opponent(self) -> Player

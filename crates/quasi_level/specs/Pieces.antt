@@ -4,12 +4,11 @@ use mathlib.Core.List.{List}
 use mathlib.Core.Logic.{_⊎_, inl, inr}
 use mathlib.Core.Path.{_≡_, refl, sym, ap, ap₂, subst₂, fun-ext, _∙_}
 use Prim.Native.Nat.{ℕ, _+_, _-_, _*_, _%_, _≤_, _<_}
-use native.Mathlib.Nat.{add-zero}
 use native.Mathlib.Omega.{arith}
 use borrow.Author.Tests.{not-true, not-false}
 use lib.Dec.{eqb}
 use lib.ListN.{length, getD, take, drop, length-take}
-use Rattle.rules.specs.Counting.{Set, without, some, count}
+use Rattle.rules.specs.Counting.{Set, without, some}
 use Rattle.rules.specs.Game.{Player, parity, playerOf}
 use Rattle.rules.specs.Tables.{Tables, gameOf, vertices, edgesIn, words, Accepted, tablesOf}
 use Rattle.rules.specs.Attractor.{attractor}
@@ -18,11 +17,11 @@ use Rattle.rules.specs.Zielonka.{withPriority}
 use Rattle.sets.specs.After.{Parts, Combined, Cleared, other}
 use Rattle.sets.specs.Laws.{bit-other, no-member}
 use Rattle.theory.specs.Attractor.{attractor-below}
-use Rattle.basics.specs.Basics.{lt-or-ge, and-left, not-true-is-false, some-elim, count-on, count-none}
+use Rattle.basics.specs.Basics.{lt-or-ge, and-left, not-true-is-false, some-elim}
 use Rattle.accepted.specs.Tables.{accepted-sound}
 use Rattle.area.specs.Area.{free, wordsAt, setAt}
 use Rattle.area.specs.SetsAt.{set-kept, set-cleared, set-copied-here, set-reduced}
-use Rattle.area.specs.Lent.{part-length, words-cover, words-few}
+use Rattle.area.specs.Lent.{words-few}
 use Rattle.area.specs.Walking.{lent-part}
 use Rattle.attractor.specs.Attracted.{Attractable, Attracted}
 use Rattle.attractor.specs.Attracted.{listed-kept}
@@ -211,23 +210,24 @@ module _ {t : Tables} {s base : ℕ} {w₀ w₁ : List ℕ} (ready : Ready t s b
         ap (λ (b : Bool). b && eqb (getD (t .priorities) v 0) p) (level-stays (ready .low) (omega arith) stays₁ v)
 
     -- what `attract` asks for
-    pub top-attractable : Attractable (t .owners) (t .offsets) (t .targets) (p % 2) base (base + s) w₂
-    top-attractable =
-        attractable (ready-stays stays₂ ready) (omega arith)
+    pub top-attractable : {alpha : ℕ} → alpha ≤ 1 → Attractable (t .owners) (t .offsets) (t .targets) alpha base (base + s) w₂
+    top-attractable side =
+        attractable (ready-stays stays₂ ready) side
         (λ v q. level₂ v ∙ and-left (onLevel t base w₀ v) (eqb (gameOf t .priority v) p) (sym (top-set v) ∙ q))
 
     -- **V without what is drawn to p stands at the next level.**
     pub top-made :
-        {looks : ℕ} {w₃ w₄ w₅ : List ℕ} →
-        Attracted t (parity p) base (base + s) w₂ w₃ looks →
+        {a : Player} {looks : ℕ} {w₃ w₄ w₅ : List ℕ} →
+        a ≡ parity p →
+        Attracted t a base (base + s) w₂ w₃ looks →
         Combined other (base + 8 * s) base s w₃ w₄ →
         Combined _-_ (base + 8 * s) (base + s) s w₄ w₅ →
         TopCut t p base w₀ w₅
-    top-made {looks} {w₃} {w₄} {w₅} drawn copied reduced =
+    top-made {looks = looks} {w₃} {w₄} {w₅} whose drawn copied reduced =
         record { stays = stays-on (stays-on stays₂ drawn-stays) above; rest = rest }
       where
         drawn′ : Attracted t (parity p) base (base + words (vertices t)) w₂ w₃ looks
-        drawn′ = rw size at drawn
+        drawn′ = rw (size, whose) at drawn
 
         copied′ : Combined other (base + 8 * words (vertices t)) base (words (vertices t)) w₃ w₄
         copied′ = rw size at copied
@@ -354,35 +354,18 @@ module _ (n s at : ℕ) (w : List ℕ) (size : s ≡ words n) {r : Bool}
         (v, p)
 
 module _ {n s at : ℕ} {w : List ℕ} (held : Held n s at w) where
-  lent-is : take ((at + s) - at) (drop at w) ≡ wordsAt n at w
-  lent-is = lent-part n s at w (held .size)
+  -- the words lent are its own
+  pub held-lent : take ((at + s) - at) (drop at w) ≡ wordsAt n at w
+  held-lent = lent-part n s at w (held .size)
 
   -- a set of few vertices has few words
   pub held-few : length (take ((at + s) - at) (drop at w)) ≤ 64
   held-few =
       let few = words-few n (held .few) in
-      rw lent-is (omega (arith, length-take (words n) (drop at w)))
+      rw held-lent (omega (arith, length-take (words n) (drop at w)))
 
   held-searchable : Searchable n (take ((at + s) - at) (drop at w))
-  held-searchable = record { few = held-few; below = rw lent-is (held .below) }
-
-  -- the vertices among the bits of its words are those below n
-  pub held-count :
-      count (64 * length (take ((at + s) - at) (drop at w))) (setOf (take ((at + s) - at) (drop at w))) ≡
-      count n (setAt n at w)
-  held-count =
-      rw lent-is
-      (let cover = words-cover n in
-      let high = held .high in
-      let size = held .size in
-      let long : length (wordsAt n at w) ≡ words n = part-length at (words n) w (omega arith) in
-      let more : 64 * length (wordsAt n at w) ≡ n + (64 * words n - n) = omega arith in
-      ap (λ (k : ℕ). count k (setAt n at w)) more ∙
-      count-on n (64 * words n - n) (setAt n at w) ∙
-      ap (λ (k : ℕ). count n (setAt n at w) + k)
-      (count-none (64 * words n - n) (λ k. setAt n at w (n + k))
-      (λ v l. not-true-is-false (setAt n at w (n + v)) (λ p. let less = held .below (n + v) p in omega arith))) ∙
-      add-zero (count n (setAt n at w)))
+  held-searchable = record { few = held-few; below = rw held-lent (held .below) }
 
 -- a set below a height can be searched
 pub held-under :

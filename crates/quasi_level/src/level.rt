@@ -2,34 +2,41 @@
 // on, and the solver below leaves what it found in the place of its V. `s` is the words of a set.
 use crate::passes::Passes;
 use crate::passes::Sharp;
+use parity_game::Player;
+use parity_game::Priority;
 ghost use mathlib.Core.List.{List};
 ghost use mathlib.Core.Path.{_≡_};
 ghost use Prim.Native.Nat.{ℕ, _+_, _*_, _≤_};
 ghost use lib.ListN.{length};
-ghost use Rattle.rules.specs.Counting.{count};
-ghost use Rattle.area.specs.Area.{setAt};
+ghost use Rattle.area.specs.Area.{setAt, sizeAt};
 ghost use Rattle.highest_priority.specs.Parts.{highestOf};
 ghost use Rattle.rules.specs.Game.{playerOf};
 ghost use Rattle.rules.specs.Tables.{Accepted, tablesOf};
 ghost use Rattle.quasi_level.specs.Level.{Held, HeldUnder, Ready, TopCut, Droppable, Dropped, Settled, GaveUp, TurnedOver};
 
-// The number of vertices of V.
+// The size of V.
 pub fn size_at(n: usize, s: usize, work: &[u64], base: usize) -> usize
     requires { ⌜ Held n s base (now work) ⌝ }
-    ensures { λ r. ⌜ r ≡ count n (setAt n base (now (work .entry))) ⌝ }
+    ensures { λ r. ⌜ r ≡ sizeAt n base (now (work .entry)) ⌝ }
 {
     sets::size(&work[base..base + s])
 }
 
 // The highest priority in V, all of whose priorities are below the height.
-pub fn highest_at(priorities: &[u16], s: usize, work: &[u64], base: usize, height: usize) -> usize
+pub fn highest_at(
+    priorities: &[u16],
+    s: usize,
+    work: &[u64],
+    base: usize,
+    height: usize,
+) -> Priority
     requires { ⌜ HeldUnder (now priorities) s base height (now work) ⌝ }
     ensures { λ r.
-        ⌜ r ≡ highestOf (now (priorities .entry))
+        ⌜ r .0 ≡ highestOf (now (priorities .entry))
         (setAt (length (now (priorities .entry))) base (now (work .entry))) ⌝ }
 {
     let top = highest_priority::one_less(height);
-    highest_priority::get_highest_prio(priorities, &work[base..base + s], top).0
+    highest_priority::get_highest_prio(priorities, &work[base..base + s], top)
 }
 
 // U: the vertices of V with priority p; A: the attractor of U for p's player. V without A goes to the next level.
@@ -38,7 +45,7 @@ pub fn attract_top(
     priorities: &[u16],
     offsets: &[u16],
     targets: &[u16],
-    p: usize,
+    p: Priority,
     s: usize,
     work: &mut [u64],
     base: usize,
@@ -46,13 +53,14 @@ pub fn attract_top(
     requires { ⌜ Ready (tablesOf (now owners) (now priorities) (now offsets) (now targets)) s base (now work) ⌝ }
     ensures { λ r.
         ⌜ TopCut (tablesOf (now (owners .entry)) (now (priorities .entry)) (now (offsets .entry))
-        (now (targets .entry))) p base (now (work .entry)) (now (work .exit)) ⌝ }
+        (now (targets .entry))) (p .0) base (now (work .entry)) (now (work .exit)) ⌝ }
 {
     let drawn = base + s;
     let up = base + 8 * s;
     sets::clear(work, drawn, s);
     highest_priority::collect(priorities, p, s, work, base, drawn);
-    attractor::attract(owners, offsets, targets, (p % 2) as u8, work, base, drawn);
+    let alpha = Player::from_priority(p).index();
+    attractor::attract(owners, offsets, targets, alpha, work, base, drawn);
     sets::copy_with(work, up, base, s);
     sets::difference_with(work, up, drawn, s);
 }

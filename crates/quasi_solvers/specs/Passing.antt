@@ -24,7 +24,8 @@ use Rattle.theory.specs.Attractor.{Fits, attractor-is}
 use Rattle.theory.specs.AttractorComplement.{TotalIn, rest-total}
 use Rattle.theory.specs.Run.{Top, highest-top}
 use Rattle.accepted.specs.Tables.{accepted-sound}
-use Rattle.area.specs.Area.{free, setAt}
+use Rattle.area.specs.Area.{free, setAt, sizeAt}
+use Rattle.area.specs.Sizes.{size-at}
 use Rattle.area.specs.SetsAt.{set-kept, set-cleared, set-copied-here, set-reduced}
 use Rattle.attractor.specs.Attracted.{listed-kept}
 use Rattle.separation.specs.Separates.{Separates, separates-over, gives-up, gives-up-empty, precision-cut, passed-over}
@@ -116,10 +117,14 @@ module _ {t : Tables} {a : Player} {base height : ℕ} {w₀ : List ℕ} (called
         let each = accepted-sound t (called .accepted) .priority-each in
         record { held = rw each called-held; under = rw each (called .under) }
 
+    -- the size of V is the number of its vertices
+    vertices-in : sizeAt (vertices t) base w₀ ≡ count (vertices t) (onLevel t base w₀)
+    vertices-in = size-at (vertices t) base w₀ (called .below)
+
     -- V is empty, or the precision is 0
     pub called-gives-up :
         {size′ mine own other : ℕ} {w₁ : List ℕ} {r : Sharp} →
-        size′ ≡ count (vertices t) (onLevel t base w₀) →
+        size′ ≡ sizeAt (vertices t) base w₀ →
         mine ≡ min own size′ →
         mine ≡ 0 →
         GaveUp size′ s base w₀ w₁ r →
@@ -151,7 +156,7 @@ module _ {t : Tables} {a : Player} {base height : ℕ} {w₀ : List ℕ} (called
             not-true-is-false (onLevel t base w₀ v)
             (λ p.
             clash p
-            (count-zero (vertices t) (onLevel t base w₀) (sym counted ∙ eqb-true size′ 0 e) v (called .below v p))))
+            (count-zero (vertices t) (onLevel t base w₀) (sym vertices-in ∙ sym counted ∙ eqb-true size′ 0 e) v (called .below v p))))
             nothing
 
         zero-precision : eqb size′ 0 ≡ false → parted (eqb size′ 0)
@@ -163,14 +168,14 @@ module _ {t : Tables} {a : Player} {base height : ℕ} {w₀ : List ℕ} (called
     -- where V has a vertex, what `highest_at` gives is the highest priority in V
     pub called-top :
         {size′ mine p : ℕ} (own : ℕ) →
-        size′ ≡ count (vertices t) (onLevel t base w₀) →
+        size′ ≡ sizeAt (vertices t) base w₀ →
         mine ≡ min own size′ →
         (mine ≡ 0 → ⊥) →
         p ≡ highestOf (t .priorities) (setAt (length (t .priorities)) base w₀) →
         Top (gameOf t) (onLevel t base w₀) (parity p) p
     unfolding gameOf
     called-top {size′} {mine} {p} own counted cut some told =
-        let (v, l, q) = count-some (vertices t) (onLevel t base w₀) (omega (arith, some)) in
+        let (v, l, q) = count-some (vertices t) (onLevel t base w₀) (omega (arith, some, vertices-in)) in
         subst (λ (k : ℕ). Top (gameOf t) (onLevel t base w₀) (parity k) k)
         (sym
         (told ∙
@@ -270,9 +275,9 @@ pub record Going (t : Tables) (a : Player) (base mine full half : ℕ) (w₀ : L
   pub standing :
       Standing (gameOf t) a mine full half (onLevel t base w₀) (passes .stage) (passes .keeps) (passes .drops) (onLevel t base w)
 
--- what falls from pass to pass: the vertices of V, and the stages that are left
+-- what falls from pass to pass: the size of V, and the stages that are left
 abbrev pub toGo : ℕ → ℕ → List ℕ → Passes → ℕ
-toGo n base w passes = 4 * count n (setAt n base w) + (3 - passes .stage)
+toGo n base w passes = 4 * sizeAt n base w + (3 - passes .stage)
 
 module _ {t : Tables} {a : Player} {base height : ℕ} {w₀ : List ℕ} (called : Called t a base height w₀)
     {s : ℕ} (size : s ≡ words (vertices t)) {p : ℕ} (top : Top (gameOf t) (onLevel t base w₀) (parity p) p)
@@ -292,6 +297,9 @@ module _ {t : Tables} {a : Player} {base height : ℕ} {w₀ : List ℕ} (called
       inside : (v : ℕ) → onLevel t base w v ≡ true → onLevel t base w₀ v ≡ true
       inside = going .standing .narrowed .inside
 
+      below : (v : ℕ) → onLevel t base w v ≡ true → v < vertices t
+      below v q = called .below v (inside v q)
+
       -- what the first cut asks for
       pub going-ready : Ready t s base w
       going-ready =
@@ -303,7 +311,7 @@ module _ {t : Tables} {a : Player} {base height : ℕ} {w₀ : List ℕ} (called
             size = size;
             low = called .low;
             high = omega (arith, called-high called size top, going .stays .long);
-            below = λ v q. called .below v (inside v q);
+            below = below;
           }
 
       module _ (ours : parity p ≡ a) {w₁ : List ℕ} (cut : TopCut t p base w w₁) where
@@ -322,7 +330,7 @@ module _ {t : Tables} {a : Player} {base height : ℕ} {w₀ : List ℕ} (called
 
         fits : Fits (gameOf t) (onLevel t base w) (withPriority (gameOf t) (onLevel t base w) p)
         unfolding gameOf
-        fits = record { part = λ v q. and-left (onLevel t base w v) _ q; below = λ v q. called .below v (inside v q) }
+        fits = record { part = λ v q. and-left (onLevel t base w v) _ q; below = below }
 
         -- what the solver below asks for
         pub going-called : Called t (opponent a) (base + 8 * s) p w₁
@@ -383,7 +391,7 @@ module _ {t : Tables} {a : Player} {base height : ℕ} {w₀ : List ℕ} (called
                 top = p;
                 mine = ours;
                 most = λ v q. top .most v (inside v q);
-                below = λ v q. called .below v (inside v q);
+                below = below;
                 total = going .standing .narrowed .total;
                 found = separates-over rest (λ v. refl) (solved .parts);
               }
@@ -466,7 +474,7 @@ module _ {t : Tables} {a : Player} {base height : ℕ} {w₀ : List ℕ} (called
             unfolding gameOf
             drawn x =
                 attractor-is (gameOf t) (opponent a) (onLevel t base w) S
-                (record { part = found-in; below = λ v q. called .below v (inside v q) })
+                (record { part = found-in; below = below })
                 .closed
                 .target
                 (x .vertex)
@@ -494,20 +502,25 @@ module _ {t : Tables} {a : Player} {base height : ℕ} {w₀ : List ℕ} (called
                 (called .below (f .vertex) (inside (f .vertex) (found-in (f .vertex) found)))
                 lost
                 (found-in (f .vertex) found) in
+                let smaller = size-at (vertices t) base w₃ (λ v q. below v (without-left (onLevel t base w) B v (sym (left f v) ∙ q))) in
+                let larger = size-at (vertices t) base w below in
                 omega arith
             going-less (inr f) =
                 let rises = stage-nothing-rises (passes .stage) (sub .keeps) half early in
                 let stage = f .stand .stage in
+                let alike : (v : ℕ) → onLevel t base w₃ v ≡ onLevel t base w v =
+                λ v. ap (λ (x : List ℕ). onLevel t base x v) (f .same) ∙ level₂ v in
                 let same : count (vertices t) (onLevel t base w₃) ≡ count (vertices t) (onLevel t base w) =
-                ap (λ (X : Set). count (vertices t) X)
-                (fun-ext (λ v. ap (λ (x : List ℕ). onLevel t base x v) (f .same) ∙ level₂ v)) in
+                ap (λ (X : Set). count (vertices t) X) (fun-ext alike) in
+                let after = size-at (vertices t) base w₃ (λ v q. below v (sym (alike v) ∙ q)) in
+                let before = size-at (vertices t) base w below in
                 omega arith
 
       -- **At the end V is what the solver gives.**
       pub going-ends :
           {own other size′ : ℕ} {r : Sharp} →
           (passes .stage < 3 → ⊥) →
-          size′ ≡ count (vertices t) (onLevel t base w₀) →
+          size′ ≡ sizeAt (vertices t) base w₀ →
           mine ≡ min own size′ →
           full ≡ min other size′ →
           Ended passes mine full size′ r →
@@ -517,6 +530,7 @@ module _ {t : Tables} {a : Player} {base height : ℕ} {w₀ : List ℕ} (called
           let st = going .standing in
           let last : passes .stage ≡ 3 = omega (arith, st .known, late) in
           let few = count-le (vertices t) (onLevel t base w₀) in
+          let counts = vertices-in called size in
           record {
             stays = going .stays;
             parts =

@@ -48,7 +48,7 @@ pub fn solve_even(
     }
     let p = highest_at(priorities, s, work, base, height);
     let up = base + 8 * s;
-    if p % 2 == 1 {
+    if p.0 % 2 == 1 {
         sets::copy_with(work, up, base, s);
         let turned = solve_odd(
             owners,
@@ -57,7 +57,7 @@ pub fn solve_even(
             targets,
             work,
             up,
-            p + 1,
+            p.0 + 1,
             even,
             odd,
         );
@@ -69,7 +69,7 @@ pub fn solve_even(
     while passes.stage < 3 {
         let k = passes.precision(half, o);
         attract_top(owners, priorities, offsets, targets, p, s, work, base);
-        let r = solve_odd(owners, priorities, offsets, targets, work, up, p, e, k);
+        let r = solve_odd(owners, priorities, offsets, targets, work, up, p.0, e, k);
         passes = settle(owners, offsets, targets, 1, s, work, base, r, passes, half);
     }
     passes.sharpness(e, o, size)
@@ -101,7 +101,7 @@ pub fn solve_odd(
     }
     let p = highest_at(priorities, s, work, base, height);
     let up = base + 8 * s;
-    if p % 2 == 0 {
+    if p.0 % 2 == 0 {
         sets::copy_with(work, up, base, s);
         let turned = solve_even(
             owners,
@@ -110,7 +110,7 @@ pub fn solve_odd(
             targets,
             work,
             up,
-            p + 1,
+            p.0 + 1,
             even,
             odd,
         );
@@ -122,7 +122,7 @@ pub fn solve_odd(
     while passes.stage < 3 {
         let k = passes.precision(half, e);
         attract_top(owners, priorities, offsets, targets, p, s, work, base);
-        let r = solve_even(owners, priorities, offsets, targets, work, up, p, k, o);
+        let r = solve_even(owners, priorities, offsets, targets, work, up, p.0, k, o);
         passes = settle(owners, offsets, targets, 0, s, work, base, r, passes, half);
     }
     passes.sharpness(o, e, size)

@@ -4,14 +4,17 @@ use mathlib.Core.List.{List}
 use mathlib.Core.Logic.{_⊎_, inl, inr}
 use mathlib.Core.Path.{_≡_, refl, sym, ap, ap₂, _∙_}
 use Prim.Native.Nat.{ℕ, zero, suc, _+_, _*_, _/_, _%_, _^_, _<_}
+use native.Mathlib.Nat.{mod-one}
+use native.Mathlib.Numerals.{add-one}
 use native.Mathlib.Omega.{arith}
 use borrow.Author.Tests.{eqb-true, eqb-false, eq-eqb}
 use lib.Count.{ones, ones-step}
 use lib.Dec.{eqb, lit<}
 use lib.ListN.{length, getD}
+use lib.Pow.{field, mod-mod-pow}
 use Rattle.rules.specs.Counting.{some, every, count}
 use Rattle.rules.specs.Words.{digit, bit, setOf}
-use Rattle.basics.specs.Basics.{bool-cases, every-intro, every-elim, false-some, some-false, count-cong, count-on, count-first}
+use Rattle.basics.specs.Basics.{bool-cases, every-intro, every-elim, false-some, some-false, count-cong, count-first}
 use Rattle.sets.specs.Digits.{digit-lt, digit-low, digit-up, digit-zero, digits-tell}
 
 -- the bits of word i
@@ -79,27 +82,16 @@ flag-of-digit zero h = refl
 flag-of-digit (suc zero) h = refl
 flag-of-digit (suc (suc d)) h = absurd (omega arith)
 
--- the set digits of a word of j digits
-pub ones-count : (j w : ℕ) → w < 2 ^ j → count j (λ k. eqb (digit w k) 1) ≡ ones w
+-- the set digits among the first j of a word
+pub ones-count : (j w : ℕ) → count j (λ k. eqb (digit w k) 1) ≡ ones (w % 2 ^ j)
 unfolding count ones
-ones-count zero w h =
-    let e : w ≡ 0 = omega arith in
-    ap ones (sym e)
-ones-count (suc j) w h =
+ones-count zero w = ap ones (sym (mod-one w))
+ones-count (suc j) w =
     count-first j (λ k. eqb (digit w k) 1)
     ∙ ap₂ (λ (x y : ℕ). x + y)
-    (flag-of-digit (digit w 0) (digit-lt w 0) ∙ digit-low w)
+    (flag-of-digit (digit w 0) (digit-lt w 0) ∙ digit-low w ∙ sym (mod-mod-pow w j 1))
     (count-cong j (λ k. eqb (digit w (suc k)) 1) (λ k. eqb (digit (w / 2) k) 1) (λ k l. ap (λ (x : ℕ). eqb x 1) (digit-up w k))
-    ∙ ones-count j (w / 2) (omega arith))
-    ∙ sym (ones-step w)
-
--- the members of one word more
-pub size-more : (xs : List ℕ) (i : ℕ) → getD xs i 0 < 2 ^ 64
-    → count (64 * (i + 1)) (setOf xs) ≡ count (64 * i) (setOf xs) + ones (getD xs i 0)
-unfolding setOf
-size-more xs i small =
-    let next : 64 * (i + 1) ≡ 64 * i + 64 = omega arith in
-    ap (λ (x : ℕ). count x (setOf xs)) next ∙ count-on (64 * i) 64 (setOf xs)
-    ∙ ap (λ (x : ℕ). count (64 * i) (setOf xs) + x)
-    (count-cong 64 (λ k. setOf xs (64 * i + k)) (λ k. eqb (digit (getD xs i 0) k) 1) (λ k l. ap (λ (x : ℕ). eqb x 1) (bit-at xs i k l))
-    ∙ ones-count 64 (getD xs i 0) small)
+    ∙ ones-count j (w / 2)
+    ∙ ap ones (sym (field w j 1)))
+    ∙ sym (ones-step (w % 2 ^ (j + 1)))
+    ∙ ap (λ (x : ℕ). ones (w % 2 ^ x)) (add-one j)

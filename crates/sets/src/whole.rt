@@ -5,10 +5,10 @@ ghost use mathlib.Core.Path.{_≡_};
 ghost use mathlib.Core.Bool.{not};
 ghost use Prim.Native.Nat.{_+_, _-_, _*_, _≤_, min, max};
 ghost use lib.ListN.{length};
-ghost use lib.Dec.{eqb};
-ghost use Rattle.rules.specs.Counting.{some, every, count};
-ghost use Rattle.rules.specs.Words.{bit, setOf};
+ghost use Rattle.rules.specs.Counting.{some};
+ghost use Rattle.rules.specs.Words.{setOf};
 ghost use Rattle.sets.specs.After.{Combined, Parts, Cleared, Filled, other};
+ghost use Rattle.sets.specs.Size.{size};
 
 pub fn union_with(words: &mut [u64], into: usize, from: usize, s: usize)
     requires { ⌜ Parts into from s (now words) ⌝ }
@@ -90,10 +90,10 @@ pub fn is_empty(set: &[u64]) -> bool
     true
 }
 
-// The number of members.
+// The number of members, by the ones of each word.
 pub fn size(set: &[u64]) -> usize
     requires { ⌜ length (now set) ≤ 64 ⌝ }
-    ensures { λ r. ⌜ r ≡ count (64 * length (now (set .entry))) (setOf (now (set .entry))) ⌝ }
+    ensures { λ r. ⌜ r ≡ size (now (set .entry)) ⌝ }
 {
     let mut n: usize = 0;
     for i in 0..set.len() {

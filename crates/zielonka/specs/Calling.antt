@@ -21,8 +21,9 @@ use Rattle.basics.specs.Basics.{clash, and-intro, without-right, not-true-is-fa
 use Rattle.theory.specs.Run.{Top, highest-top, cut-inside}
 use Rattle.theory.specs.RunSound.{run-sound}
 use Rattle.accepted.specs.Tables.{accepted-sound}
-use Rattle.area.specs.Area.{free, setAt, wordsAt}
+use Rattle.area.specs.Area.{free, setAt, sizeAt, wordsAt}
 use Rattle.area.specs.Lent.{words-few}
+use Rattle.area.specs.Sizes.{size-at}
 use Rattle.area.specs.SetsAt.{set-cleared, set-inside}
 use Rattle.area.specs.Walking.{lent-part}
 use Rattle.highest_priority.specs.Parts.{highestOf, SearchableTo}
@@ -175,6 +176,16 @@ empty-set t place work none v =
     not-true-is-false (setAt n place work v)
     (λ q. clash q (some-false (64 * words n) (setAt n place work) none v (set-inside n place work v q)))
 
+-- V is smaller, by the ones of its words, where it has fewer vertices
+smaller :
+    {t : Tables} {base up : ℕ} {w w′ : List ℕ} →
+    Called t base w →
+    Called t up w′ →
+    count (vertices t) (onLevel t up w′) < count (vertices t) (onLevel t base w) →
+    sizeAt (vertices t) up w′ < sizeAt (vertices t) base w
+smaller {t} {base} {up} {w} {w′} called nested less =
+    omega (arith, size-at (vertices t) base w (called .below), size-at (vertices t) up w′ (nested .below))
+
 -- after the first cut
 pub record Begun (t : Tables) (s base p : ℕ) (w₀ w₁ : List ℕ) : Type 0 where
   pub called : Called t base w₀
@@ -198,10 +209,6 @@ pub record Lost (t : Tables) (s base p calls budget made : ℕ) (w₀ w₁ w₂ 
       w₂ w₃
 
 module _ {t : Tables} {s base p : ℕ} {w₀ w₁ : List ℕ} (b : Begun t s base p w₀ w₁) where
-  -- the first nested call is on fewer vertices
-  pub begun-less : count (vertices t) (onLevel t (base + 4 * s) w₁) < count (vertices t) (onLevel t base w₀)
-  begun-less = rw (b .ready .size) (first-less (b .called) (b .top) (b .cut))
-
   -- no priority there is above p − 1: every vertex of priority p was drawn
   first-under : (v : ℕ) → onLevel t (nextLevel (words (vertices t)) base) w₁ v ≡ true → getD (t .priorities) v 0 ≤ p - 1
   unfolding gameOf
@@ -230,6 +237,11 @@ module _ {t : Tables} {s base p : ℕ} {w₀ w₁ : List ℕ} (b : Begun t s bas
             (first-less (b .called) (b .top) (b .cut));
         under = first-under;
       })
+
+  -- on a set of fewer vertices
+  pub begun-less : sizeAt (vertices t) (base + 4 * s) w₁ < sizeAt (vertices t) base w₀
+  begun-less =
+      smaller (b .called) (begun-called .called) (rw (b .ready .size) (first-less (b .called) (b .top) (b .cut)))
 
   pub begun-came :
       {calls budget made : ℕ} {w₂ : List ℕ} →
@@ -318,10 +330,6 @@ module _ {t : Tables} {s base p calls budget made : ℕ} {w₀ w₁ w₂ w₃ : 
     abbrev begun : Begun t s base p w₀ w₁
     begun = l .came .begun
 
-    -- the second nested call is on fewer vertices
-    pub lost-less : count (vertices t) (onLevel t (base + 4 * s) w₃) < count (vertices t) (onLevel t base w₀)
-    lost-less = rw (begun .ready .size) (cut-less (begun .called) (l .cut) (l .vertex) (l .lost))
-
     second-under : (v : ℕ) → onLevel t (nextLevel (words (vertices t)) base) w₃ v ≡ true → getD (t .priorities) v 0 ≤ p
     unfolding gameOf
     second-under v m = begun .top .most v (cut-inside (l .cut .cut) v m)
@@ -335,6 +343,12 @@ module _ {t : Tables} {s base p calls budget made : ℕ} {w₀ w₁ w₂ w₃ : 
               (cut-less (begun .called) (l .cut) (l .vertex) (l .lost));
           under = second-under;
         })
+
+    -- the second nested call is on a set of fewer vertices
+    pub lost-less : sizeAt (vertices t) (base + 4 * s) w₃ < sizeAt (vertices t) base w₀
+    lost-less =
+        smaller (begun .called) (lost-called .called)
+        (rw (begun .ready .size) (cut-less (begun .called) (l .cut) (l .vertex) (l .lost)))
 
     pub lost-over : Over t (base + 4 * s) made budget w₃ → Over t base calls budget w₀
     lost-over over =

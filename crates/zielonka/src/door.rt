@@ -2,6 +2,7 @@
 // the work area, writes only when it answers, and leaves those words 0.
 use crate::recursion::zielonka_rec;
 use parity_game::Answer;
+use parity_game::Priority;
 use solver::Ran;
 ghost use mathlib.Core.Path.{_≡_};
 ghost use lib.ListN.{length, replicate};
@@ -19,7 +20,7 @@ fn run(
     priorities: &[u16],
     offsets: &[u16],
     targets: &[u16],
-    top: usize,
+    top: Priority,
     budget: u64,
     even: &mut [u64],
     odd: &mut [u64],
@@ -28,7 +29,7 @@ fn run(
 ) -> Ran
     requires { ⌜ Runnable (tablesOf (now owners) (now priorities) (now offsets) (now targets))
         (now even) (now odd) (now strategy) (now work) ×
-        Under (tablesOf (now owners) (now priorities) (now offsets) (now targets)) top ⌝ }
+        Under (tablesOf (now owners) (now priorities) (now offsets) (now targets)) (top .0) ⌝ }
     ensures { λ r.
         ⌜ (let t =
         tablesOf (now (owners .entry)) (now (priorities .entry)) (now (offsets .entry)) (now (targets .entry)) in
@@ -116,7 +117,7 @@ pub fn solve_zielonka(
         priorities,
         offsets,
         targets,
-        top,
+        Priority(top),
         budget,
         even,
         odd,

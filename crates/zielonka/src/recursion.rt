@@ -1,6 +1,7 @@
 // One call on the set V at `base`, its sets at its own level, the calls below it one level up.
 use highest_priority::get_highest_prio;
 use highest_priority::one_less;
+use parity_game::Priority;
 use zielonka_level::attract_highest;
 use zielonka_level::attract_lost;
 use zielonka_level::join;
@@ -18,11 +19,11 @@ pub fn zielonka_rec(
     targets: &[u16],
     work: &mut [u64],
     base: usize,
-    top: usize,
+    top: Priority,
     calls: u64,
     cap: u64,
 ) -> u64
-    requires { ⌜ CalledUnder (tablesOf (now owners) (now priorities) (now offsets) (now targets)) base top
+    requires { ⌜ CalledUnder (tablesOf (now owners) (now priorities) (now offsets) (now targets)) base (top .0)
         (now work) ⌝ }
     ensures { λ r.
         ⌜ Ends (tablesOf (now (owners .entry)) (now (priorities .entry)) (now (offsets .entry))
@@ -37,7 +38,7 @@ pub fn zielonka_rec(
         sets::clear(work, base + 2 * s, 2 * s);
         return calls + 1;
     }
-    let p = get_highest_prio(priorities, &work[base..base + s], top).0;
+    let p = get_highest_prio(priorities, &work[base..base + s], top.0);
     attract_highest(owners, offsets, targets, p, s, work, base);
     let up = base + 4 * s;
     let made = zielonka_rec(
@@ -47,7 +48,7 @@ pub fn zielonka_rec(
         targets,
         work,
         up,
-        one_less(p),
+        Priority(one_less(p.0)),
         calls + 1,
         cap,
     );

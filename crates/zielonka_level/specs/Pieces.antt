@@ -21,10 +21,9 @@ pub record Sorted (owners offsets targets : List ℕ) (p s base : ℕ) (work : L
   pub small : p < 256
 
 -- a set to draw to stands in the attractor's place, for tables with any priorities
-pub record Cuttable (owners offsets targets : List ℕ) (alpha s base : ℕ) (work : List ℕ) : Type 0 where
+pub record Cuttable (owners offsets targets : List ℕ) (s base : ℕ) (work : List ℕ) : Type 0 where
   pub priorities : List ℕ
   pub ready : Ready (tablesOf owners priorities offsets targets) s base work
-  pub player : alpha ≤ 1
   pub part :
       (v : ℕ) →
       drawnAt (tablesOf owners priorities offsets targets) base work v ≡ true →

@@ -107,9 +107,10 @@ cut-from stays same k =
 -- what `attract` asks for
 pub cut-attractable :
     {owners offsets targets : List ℕ} {alpha s base : ℕ} {work : List ℕ} →
-    Cuttable owners offsets targets alpha s base work →
+    Cuttable owners offsets targets s base work →
+    alpha ≤ 1 →
     Attractable owners offsets targets alpha base (base + s) work
-cut-attractable {owners} {offsets} {targets} {s} {base} {work} c =
+cut-attractable {owners} {offsets} {targets} {s} {base} {work} c side =
     let called = c .ready .called in
     let size = c .ready .size in
     let high = c .ready .high in
@@ -129,7 +130,7 @@ cut-attractable {owners} {offsets} {targets} {s} {base} {work} c =
           };
       edges = edges-sound (tablesOf owners (c .priorities) offsets targets) (called .accepted);
       listed = called .table;
-      side = c .player;
+      side = side;
     }
 
 module _ {t : Tables} {a : Player} {base looks : ℕ} {w₀ w₁ w₂ w₃ : List ℕ}
@@ -204,36 +205,29 @@ module _ {t : Tables} {a : Player} {base looks : ℕ} {w₀ w₁ w₂ w₃ : Lis
               above .low (entries n (edgesIn t) + v) (omega arith) ∙ drawn .kept v l (λ q. d (q .0) (q .1) (q .2));
         }
 
--- the same, by the number of words that the code has
+-- the same, by the number of words and the player's number that the code has
 pub cut-done :
-    {owners offsets targets : List ℕ} {alpha s base : ℕ} {w₀ : List ℕ} →
-    Cuttable owners offsets targets alpha s base w₀ →
+    {owners offsets targets : List ℕ} {a : Player} {s base : ℕ} {w₀ : List ℕ} →
+    Cuttable owners offsets targets s base w₀ →
+    (alpha : ℕ) →
+    playerOf alpha ≡ a →
     (priorities : List ℕ) →
     Accepted (tablesOf owners priorities offsets targets) →
     {looks : ℕ} {w₁ w₂ w₃ : List ℕ} →
     Attracted (tablesOf owners priorities offsets targets) (playerOf alpha) base (base + s) w₀ w₁ looks →
     Combined other (base + 4 * s) base s w₁ w₂ →
     Combined _-_ (base + 4 * s) (base + s) s w₂ w₃ →
-    CutBy (tablesOf owners priorities offsets targets) (playerOf alpha) base
+    CutBy (tablesOf owners priorities offsets targets) a base
     (onLevel (tablesOf owners priorities offsets targets) base w₀)
     (drawnAt (tablesOf owners priorities offsets targets) base w₀)
     w₀ w₃
 unfolding gameOf
-cut-done c priorities ok drawn copied reduced =
+cut-done c alpha whose priorities ok drawn copied reduced =
     let size = c .ready .size in
     cut-made ok (c .ready .called .low) (record { part = c .part; below = c .ready .called .below })
-    (rw size at drawn)
+    (rw (size, whose) at drawn)
     (rw size at copied)
     (rw size at reduced)
-
--- the numbers 0 and 1 stand for the players, and 1 less the number for the opponent
-pub other-number : (k : ℕ) → k < 2 → playerOf (1 - k) ≡ opponent (playerOf k)
-other-number zero h = refl
-other-number (suc zero) h = refl
-other-number (suc (suc k)) h = absurd (omega arith)
-
-pub opponent-number : (p : ℕ) → playerOf (1 - p % 2) ≡ opponent (parity p)
-opponent-number p = other-number (p % 2) (omega arith)
 
 -- ---- the first cut
 
@@ -282,28 +276,30 @@ module _ {t : Tables} {p s base : ℕ} {w₀ : List ℕ} (ready : Ready t s base
           both-tests (vertices t) (onLevel t base w₀ v) v p (getD (t .priorities) v 0) (ready .called .below v)
 
       -- what the cut asks for
-      pub highest-cuttable : Cuttable (t .owners) (t .offsets) (t .targets) (p % 2) s base w₁
+      pub highest-cuttable : Cuttable (t .owners) (t .offsets) (t .targets) s base w₁
       highest-cuttable =
           record {
             priorities = t .priorities;
             ready = ready-stays stays₁ ready;
-            player = omega arith;
             part = λ v q. level₁ v ∙ and-left (onLevel t base w₀ v) (eqb (gameOf t .priority v) p) (sym (top-set v) ∙ q);
           }
 
       -- **The first cut is made.**
       pub highest-made :
-          {w₂ : List ℕ} →
-          CutBy t (parity p) base (onLevel t base w₁) (drawnAt t base w₁) w₁ w₂ →
+          {a : Player} {w₂ : List ℕ} →
+          a ≡ parity p →
+          CutBy t a base (onLevel t base w₁) (drawnAt t base w₁) w₁ w₂ →
           CutBy t (parity p) base (onLevel t base w₀) (withPriority (gameOf t) (onLevel t base w₀) p) w₀ w₂
-      highest-made k =
-          cut-from stays₁ (apart-entries t (ready .called .low) (omega (arith, size)) apart-met) (cut-over level₁ top-set k)
+      highest-made whose k =
+          cut-from stays₁ (apart-entries t (ready .called .low) (omega (arith, size)) apart-met)
+          (cut-over level₁ top-set (rw whose at k))
 
 -- ---- the second cut
 
 module _ {owners offsets targets : List ℕ} {p s base place : ℕ} {w₀ w₁ : List ℕ}
     (losable : Losable owners offsets targets p s base w₀)
-    (there : place ≡ wonPlace s (base + 4 * s) (playerOf (1 - p % 2)))
+    {a : Player} (whose : a ≡ opponent (parity p))
+    (there : place ≡ wonPlace s (base + 4 * s) a)
     (copied : Combined other (base + s) place s w₀ w₁)
   where
     size₁ : s ≡ words (length owners)
@@ -330,22 +326,21 @@ module _ {owners offsets targets : List ℕ} {p s base place : ℕ} {w₀ w₁ :
     lost-set priorities v =
         set-copied-here (length owners) (base + words (length owners)) place w₀ w₁ (rw size₁ at copied) v ∙
         ap (λ (k : ℕ). setAt (length owners) k w₀ v)
-        (there ∙ ap₂ (λ (k : ℕ) (c : Player). wonPlace k (base + 4 * s) c) size₁ (opponent-number p))
+        (there ∙ ap₂ (λ (k : ℕ) (c : Player). wonPlace k (base + 4 * s) c) size₁ whose)
 
     -- what the cut asks for
-    pub lost-cuttable : Cuttable owners offsets targets (1 - p % 2) s base w₁
+    pub lost-cuttable : Cuttable owners offsets targets s base w₁
     lost-cuttable =
         record {
           priorities = losable .priorities;
           ready = ready-stays (stays-lost (losable .priorities)) (losable .ready);
-          player = omega arith;
           part = λ v q. level-lost (losable .priorities) v ∙ losable .part v (sym (lost-set (losable .priorities) v) ∙ q);
         }
 
     -- **The second cut is made.**
     pub lost-made :
         (priorities : List ℕ) {w₂ : List ℕ} →
-        CutBy (tablesOf owners priorities offsets targets) (playerOf (1 - p % 2)) base
+        CutBy (tablesOf owners priorities offsets targets) a base
         (onLevel (tablesOf owners priorities offsets targets) base w₁)
         (drawnAt (tablesOf owners priorities offsets targets) base w₁)
         w₁ w₂ →
@@ -363,7 +358,7 @@ module _ {owners offsets targets : List ℕ} {p s base place : ℕ} {w₀ w₁ :
         (onLevel (tablesOf owners priorities offsets targets) base w₁)
         (drawnAt (tablesOf owners priorities offsets targets) base w₁)
         w₁ w₂)
-        (opponent-number p)
+        whose
         k))
 
 -- ---- what each player wins
@@ -410,7 +405,8 @@ module _ {t : Tables} {s base : ℕ} (p : ℕ) {of place : ℕ} {w₀ w₁ w₂ 
     (small : p < 256)
     (from : of ≡ setOfPriority (words (vertices t)) (free (vertices t) (edgesIn t)) p)
     (met : Met (base + s) base of s w₀ w₁)
-    (there : place ≡ wonPlace s base (parity p))
+    {a : Player} (whose : a ≡ parity p)
+    (there : place ≡ wonPlace s base a)
     (cleared : Cleared (base + 2 * s) (2 * s) w₁ w₂)
     (copied : Combined other place base s w₂ w₃)
   where
@@ -420,7 +416,7 @@ module _ {t : Tables} {s base : ℕ} (p : ℕ) {of place : ℕ} {w₀ w₁ w₂ 
     -- V and U stand below the sets that are won
     apart₂ : Apart (base + 2 * s) w₁ w₃
     apart₂ =
-        let range = won-range s base (parity p) in
+        let range = won-range s base a in
         apart-then (apart-cleared (omega arith) cleared) (apart-combined (omega arith) copied)
 
     apart₃ : Apart (base + s) w₀ w₃
@@ -471,7 +467,7 @@ module _ {t : Tables} {s base : ℕ} (p : ℕ) {of place : ℕ} {w₀ w₁ w₂ 
           (λ i l h. extended .rest i (inr (omega (arith, ready .called .low))))
 
       place-is : place ≡ wonPlace (words (vertices t)) base (parity p)
-      place-is = there ∙ ap (λ (k : ℕ). wonPlace k base (parity p)) size₂
+      place-is = there ∙ ap₂ (λ (k : ℕ) (c : Player). wonPlace k base c) size₂ whose
 
       -- V when the sets were cleared
       level₂ : (v : ℕ) → onLevel t base w₂ v ≡ onLevel t base w₀ v
@@ -548,18 +544,19 @@ module _ {t : Tables} {s base : ℕ} (p : ℕ) {of place : ℕ} {w₀ w₁ w₂ 
 
 module _ {s base : ℕ} (p : ℕ) {place : ℕ} {w₀ w₁ w₂ : List ℕ}
     (copied : Combined other (base + 2 * s) (base + 6 * s) (2 * s) w₀ w₁)
-    (there : place ≡ wonPlace s base (playerOf (1 - p % 2)))
+    {a : Player} (whose : a ≡ opponent (parity p))
+    (there : place ≡ wonPlace s base a)
     (united : Combined max place (base + s) s w₁ w₂)
     (t : Tables)
     (sized : s ≡ words (vertices t))
     (low : free (vertices t) (edgesIn t) ≤ base)
   where
     place-lost : place ≡ wonPlace (words (vertices t)) base (opponent (parity p))
-    place-lost = there ∙ ap₂ (λ (k : ℕ) (c : Player). wonPlace k base c) sized (opponent-number p)
+    place-lost = there ∙ ap₂ (λ (k : ℕ) (c : Player). wonPlace k base c) sized whose
 
     apart-join : Apart (base + 2 * s) w₀ w₂
     apart-join =
-        let range = won-range s base (playerOf (1 - p % 2)) in
+        let range = won-range s base a in
         apart-then (apart-combined (omega arith) copied) (apart-combined (omega arith) united)
 
     -- each player's set comes from the next level
@@ -615,14 +612,15 @@ module _ {s base : ℕ} (p : ℕ) {place : ℕ} {w₀ w₁ w₂ : List ℕ}
 
 -- whether the opponent won nothing, by the part that is lent
 pub lost-told :
-    (s base p : ℕ) {place : ℕ} (work : List ℕ) {r : Bool} →
-    place ≡ wonPlace s base (playerOf (1 - p % 2)) →
+    (s base p : ℕ) {place : ℕ} (work : List ℕ) {a : Player} {r : Bool} →
+    a ≡ opponent (parity p) →
+    place ≡ wonPlace s base a →
     place + s ≤ length work →
     (let lent = take ((place + s) - place) (drop place work) in r ≡ not (some (64 * length lent) (setOf lent))) →
     r ≡ not (some (64 * s) (setOf (take s (drop (wonPlace s base (opponent (parity p))) work))))
-lost-told s base p {place} work there fits told =
+lost-told s base p {place} work whose there fits told =
     let there′ : place ≡ wonPlace s base (opponent (parity p)) =
-    there ∙ ap (λ (c : Player). wonPlace s base c) (opponent-number p) in
+    there ∙ ap (λ (c : Player). wonPlace s base c) whose in
     told ∙
     ap (λ (xs : List ℕ). not (some (64 * length xs) (setOf xs))) (part-is place s work) ∙
     ap (λ (k : ℕ). not (some (64 * k) (setOf (take s (drop place work))))) (part-length place s work fits) ∙

@@ -1,30 +1,39 @@
 // The pieces of a call, over the four sets of its level: V at `base`, then the attractor, then what Even and Odd win.
 // The next level begins after them. `s` is the words of a set, `p` the highest priority in V.
 use highest_priority::extend_lowest;
+use parity_game::Player;
+use parity_game::Priority;
 ghost use mathlib.Core.List.{List};
 ghost use mathlib.Core.Bool.{not};
 ghost use mathlib.Core.Path.{_≡_};
-ghost use Prim.Native.Nat.{ℕ, _+_, _*_, _-_, _%_, _^_, _≤_, _<_};
+ghost use Prim.Native.Nat.{ℕ, _+_, _*_, _^_, _≤_, _<_};
 ghost use lib.ListN.{length, take, drop};
 ghost use Rattle.rules.specs.Counting.{some};
-ghost use Rattle.rules.specs.Game.{opponent, parity, playerOf};
+ghost use Rattle.rules.specs.Game.{opponent, parity};
 ghost use Rattle.rules.specs.Tables.{Tables, Accepted, gameOf, vertices, edgesIn, words, tablesOf};
 ghost use Rattle.rules.specs.Words.{setOf};
 ghost use Rattle.rules.specs.Zielonka.{withPriority};
+ghost use Rattle.parity_game.specs.Said.{is};
 ghost use Rattle.area.specs.Area.{free};
 ghost use Rattle.zielonka_level.specs.Level.{nextLevel, wonPlace, onLevel, drawnAt, wonAt};
 ghost use Rattle.zielonka_level.specs.Steps.{CutBy, AllAt, JoinedAt};
 ghost use Rattle.zielonka_level.specs.Pieces.{Ready, Sorted, Cuttable, Losable};
 
-// Where the set that a player wins stands at a level; 0 is Even.
-fn won_at(base: usize, s: usize, player: usize) -> usize
-    requires { ⌜ base + 3 * s < 2 ^ 64 ⌝ }
-    ensures { λ r. ⌜ r ≡ wonPlace s base (playerOf player) ⌝ }
+// The player who does not have p's parity.
+fn opponent_of(p: Priority) -> Player
+    ensures { λ r. ⌜ is r ≡ opponent (parity (p .0)) ⌝ }
 {
-    if player == 0 {
-        base + 2 * s
-    } else {
-        base + 3 * s
+    Player::from_priority(p).opponent()
+}
+
+// Where the set that a player wins stands at a level.
+fn won_at(base: usize, s: usize, player: Player) -> usize
+    requires { ⌜ base + 3 * s < 2 ^ 64 ⌝ }
+    ensures { λ r. ⌜ r ≡ wonPlace s base (is player) ⌝ }
+{
+    match player {
+        Player::Even => base + 2 * s,
+        Player::Odd => base + 3 * s,
     }
 }
 
@@ -33,24 +42,32 @@ fn cut(
     owners: &[u8],
     offsets: &[u16],
     targets: &[u16],
-    alpha: u8,
+    player: Player,
     s: usize,
     work: &mut [u64],
     base: usize,
 )
-    requires { ⌜ Cuttable (now owners) (now offsets) (now targets) alpha s base (now work) ⌝ }
+    requires { ⌜ Cuttable (now owners) (now offsets) (now targets) s base (now work) ⌝ }
     ensures { λ r.
         ⌜ ((priorities : List ℕ) →
         Accepted (tablesOf (now (owners .entry)) priorities (now (offsets .entry)) (now (targets .entry))) →
         CutBy (tablesOf (now (owners .entry)) priorities (now (offsets .entry)) (now (targets .entry)))
-        (playerOf alpha) base
+        (is player) base
         (onLevel (tablesOf (now (owners .entry)) priorities (now (offsets .entry)) (now (targets .entry))) base
         (now (work .entry)))
         (drawnAt (tablesOf (now (owners .entry)) priorities (now (offsets .entry)) (now (targets .entry))) base
         (now (work .entry)))
         (now (work .entry)) (now (work .exit))) ⌝ }
 {
-    attractor::attract(owners, offsets, targets, alpha, work, base, base + s);
+    attractor::attract(
+        owners,
+        offsets,
+        targets,
+        player.index(),
+        work,
+        base,
+        base + s,
+    );
     sets::copy_with(work, base + 4 * s, base, s);
     sets::difference_with(work, base + 4 * s, base + s, s);
 }
@@ -60,29 +77,37 @@ pub fn attract_highest(
     owners: &[u8],
     offsets: &[u16],
     targets: &[u16],
-    p: usize,
+    p: Priority,
     s: usize,
     work: &mut [u64],
     base: usize,
 )
-    requires { ⌜ Sorted (now owners) (now offsets) (now targets) p s base (now work) ⌝ }
+    requires { ⌜ Sorted (now owners) (now offsets) (now targets) (p .0) s base (now work) ⌝ }
     ensures { λ r.
         ⌜ ((priorities : List ℕ) →
         Ready (tablesOf (now (owners .entry)) priorities (now (offsets .entry)) (now (targets .entry))) s base
         (now (work .entry)) →
         CutBy (tablesOf (now (owners .entry)) priorities (now (offsets .entry)) (now (targets .entry)))
-        (parity p) base
+        (parity (p .0)) base
         (onLevel (tablesOf (now (owners .entry)) priorities (now (offsets .entry)) (now (targets .entry))) base
         (now (work .entry)))
         (withPriority (gameOf (tablesOf (now (owners .entry)) priorities (now (offsets .entry))
         (now (targets .entry))))
         (onLevel (tablesOf (now (owners .entry)) priorities (now (offsets .entry)) (now (targets .entry))) base
-        (now (work .entry))) p)
+        (now (work .entry))) (p .0))
         (now (work .entry)) (now (work .exit))) ⌝ }
 {
-    let of = priority_sets::set_at(owners.len(), targets.len(), s, p);
+    let of = priority_sets::set_at(owners.len(), targets.len(), s, p.0);
     priority_sets::meet(work, base + s, base, of, s);
-    cut(owners, offsets, targets, (p % 2) as u8, s, work, base);
+    cut(
+        owners,
+        offsets,
+        targets,
+        Player::from_priority(p),
+        s,
+        work,
+        base,
+    );
 }
 
 // B: the attractor of what the opponent of p's player won at the next level, for that opponent. V without B goes to
@@ -91,36 +116,37 @@ pub fn attract_lost(
     owners: &[u8],
     offsets: &[u16],
     targets: &[u16],
-    p: usize,
+    p: Priority,
     s: usize,
     work: &mut [u64],
     base: usize,
 )
-    requires { ⌜ Losable (now owners) (now offsets) (now targets) p s base (now work) ⌝ }
+    requires { ⌜ Losable (now owners) (now offsets) (now targets) (p .0) s base (now work) ⌝ }
     ensures { λ r.
         ⌜ ((priorities : List ℕ) →
         Accepted (tablesOf (now (owners .entry)) priorities (now (offsets .entry)) (now (targets .entry))) →
         CutBy (tablesOf (now (owners .entry)) priorities (now (offsets .entry)) (now (targets .entry)))
-        (opponent (parity p)) base
+        (opponent (parity (p .0))) base
         (onLevel (tablesOf (now (owners .entry)) priorities (now (offsets .entry)) (now (targets .entry))) base
         (now (work .entry)))
         (wonAt (tablesOf (now (owners .entry)) priorities (now (offsets .entry)) (now (targets .entry)))
-        (nextLevel s base) (now (work .entry)) (opponent (parity p)))
+        (nextLevel s base) (now (work .entry)) (opponent (parity (p .0))))
         (now (work .entry)) (now (work .exit))) ⌝ }
 {
-    let lost = won_at(base + 4 * s, s, 1 - p % 2);
+    let player = opponent_of(p);
+    let lost = won_at(base + 4 * s, s, player);
     sets::copy_with(work, base + s, lost, s);
-    cut(owners, offsets, targets, (1 - p % 2) as u8, s, work, base);
+    cut(owners, offsets, targets, player, s, work, base);
 }
 
 // Whether the opponent of p's player won nothing at a level.
-pub fn lost_nothing(p: usize, s: usize, work: &[u64], base: usize) -> bool
+pub fn lost_nothing(p: Priority, s: usize, work: &[u64], base: usize) -> bool
     requires { ⌜ base + 4 * s ≤ length (now work) ⌝ }
     ensures { λ r.
         ⌜ r ≡ not (some (64 * s) (setOf (take s
-        (drop (wonPlace s base (opponent (parity p))) (now (work .entry)))))) ⌝ }
+        (drop (wonPlace s base (opponent (parity (p .0)))) (now (work .entry)))))) ⌝ }
 {
-    let lost = won_at(base, s, 1 - p % 2);
+    let lost = won_at(base, s, opponent_of(p));
     sets::is_empty(&work[lost..lost + s])
 }
 
@@ -130,35 +156,35 @@ pub fn win_everything(
     owners: &[u8],
     offsets: &[u16],
     targets: &[u16],
-    p: usize,
+    p: Priority,
     s: usize,
     work: &mut [u64],
     base: usize,
 )
-    requires { ⌜ Sorted (now owners) (now offsets) (now targets) p s base (now work) ⌝ }
+    requires { ⌜ Sorted (now owners) (now offsets) (now targets) (p .0) s base (now work) ⌝ }
     ensures { λ r.
         ⌜ ((priorities : List ℕ) →
         Ready (tablesOf (now (owners .entry)) priorities (now (offsets .entry)) (now (targets .entry))) s base
         (now (work .entry)) →
-        AllAt (tablesOf (now (owners .entry)) priorities (now (offsets .entry)) (now (targets .entry))) p base
+        AllAt (tablesOf (now (owners .entry)) priorities (now (offsets .entry)) (now (targets .entry))) (p .0) base
         (now (work .entry)) (now (work .exit))) ⌝ }
 {
-    let of = priority_sets::set_at(owners.len(), targets.len(), s, p);
+    let of = priority_sets::set_at(owners.len(), targets.len(), s, p.0);
     priority_sets::meet(work, base + s, base, of, s);
     sets::clear(work, base + 2 * s, 2 * s);
-    let won = won_at(base, s, p % 2);
+    let won = won_at(base, s, Player::from_priority(p));
     sets::copy_with(work, won, base, s);
     extend_lowest(owners, offsets, targets, p, s, work, base);
 }
 
 // Each player wins what it won at the next level, and the opponent of p's player B too.
-pub fn join(p: usize, s: usize, work: &mut [u64], base: usize)
+pub fn join(p: Priority, s: usize, work: &mut [u64], base: usize)
     requires { ⌜ base + 8 * s ≤ length (now work) ⌝ }
     ensures { λ r.
         ⌜ ((t : Tables) → s ≡ words (vertices t) → free (vertices t) (edgesIn t) ≤ base →
-        JoinedAt t p base (now (work .entry)) (now (work .exit))) ⌝ }
+        JoinedAt t (p .0) base (now (work .entry)) (now (work .exit))) ⌝ }
 {
     sets::copy_with(work, base + 2 * s, base + 6 * s, 2 * s);
-    let lost = won_at(base, s, 1 - p % 2);
+    let lost = won_at(base, s, opponent_of(p));
     sets::union_with(work, lost, base + s, s);
 }

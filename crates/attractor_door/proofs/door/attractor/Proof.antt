@@ -89,8 +89,8 @@ work-words-requires c κs =
     let f = accepted-sound (tables (at2 c)) (passed c .accepted) in
     (f .few-vertices, f .few-edges)
 
-side-requires : tie.Need-side-requires
-side-requires c κs = search needs
+index-requires : tie.Need-index-requires
+index-requires c κs = search needs
 
 sub-run : tie.Need-sub-run
 sub-run c = search needs
@@ -109,9 +109,9 @@ run-requires c κs =
     let w = d .before in
     let g = at2 (w .before) in
     let a = g .args in
-    run-ready (tables g) (d .side .result) (w .work-words .result) (a .within .now) (a .target .now) (a .result .now)
+    run-ready (tables g) (d .index .result) (w .work-words .result) (a .within .now) (a .target .now) (a .result .now)
     (a .strategy .now) (a .distances .now) (a .work .now)
-    (d .side .ensures .1) (w .work-words .ensures) (passed (w .before))
+    (d .index .ensures .1) (w .work-words .ensures) (passed (w .before))
 
 same-length : tie.Need-same-length
 same-length c = search needs
@@ -140,7 +140,7 @@ returns-2 c =
     (subst
     (λ (p : Player). Ran (tables g) p (a .within .now) (a .target .now) (r .run .last .1 .1 .1 .1 .1 .1 .0)
     (r .run .last .1 .1 .1 .1 .1 .1 .1 .0) (r .run .last .1 .1 .1 .1 .1 .1 .1 .1 .0) (r .run .result))
-    (d .side .ensures .0)
+    (d .index .ensures .0)
     (r .run .ensures .1 (a .priorities .now) (passed e .accepted)))
     (work-cleared (tables g) (w .work-words .result) (a .work .now) _ (w .work-words .ensures) (passed e .sizes .work-size) (r .run .ensures .0))
 
@@ -152,7 +152,7 @@ attractor-spec =
     number-requires
     returns
     work-words-requires
-    side-requires
+    index-requires
     sub-run
     part-run-start
     part-run-end

@@ -17,7 +17,7 @@ use Rattle.highest_priority.proofs.highest.collect.Statement.{statement
 use Rattle.highest_priority.proofs.highest.collect.Tie as tie
 
 abbrev Inv-loop : tie.InvT-loop
-Inv-loop priorities p s work₀ within into walk₀ work walk = CollectingTo priorities p within into work₀ walk work
+Inv-loop priorities p s work₀ within into walk₀ work walk = CollectingTo priorities (p .0) within into work₀ walk work
 
 abbrev μ-loop : tie.MeasureT-loop
 μ-loop priorities p s work₀ within into walk₀ work walk = length (left (wordsAt (length priorities) within work₀) walk)
@@ -150,15 +150,15 @@ part-insert-end c = search needs
 
 insert-requires : tie.Need-insert-requires Inv-loop μ-loop
 insert-requires c κs =
-    let d = c .before .before .before in
+    let d = c .before .before .before .before in
     let g = start-of (turn d) in insert-fits (g .args .priorities .now) (g .pre) (turn d .loop .inv .keeps) (small d)
 
 loop-less : tie.Need-loop-less Inv-loop μ-loop
-loop-less c = shorter (c .before .before .before .before .before .before)
+loop-less c = shorter (c .before .before .before .before .before .before .before)
 
 loop-again : tie.Need-loop-again Inv-loop μ-loop
 loop-again c =
-    let d = c .before .before .before .before .before .before in
+    let d = c .before .before .before .before .before .before .before in
     let g = start-of (turn d) in
     walked-more (walkable g) (turn d .loop .inv) (after d) (moved d)
     (collecting-one (g .args .priorities .now) (g .pre) (turn d .loop .inv .keeps) (small d)
@@ -166,11 +166,11 @@ loop-again c =
     (c .before .before .insert .ensures))
 
 loop-less-2 : tie.Need-loop-less-2 Inv-loop μ-loop
-loop-less-2 c = shorter (c .before .before)
+loop-less-2 c = shorter (c .before .before .before)
 
 loop-again-2 : tie.Need-loop-again-2 Inv-loop μ-loop
 loop-again-2 c =
-    let d = c .before .before in
+    let d = c .before .before .before in
     let g = start-of (turn d) in
     walked-more (walkable g) (turn d .loop .inv) (after d) (moved d)
     (collecting-other (g .args .priorities .now) (g .pre) (turn d .loop .inv .keeps) (c .if1 .left))

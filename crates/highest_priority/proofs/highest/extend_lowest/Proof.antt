@@ -18,7 +18,7 @@ use Rattle.highest_priority.proofs.highest.extend_lowest.Tie as tie
 
 abbrev Inv-loop : tie.InvT-loop
 Inv-loop owners offsets targets p s work₀ base n m from walk₀ work walk =
-    ExtendingTo owners offsets targets p s base work₀ walk work
+    ExtendingTo owners offsets targets (p .0) s base work₀ walk work
 
 abbrev μ-loop : tie.MeasureT-loop
 μ-loop owners offsets targets p s work₀ base n m from walk₀ work walk =
@@ -165,7 +165,7 @@ part-lowest-inside-end c = search needs
 
 lowest-inside-requires : tie.Need-lowest-inside-requires Inv-loop μ-loop
 lowest-inside-requires c κs =
-    let d = c .before .before .before .before in
+    let d = c .before .before .before .before .before in
     extend-edges (start-of (turn d) .pre) (member d) (turn d .loop .inv .keeps)
 
 add-work : tie.Need-add-work Inv-loop μ-loop
@@ -182,34 +182,34 @@ add-work-4 c = search needs
 
 add-work-5 : tie.Need-add-work-5 Inv-loop μ-loop
 add-work-5 c =
-    let d = c .before .before .before .before .before in
+    let d = c .before .before .before .before .before .before in
     omega (arith, entry-place d, turn d .loop .inv .keeps .long, start-of (turn d) .good)
 
 mul-work : tie.Need-mul-work Inv-loop μ-loop
 mul-work c =
-    let d = c .before .before .before .before .before in
+    let d = c .before .before .before .before .before .before in
     omega (arith, entry-place d, turn d .loop .inv .keeps .long, start-of (turn d) .good)
 
 slice-write-work : tie.Need-slice-write-work Inv-loop μ-loop
-slice-write-work c = entry-place (c .before .before .before .before .before)
+slice-write-work c = entry-place (c .before .before .before .before .before .before)
 
 loop-less : tie.Need-loop-less Inv-loop μ-loop
-loop-less c = shorter (c .before .before .before .before .before)
+loop-less c = shorter (c .before .before .before .before .before .before)
 
 loop-again : tie.Need-loop-again Inv-loop μ-loop
 loop-again c =
-    let d = c .before .before .before .before .before in
+    let d = c .before .before .before .before .before .before in
     let g = start-of (turn d) in
     walked-more (walkable g) (turn d .loop .inv) (after d) (moved d)
     (extending-one (g .pre) (member d) (turn d .loop .inv .keeps) (c .before .before .before .if1 .taken)
     (c .lowest-inside .ensures))
 
 loop-less-2 : tie.Need-loop-less-2 Inv-loop μ-loop
-loop-less-2 c = shorter (c .before .before)
+loop-less-2 c = shorter (c .before .before .before)
 
 loop-again-2 : tie.Need-loop-again-2 Inv-loop μ-loop
 loop-again-2 c =
-    let d = c .before .before in
+    let d = c .before .before .before in
     let g = start-of (turn d) in
     walked-more (walkable g) (turn d .loop .inv) (after d) (moved d)
     (other-owner (g .pre) (member d) (c .if1 .left))

@@ -1,6 +1,7 @@
 -- `attract_top` meets its contract: what is collected is drawn to, and V without it is copied.
 use native.Mathlib.Omega.{arith}
 use mathlib.Core.Logic.{inr}
+use mathlib.Core.Path.{_∙_}
 use borrow.Author.Needs.{needs}
 use Rattle.quasi_level.specs.Pieces.{top-collects, top-attractable, top-made}
 use Rattle.quasi_level.proofs.level.attract_top.Statement.{statement}
@@ -13,8 +14,14 @@ start-of c = c .before .before .before .before .before .before .before
 abbrev after-clear : tie.After-collect → tie.After-clear
 after-clear c = c .before .before .before .before
 
-abbrev after-collect : tie.After-attract → tie.After-collect
-after-collect c = c .before .before .before .before
+abbrev after-collect : tie.After-from-priority → tie.After-collect
+after-collect c = c .before .before .before
+
+abbrev after-named : tie.After-index → tie.After-from-priority
+after-named c = c .before
+
+abbrev after-index : tie.After-attract → tie.After-index
+after-index c = c .before .before
 
 abbrev after-attract : tie.After-copy-with → tie.After-attract
 after-attract c = c .before .before .before .before
@@ -38,19 +45,22 @@ collect-requires : tie.Need-collect-requires
 collect-requires c κs =
     let cleared = c .before .before .before in top-collects (start-of cleared .pre) (cleared .clear .ensures)
 
-cast-attract : tie.Need-cast-attract
-cast-attract c = search needs
+from-priority-requires : tie.Need-from-priority-requires
+from-priority-requires c κs = search needs
+
+index-requires : tie.Need-index-requires
+index-requires c κs = search needs
 
 attract-requires : tie.Need-attract-requires
 attract-requires c κs =
-    let collected = c .before .before .before in
+    let collected = after-collect (after-named (c .before)) in
     let cleared = after-clear collected in
-    top-attractable (start-of cleared .pre) (cleared .clear .ensures) (collected .collect .ensures)
+    top-attractable (start-of cleared .pre) (cleared .clear .ensures) (collected .collect .ensures) (c .before .index .ensures .1)
 
 copy-with-requires : tie.Need-copy-with-requires
 copy-with-requires c κs =
     let drawn = c .before .before .before in
-    let collected = after-collect drawn in
+    let collected = after-collect (after-named (after-index drawn)) in
     let cleared = after-clear collected in
     let high = start-of cleared .pre .high in
     let long = drawn .attract .kept .1 .1 .1 .1 .0 in
@@ -62,7 +72,7 @@ difference-with-requires : tie.Need-difference-with-requires
 difference-with-requires c κs =
     let copied = c .before .before .before in
     let drawn = after-attract copied in
-    let collected = after-collect drawn in
+    let collected = after-collect (after-named (after-index drawn)) in
     let cleared = after-clear collected in
     let high = start-of cleared .pre .high in
     let long = drawn .attract .kept .1 .1 .1 .1 .0 in
@@ -79,10 +89,13 @@ returns c =
     let reduced = c .before .before in
     let copied = after-copy reduced in
     let drawn = after-attract copied in
-    let collected = after-collect drawn in
+    let indexed = after-index drawn in
+    let named = after-named indexed in
+    let collected = after-collect named in
     let cleared = after-clear collected in
     let g = start-of cleared in
     top-made (g .pre) (cleared .clear .ensures) (collected .collect .ensures)
+    (indexed .index .ensures .0 ∙ named .from-priority .ensures)
     (drawn .attract .ensures (g .args .priorities .now) (g .pre .accepted))
     (copied .copy-with .ensures)
     (reduced .difference-with .ensures)
@@ -96,7 +109,8 @@ attract-top-spec =
     add-up
     clear-requires
     collect-requires
-    cast-attract
+    from-priority-requires
+    index-requires
     attract-requires
     copy-with-requires
     difference-with-requires

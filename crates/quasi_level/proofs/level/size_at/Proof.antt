@@ -1,7 +1,8 @@
--- `size_at` meets its contract: the members among the words are those below n.
-use mathlib.Core.Path.{_∙_}
+-- `size_at` meets its contract: the words lent are the set's.
+use mathlib.Core.Path.{ap, _∙_}
+use Rattle.sets.specs.Size.{size}
 use borrow.Author.Needs.{needs}
-use Rattle.quasi_level.specs.Pieces.{held-few, held-count}
+use Rattle.quasi_level.specs.Pieces.{held-few, held-lent}
 use Rattle.quasi_level.proofs.level.size_at.Statement.{statement}
 use Rattle.quasi_level.proofs.level.size_at.Tie as tie
 
@@ -24,7 +25,7 @@ size-requires : tie.Need-size-requires
 size-requires c κs = held-few (c .before .before .pre)
 
 returns : tie.Need-returns
-returns c = c .size .ensures ∙ held-count (c .before .before .before .pre)
+returns c = c .size .ensures ∙ ap size (held-lent (c .before .before .before .pre))
 
 pub size-at-spec : {M : Type 1} → statement M
 size-at-spec =

@@ -1,5 +1,5 @@
 -- `solve_even` and `solve_odd` meet their contracts together. The number that falls from call to call is the height; in the
--- loop of passes it is made of the vertices of V and the stages that are left. Each answer cites the law of the piece, for
+-- loop of passes it is made of the size of V and the stages that are left. Each answer cites the law of the piece, for
 -- either player.
 use mathlib.Core.List.{List}
 use mathlib.Core.Logic.{inl, inr}
@@ -122,10 +122,10 @@ module _ (t : ℕ) where
 
   -- from there to the call of the other solver on V itself, and to the loop
   abbrev even-copied : even-At solve-even-lts.After-solve-odd → even-At solve-even-lts.After-copy-with
-  even-copied c = c .before .before .before .before
+  even-copied c = c .before .before .before .before .before
 
   abbrev even-topped : even-At solve-even-lts.After-copy-with → even-At solve-even-lts.After-highest-at
-  even-topped c = c .before .before .before
+  even-topped c = c .before .before .before .before
 
   abbrev even-entered : even-At solve-even-lts.At-loop → even-At solve-even-lts.Else2
   even-entered c = c .before .before .before
@@ -161,8 +161,8 @@ module _ (t : ℕ) where
       (c : even-At solve-even-lts.After-highest-at) →
       let g = even-start (even-sized c) in
       Top (gameOf (even-tables g)) (onLevel (even-tables g) (g .args .base) (g .args .work .now))
-      (parity (c .highest-at .result))
-      (c .highest-at .result)
+      (parity (c .highest-at .result .0))
+      (c .highest-at .result .0)
   even-top c =
       let d = even-sized c in
       let e = c .before .before in
@@ -178,15 +178,15 @@ module _ (t : ℕ) where
   even-high c = let d = even-sized c in called-high (even-called d) (even-words d) (even-top c)
 
   -- it is below the height
-  even-lower : (c : even-At solve-even-lts.After-highest-at) → c .highest-at .result < even-start (even-sized c) .args .height
+  even-lower : (c : even-At solve-even-lts.After-highest-at) → c .highest-at .result .0 < even-start (even-sized c) .args .height
   even-lower c = let d = even-sized c in top-lower (even-called d) (even-words d) (even-top c)
 
   -- whose it is
-  even-theirs : (c : even-At solve-even-lts.Then2) → parity (c .before .highest-at .result) ≡ opponent Even
+  even-theirs : (c : even-At solve-even-lts.Then2) → parity (c .before .before .highest-at .result .0) ≡ opponent Even
   even-theirs c = ap playerOf (c .if2 .taken)
 
-  even-ours : (c : even-At solve-even-lts.Else2) → parity (c .before .highest-at .result) ≡ Even
-  even-ours c = parity-even (c .before .highest-at .result) (c .if2 .left)
+  even-ours : (c : even-At solve-even-lts.Else2) → parity (c .before .before .highest-at .result .0) ≡ Even
+  even-ours c = parity-even (c .before .before .highest-at .result .0) (c .if2 .left)
 
   even-set-words-requires : even-At solve-even-lts.Need-set-words-requires
   even-set-words-requires c κs = search needs
@@ -225,17 +225,17 @@ module _ (t : ℕ) where
 
   even-copy-with-requires : even-At solve-even-lts.Need-copy-with-requires
   even-copy-with-requires c κs =
-      let high = even-high (c .before .before) in
+      let high = even-high (c .before .before .before) in
       record { into-fits = omega arith; from-fits = omega arith; apart = inr (omega arith) }
 
   even-add-solve-odd : even-At solve-even-lts.Need-add-solve-odd
   even-add-solve-odd c =
-      let h = even-topped (c .before .before .before) in
+      let h = even-topped (c .before .before .before .before) in
       omega (arith, even-lower h, even-start (even-sized h) .fits .height)
 
   even-solve-odd-requires : even-At solve-even-lts.Need-solve-odd-requires
   even-solve-odd-requires c κs =
-      let copied = c .before .before .before in
+      let copied = c .before .before .before .before in
       let h = even-topped copied in
       let d = even-sized h in
       let theirs = even-theirs (copied .before .before) in (
@@ -281,7 +281,7 @@ module _ (t : ℕ) where
 
   even-loop-holds : even-At solve-even-lts.Need-loop-holds
   even-loop-holds c =
-      let h = c .before .before .before in
+      let h = c .before .before .before .before in
       let d = even-sized h in
       going-first (even-called d) (even-words d) (even-top h) (c .new .ensures)
 
@@ -291,7 +291,7 @@ module _ (t : ℕ) where
   even-attract-top-requires : even-At solve-even-lts.Need-attract-top-requires
   even-attract-top-requires c κs =
       let l = c .before .before .before .before in
-      let h = even-entered l .before in
+      let h = even-entered l .before .before in
       let d = even-sized h in
       going-ready (even-called d) (even-words d) (even-top h) (l .loop .inv)
 
@@ -300,7 +300,7 @@ module _ (t : ℕ) where
       let cut = c .before .before .before in
       let l = even-turn cut in
       let e = even-entered l in
-      let h = e .before in
+      let h = e .before .before in
       let d = even-sized h in (
         omega (arith, even-lower h, even-start d .pre .0),
         going-called (even-called d) (even-words d) (even-top h) (l .loop .inv) (even-ours e) (cut .attract-top .ensures),
@@ -312,7 +312,7 @@ module _ (t : ℕ) where
       let cut = even-cut found in
       let l = even-turn cut in
       let e = even-entered l in
-      let h = e .before in
+      let h = e .before .before in
       let d = even-sized h in
       going-droppable (even-called d) (even-words d) (even-top h) (l .loop .inv) (even-ours e) (cut .attract-top .ensures)
       (found .solve-odd2 .ensures)
@@ -325,7 +325,7 @@ module _ (t : ℕ) where
       let cut = even-cut found in
       let l = even-turn cut in
       let e = even-entered l in
-      let h = e .before in
+      let h = e .before .before in
       let d = even-sized h in
       let g = even-start d in
       going-less (even-called d) (even-words d) (even-top h) (l .loop .inv) (even-ours e) (cut .attract-top .ensures)
@@ -340,7 +340,7 @@ module _ (t : ℕ) where
       let cut = even-cut found in
       let l = even-turn cut in
       let e = even-entered l in
-      let h = e .before in
+      let h = e .before .before in
       let d = even-sized h in
       let g = even-start d in
       going-on (even-called d) (even-words d) (even-top h) (l .loop .inv) (even-ours e) (cut .attract-top .ensures)
@@ -360,7 +360,7 @@ module _ (t : ℕ) where
   even-returns-3 c =
       let l = c .before .before .before in
       let e = even-entered l in
-      let h = e .before in
+      let h = e .before .before in
       let d = even-sized h in
       let k = c .before .if3 .left in
       going-ends (even-called d) (even-words d) (even-top h) (l .loop .inv) (λ early. omega arith) (d .size-at .ensures)
@@ -430,10 +430,10 @@ module _ (t : ℕ) where
 
   -- from there to the call of the other solver on V itself, and to the loop
   abbrev odd-copied : odd-At solve-odd-lts.After-solve-even → odd-At solve-odd-lts.After-copy-with
-  odd-copied c = c .before .before .before .before
+  odd-copied c = c .before .before .before .before .before
 
   abbrev odd-topped : odd-At solve-odd-lts.After-copy-with → odd-At solve-odd-lts.After-highest-at
-  odd-topped c = c .before .before .before
+  odd-topped c = c .before .before .before .before
 
   abbrev odd-entered : odd-At solve-odd-lts.At-loop → odd-At solve-odd-lts.Else2
   odd-entered c = c .before .before .before
@@ -469,8 +469,8 @@ module _ (t : ℕ) where
       (c : odd-At solve-odd-lts.After-highest-at) →
       let g = odd-start (odd-sized c) in
       Top (gameOf (odd-tables g)) (onLevel (odd-tables g) (g .args .base) (g .args .work .now))
-      (parity (c .highest-at .result))
-      (c .highest-at .result)
+      (parity (c .highest-at .result .0))
+      (c .highest-at .result .0)
   odd-top c =
       let d = odd-sized c in
       let e = c .before .before in
@@ -486,15 +486,15 @@ module _ (t : ℕ) where
   odd-high c = let d = odd-sized c in called-high (odd-called d) (odd-words d) (odd-top c)
 
   -- it is below the height
-  odd-lower : (c : odd-At solve-odd-lts.After-highest-at) → c .highest-at .result < odd-start (odd-sized c) .args .height
+  odd-lower : (c : odd-At solve-odd-lts.After-highest-at) → c .highest-at .result .0 < odd-start (odd-sized c) .args .height
   odd-lower c = let d = odd-sized c in top-lower (odd-called d) (odd-words d) (odd-top c)
 
   -- whose it is
-  odd-theirs : (c : odd-At solve-odd-lts.Then2) → parity (c .before .highest-at .result) ≡ opponent Odd
+  odd-theirs : (c : odd-At solve-odd-lts.Then2) → parity (c .before .before .highest-at .result .0) ≡ opponent Odd
   odd-theirs c = ap playerOf (c .if2 .taken)
 
-  odd-ours : (c : odd-At solve-odd-lts.Else2) → parity (c .before .highest-at .result) ≡ Odd
-  odd-ours c = parity-odd (c .before .highest-at .result) (c .if2 .left)
+  odd-ours : (c : odd-At solve-odd-lts.Else2) → parity (c .before .before .highest-at .result .0) ≡ Odd
+  odd-ours c = parity-odd (c .before .before .highest-at .result .0) (c .if2 .left)
 
   odd-set-words-requires : odd-At solve-odd-lts.Need-set-words-requires
   odd-set-words-requires c κs = search needs
@@ -533,17 +533,17 @@ module _ (t : ℕ) where
 
   odd-copy-with-requires : odd-At solve-odd-lts.Need-copy-with-requires
   odd-copy-with-requires c κs =
-      let high = odd-high (c .before .before) in
+      let high = odd-high (c .before .before .before) in
       record { into-fits = omega arith; from-fits = omega arith; apart = inr (omega arith) }
 
   odd-add-solve-even : odd-At solve-odd-lts.Need-add-solve-even
   odd-add-solve-even c =
-      let h = odd-topped (c .before .before .before) in
+      let h = odd-topped (c .before .before .before .before) in
       omega (arith, odd-lower h, odd-start (odd-sized h) .fits .height)
 
   odd-solve-even-requires : odd-At solve-odd-lts.Need-solve-even-requires
   odd-solve-even-requires c κs =
-      let copied = c .before .before .before in
+      let copied = c .before .before .before .before in
       let h = odd-topped copied in
       let d = odd-sized h in
       let theirs = odd-theirs (copied .before .before) in (
@@ -588,7 +588,7 @@ module _ (t : ℕ) where
 
   odd-loop-holds : odd-At solve-odd-lts.Need-loop-holds
   odd-loop-holds c =
-      let h = c .before .before .before in
+      let h = c .before .before .before .before in
       let d = odd-sized h in
       going-first (odd-called d) (odd-words d) (odd-top h) (c .new .ensures)
 
@@ -598,7 +598,7 @@ module _ (t : ℕ) where
   odd-attract-top-requires : odd-At solve-odd-lts.Need-attract-top-requires
   odd-attract-top-requires c κs =
       let l = c .before .before .before .before in
-      let h = odd-entered l .before in
+      let h = odd-entered l .before .before in
       let d = odd-sized h in
       going-ready (odd-called d) (odd-words d) (odd-top h) (l .loop .inv)
 
@@ -607,7 +607,7 @@ module _ (t : ℕ) where
       let cut = c .before .before .before in
       let l = odd-turn cut in
       let e = odd-entered l in
-      let h = e .before in
+      let h = e .before .before in
       let d = odd-sized h in (
         omega (arith, odd-lower h, odd-start d .pre .0),
         going-called (odd-called d) (odd-words d) (odd-top h) (l .loop .inv) (odd-ours e) (cut .attract-top .ensures),
@@ -619,7 +619,7 @@ module _ (t : ℕ) where
       let cut = odd-cut found in
       let l = odd-turn cut in
       let e = odd-entered l in
-      let h = e .before in
+      let h = e .before .before in
       let d = odd-sized h in
       going-droppable (odd-called d) (odd-words d) (odd-top h) (l .loop .inv) (odd-ours e) (cut .attract-top .ensures)
       (found .solve-even2 .ensures)
@@ -632,7 +632,7 @@ module _ (t : ℕ) where
       let cut = odd-cut found in
       let l = odd-turn cut in
       let e = odd-entered l in
-      let h = e .before in
+      let h = e .before .before in
       let d = odd-sized h in
       let g = odd-start d in
       going-less (odd-called d) (odd-words d) (odd-top h) (l .loop .inv) (odd-ours e) (cut .attract-top .ensures)
@@ -647,7 +647,7 @@ module _ (t : ℕ) where
       let cut = odd-cut found in
       let l = odd-turn cut in
       let e = odd-entered l in
-      let h = e .before in
+      let h = e .before .before in
       let d = odd-sized h in
       let g = odd-start d in
       going-on (odd-called d) (odd-words d) (odd-top h) (l .loop .inv) (odd-ours e) (cut .attract-top .ensures)
@@ -667,7 +667,7 @@ module _ (t : ℕ) where
   odd-returns-3 c =
       let l = c .before .before .before in
       let e = odd-entered l in
-      let h = e .before in
+      let h = e .before .before in
       let d = odd-sized h in
       let k = c .before .if3 .left in
       going-ends (odd-called d) (odd-words d) (odd-top h) (l .loop .inv) (λ early. omega arith) (d .size-at .ensures)

@@ -1,18 +1,17 @@
--- `size`: n counts the members in the words passed, at most 64 a word.
+-- `size`: n is the size of the words passed, at most 64 a word.
 use Prim.Native.Nat.{ℕ, _≤_, _*_, _-_, zero-le}
 use mathlib.Core.Path.{_≡_, refl, ap, _∙_}
 use native.Mathlib.Omega.{arith}
 use borrow.Author.Needs.{needs}
 use lib.Count.{ones, ones-le}
-use lib.ListN.{length, getD}
-use Rattle.rules.specs.Counting.{count}
-use Rattle.rules.specs.Words.{setOf}
-use Rattle.sets.specs.Whole.{size-more}
+use lib.ListN.{length, getD, take}
+use lib.Seq.{take-length}
+use Rattle.sets.specs.Size.{size, size-more}
 use Rattle.sets.proofs.whole.size.Statement.{statement}
 use Rattle.sets.proofs.whole.size.Tie as tie
 
 abbrev Inv-loop : tie.InvT-loop
-Inv-loop set n₀ i₀ i-end n i = (i ≤ i-end) × (n ≡ count (64 * i) (setOf set)) × (n ≤ 64 * i)
+Inv-loop set n₀ i₀ i-end n i = (i ≤ i-end) × (n ≡ size (take i set)) × (n ≤ 64 * i)
 
 abbrev μ-loop : tie.MeasureT-loop
 μ-loop set n₀ i₀ i-end n i = i-end - i
@@ -23,7 +22,7 @@ word-ones : (c : tie.After-shared-slice-known Inv-loop μ-loop)
 word-ones c = ones-le 64 _ (c .shared-slice-known .given (c .before .before .loop .i) .fits)
 
 loop-holds : tie.Need-loop-holds Inv-loop μ-loop
-unfolding count
+unfolding size
 loop-holds c = (zero-le, refl, zero-le)
 
 mul-n : tie.Need-mul-n Inv-loop μ-loop
@@ -48,12 +47,14 @@ loop-again : tie.Need-loop-again Inv-loop μ-loop
 loop-again c =
     let l = c .before .before .loop in
     let word = c .shared-slice-known .given (l .i) .fits in
-    (search needs, omega (arith, size-more (c .before .before .before .args .set .now) (l .i) word), omega (arith, word-ones c))
+    let more = size-more (c .before .before .before .args .set .now) (l .i) (search needs) word in
+    (search needs, omega (arith, more), omega (arith, word-ones c))
 
 returns : tie.Need-returns Inv-loop μ-loop
 returns c =
     let e : c .before .loop .i ≡ length (c .before .before .args .set .now) = omega arith in
-    c .before .loop .inv .1 ∙ ap (λ (x : ℕ). count (64 * x) (setOf (c .before .before .args .set .now))) e
+    c .before .loop .inv .1 ∙
+    ap size (ap (λ (x : ℕ). take x (c .before .before .args .set .now)) e ∙ take-length (c .before .before .args .set .now))
 
 pub size-spec : {M : Type 1} → statement M
 size-spec =

@@ -1,4 +1,4 @@
--- `zielonka_rec` meets its contract. The measure is the number of members of V. The pieces before a nested call make what it asks
+-- `zielonka_rec` meets its contract. The measure is the size of V, by the ones of its words. The pieces before a nested call make what it asks
 -- for, on fewer vertices, and the pieces after it make of what it left the run of this call.
 use mathlib.Core.Path.{_≡_}
 use mathlib.Core.Bool.{true}
@@ -6,9 +6,8 @@ use mathlib.Core.List.{List}
 use Prim.Native.Nat.{ℕ, _+_, _*_, _≤_, _<_}
 use native.Mathlib.Omega.{arith}
 use lib.ListN.{length}
-use Rattle.rules.specs.Counting.{count}
 use Rattle.rules.specs.Tables.{Tables, tablesOf}
-use Rattle.area.specs.Area.{setAt}
+use Rattle.area.specs.Area.{sizeAt}
 use Rattle.zielonka_level.specs.Level.{onLevel, Done}
 use Rattle.zielonka.specs.Ending.{Ends, ends-over, ends-done}
 use Rattle.zielonka_level.specs.Steps.{over-first}
@@ -37,8 +36,7 @@ use Rattle.zielonka.proofs.recursion.+zielonka_rec.{statement}
 use Rattle.zielonka.proofs.recursion.+zielonka_rec.Tie.{close}
 
 abbrev μ : Measures 5 kinds.ps ℕ
-μ κs a =
-    let n = length (a .0 .now) in count n (setAt n (a .1 .1 .1 .1 .1 .0) (a .1 .1 .1 .1 .0 .now))
+μ κs a = sizeAt (length (a .0 .now)) (a .1 .1 .1 .1 .1 .0) (a .1 .1 .1 .1 .0 .now)
 
 abbrev called-at : ℕ → In 5 kinds.ps
 called-at t = and 5 kinds.ps (is 5 kinds.ps μ t) own.Pre
@@ -72,7 +70,7 @@ cs t = (
   join-reads.Learnt,
 )
 
--- a call with t vertices in V
+-- a call with V of size t
 module _ (t : ℕ) where
   -- a place of the function, or what is to be proved at one
   abbrev At : (lts.Claims → In 5 kinds.ps → Out 5 kinds.ps kinds.r → Type 0) → Type 0
@@ -118,8 +116,8 @@ module _ (t : ℕ) where
   abbrev start : At lts.After-attract-highest → At lts.Start
   start c = start-of (after-words (after-test (after-highest c)))
 
-  abbrev size : At lts.After-attract-highest → ℕ
-  size c = after-words (after-test (after-highest c)) .set-words .result
+  abbrev wide : At lts.After-attract-highest → ℕ
+  wide c = after-words (after-test (after-highest c)) .set-words .result
 
   abbrev top : At lts.After-attract-highest → ℕ
   top c = after-highest c .get-highest-prio .result .0
@@ -162,7 +160,7 @@ module _ (t : ℕ) where
   -- the first cut is made
   begun :
       (c : At lts.After-attract-highest) →
-      Begun (tables (start c)) (size c) (start c .args .base) (top c) (work₀ c) (work₁ c)
+      Begun (tables (start c)) (wide c) (start c .args .base) (top c) (work₀ c) (work₁ c)
   begun c =
       let called = start c .pre .1 .called in
       let sized = after-words (after-test (after-highest c)) .set-words .ensures in
@@ -179,7 +177,7 @@ module _ (t : ℕ) where
       (c : At lts.Else3) →
       let d = after-cut (after-first c) in
       let a = start d .args in
-      Came (tables (start d)) (size d) (a .base) (top d) (a .calls) (a .cap) (made c)
+      Came (tables (start d)) (wide d) (a .base) (top d) (a .calls) (a .cap) (made c)
       (work₀ d) (work₁ d) (work₂ (after-first c))
   came c =
       let first = after-first c in
@@ -191,7 +189,7 @@ module _ (t : ℕ) where
       let told = after-told c in
       let d = first-cut c in
       let a = start d .args in
-      Lost (tables (start d)) (size d) (a .base) (top d) (a .calls) (a .cap) (made told)
+      Lost (tables (start d)) (wide d) (a .base) (top d) (a .calls) (a .cap) (made told)
       (work₀ d) (work₁ d) (work₂ (after-first told)) (work₃ c)
   lost c =
       let g = start (first-cut c) in
@@ -205,7 +203,7 @@ module _ (t : ℕ) where
       let l = after-second-cut e in
       let d = first-cut l in
       let a = start d .args in
-      Done (tables (start d)) (a .base + 4 * size d) (made (after-told l)) (a .cap) (e .zielonka-rec2 .result) (work₃ l) (work₄ e)
+      Done (tables (start d)) (a .base + 4 * wide d) (made (after-told l)) (a .cap) (e .zielonka-rec2 .result) (work₃ l) (work₄ e)
   second c = c .before .before .before .zielonka-rec2 .ensures .done (omega (arith, c .if5 .left))
 
   returns : At lts.Need-returns

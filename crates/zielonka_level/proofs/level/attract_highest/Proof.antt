@@ -12,8 +12,11 @@ start-of c = c .before .before .before .before .before
 abbrev after-set-at : tie.After-meet → tie.After-set-at
 after-set-at c = c .before .before
 
-abbrev after-meet : tie.After-cut → tie.After-meet
-after-meet c = c .before .before .before .before
+abbrev after-meet : tie.After-from-priority → tie.After-meet
+after-meet c = c .before .before .before
+
+abbrev after-named : tie.After-cut → tie.After-from-priority
+after-named c = c .before .before
 
 set-at-requires : tie.Need-set-at-requires
 set-at-requires c κs = let g = c .before .before .before .before in highest-placed (g .pre .ready) (g .pre .small)
@@ -26,12 +29,12 @@ meet-requires c κs =
     let placed = c .before in
     let g = start-of placed in highest-meets (g .pre .ready) (g .pre .small) (placed .set-at .ensures)
 
-cast-cut : tie.Need-cast-cut
-cast-cut c = search needs
+from-priority-requires : tie.Need-from-priority-requires
+from-priority-requires c κs = search needs
 
 cut-requires : tie.Need-cut-requires
 cut-requires c κs =
-    let met = c .before .before .before in
+    let met = after-meet (c .before) in
     let placed = after-set-at met in
     let g = start-of placed in
     highest-cuttable (g .pre .ready) (g .pre .small) (placed .set-at .ensures) (met .meet .ensures)
@@ -42,10 +45,12 @@ same-length c = search needs
 returns : tie.Need-returns
 returns c priorities ready =
     let parted = c .before .before in
-    let met = after-meet parted in
+    let named = after-named parted in
+    let met = after-meet named in
     let placed = after-set-at met in
     let g = start-of placed in
     highest-made ready (g .pre .small) (placed .set-at .ensures) (met .meet .ensures)
+    (named .from-priority .ensures)
     (parted .cut .ensures priorities (ready .called .accepted))
 
 pub attract-highest-spec : {M : Type 1} → statement M
@@ -55,7 +60,7 @@ attract-highest-spec =
     set-at-requires
     add-meet
     meet-requires
-    cast-cut
+    from-priority-requires
     cut-requires
     same-length
     returns)

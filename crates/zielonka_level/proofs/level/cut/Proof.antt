@@ -7,8 +7,11 @@ use Rattle.zielonka_level.proofs.level.cut.Statement.{statement}
 use Rattle.zielonka_level.proofs.level.cut.Tie as tie
 
 -- the places of the function, each from the next: where it begins, and after each call
-abbrev start-of : tie.After-attract → tie.Start
-start-of c = c .before .before .before .before .before .before
+abbrev start-of : tie.After-index → tie.Start
+start-of c = c .before .before .before .before .before
+
+abbrev after-index : tie.After-attract → tie.After-index
+after-index c = c .before .before
 
 abbrev after-attract : tie.After-copy-with → tie.After-attract
 after-attract c = c .before .before .before .before
@@ -16,11 +19,15 @@ after-attract c = c .before .before .before .before
 abbrev after-copy : tie.After-difference-with → tie.After-copy-with
 after-copy c = c .before .before .before .before
 
+index-requires : tie.Need-index-requires
+index-requires c κs = search needs
+
 add-attract : tie.Need-add-attract
 add-attract c = search needs
 
 attract-requires : tie.Need-attract-requires
-attract-requires c κs = cut-attractable (c .before .before .before .before .before .pre)
+attract-requires c κs =
+    cut-attractable (start-of (c .before) .pre) (c .before .index .ensures .1)
 
 mul-copy-with : tie.Need-mul-copy-with
 mul-copy-with c = search needs
@@ -31,7 +38,7 @@ add-copy-with c = search needs
 copy-with-requires : tie.Need-copy-with-requires
 copy-with-requires c κs =
     let drawn = c .before .before .before in
-    let high = start-of drawn .pre .ready .high in
+    let high = start-of (after-index drawn) .pre .ready .high in
     let long = drawn .attract .kept .1 .1 .1 .1 .0 in
     record { into-fits = omega arith; from-fits = omega arith; apart = inr (omega arith) }
 
@@ -48,7 +55,7 @@ difference-with-requires : tie.Need-difference-with-requires
 difference-with-requires c κs =
     let copied = c .before .before .before in
     let drawn = after-attract copied in
-    let high = start-of drawn .pre .ready .high in
+    let high = start-of (after-index drawn) .pre .ready .high in
     let long = drawn .attract .kept .1 .1 .1 .1 .0 in
     let long′ = copied .copy-with .kept .0 in
     record { into-fits = omega arith; from-fits = omega arith; apart = inr (omega arith) }
@@ -62,7 +69,8 @@ returns c =
     let reduced = c .before .before in
     let copied = after-copy reduced in
     let drawn = after-attract copied in
-    cut-done (start-of drawn .pre) priorities ok
+    let named = after-index drawn in
+    cut-done (start-of named .pre) (named .index .result) (named .index .ensures .0) priorities ok
     (drawn .attract .ensures priorities ok)
     (copied .copy-with .ensures)
     (reduced .difference-with .ensures)
@@ -71,6 +79,7 @@ pub cut-spec : {M : Type 1} → statement M
 cut-spec =
     tie.close
     (tie.spec
+    index-requires
     add-attract
     attract-requires
     mul-copy-with

@@ -1,8 +1,7 @@
 -- `join` meets its contract.
 use native.Mathlib.Omega.{arith}
 use mathlib.Core.Logic.{inl}
-use Prim.Native.Nat.{_-_, _%_}
-use Rattle.rules.specs.Game.{playerOf}
+use Rattle.parity_game.specs.Said.{is}
 use Rattle.zielonka_level.specs.PiecesHold.{won-parts, joined-made}
 use borrow.Author.Needs.{needs}
 use Rattle.zielonka_level.proofs.level.join.Statement.{statement}
@@ -12,7 +11,7 @@ use Rattle.zielonka_level.proofs.level.join.Tie as tie
 abbrev start-of : tie.After-copy-with → tie.Start
 start-of c = c .before .before .before
 
-abbrev after-copy : tie.After-won-at → tie.After-copy-with
+abbrev after-copy : tie.After-opponent-of → tie.After-copy-with
 after-copy c = c .before .before .before
 
 abbrev after-won-at : tie.After-union-with → tie.After-won-at
@@ -36,12 +35,12 @@ mul-copy-with-3 c = search needs
 copy-with-requires : tie.Need-copy-with-requires
 copy-with-requires c κs = record { into-fits = omega arith; from-fits = omega arith; apart = inl (omega arith) }
 
-sub-won-at : tie.Need-sub-won-at
-sub-won-at c = search needs
+opponent-of-requires : tie.Need-opponent-of-requires
+opponent-of-requires c κs = search needs
 
 won-at-requires : tie.Need-won-at-requires
 won-at-requires c κs =
-    let g = start-of (c .before .before) in omega (arith, g .pre, g .good)
+    let g = start-of (after-copy c) in omega (arith, g .pre, g .good)
 
 add-union-with : tie.Need-add-union-with
 add-union-with c = search needs
@@ -49,9 +48,10 @@ add-union-with c = search needs
 union-with-requires : tie.Need-union-with-requires
 union-with-requires c κs =
     let placed = c .before in
-    let copied = after-copy placed in
+    let named = placed .before in
+    let copied = after-copy named in
     let g = start-of copied in
-    won-parts (g .args .base) (playerOf (1 - g .args .p % 2)) (placed .won-at .ensures) (omega arith)
+    won-parts (g .args .base) (is (named .opponent-of .result)) (placed .won-at .ensures) (omega arith)
     (omega (arith, g .pre, copied .copy-with .kept .0))
 
 same-length : tie.Need-same-length
@@ -62,8 +62,10 @@ returns c =
     λ t sized low.
     let united = c .before .before in
     let placed = after-won-at united in
-    let copied = after-copy placed in
-    joined-made (start-of copied .args .p) (copied .copy-with .ensures) (placed .won-at .ensures) (united .union-with .ensures)
+    let named = placed .before in
+    let copied = after-copy named in
+    joined-made (start-of copied .args .p .0) (copied .copy-with .ensures) (named .opponent-of .ensures) (placed .won-at .ensures)
+    (united .union-with .ensures)
     t sized low
 
 pub join-spec : {M : Type 1} → statement M
@@ -76,7 +78,7 @@ join-spec =
     add-copy-with-2
     mul-copy-with-3
     copy-with-requires
-    sub-won-at
+    opponent-of-requires
     won-at-requires
     add-union-with
     union-with-requires

@@ -1,6 +1,6 @@
 -- `win_everything` meets its contract.
 use native.Mathlib.Omega.{arith}
-use Rattle.rules.specs.Game.{parity}
+use Rattle.parity_game.specs.Said.{is}
 use Rattle.zielonka_level.specs.PiecesHold.{highest-placed, highest-meets, won-parts, all-extends, all-made}
 use borrow.Author.Needs.{needs}
 use Rattle.zielonka_level.proofs.level.win_everything.Statement.{statement}
@@ -16,8 +16,11 @@ after-set-at c = c .before .before
 abbrev after-meet : tie.After-clear → tie.After-meet
 after-meet c = c .before .before .before .before
 
-abbrev after-clear : tie.After-won-at → tie.After-clear
+abbrev after-clear : tie.After-from-priority → tie.After-clear
 after-clear c = c .before .before .before
+
+abbrev after-named : tie.After-won-at → tie.After-from-priority
+after-named c = c .before
 
 abbrev after-won-at : tie.After-copy-with → tie.After-won-at
 after-won-at c = c .before .before
@@ -48,28 +51,34 @@ mul-clear-2 c = search needs
 clear-requires : tie.Need-clear-requires
 clear-requires c κs = search needs
 
+from-priority-requires : tie.Need-from-priority-requires
+from-priority-requires c κs = search needs
+
 won-at-requires : tie.Need-won-at-requires
 won-at-requires c κs =
-    let g = start-of (after-set-at (after-meet (c .before .before))) in omega (arith, g .pre .ready .high, g .good)
+    let g = start-of (after-set-at (after-meet (after-clear c))) in omega (arith, g .pre .ready .high, g .good)
 
 copy-with-requires : tie.Need-copy-with-requires
 copy-with-requires c κs =
     let placed = c .before in
-    let cleared = after-clear placed in
+    let named = after-named placed in
+    let cleared = after-clear named in
     let met = after-meet cleared in
     let g = start-of (after-set-at met) in
-    won-parts (g .args .base) (parity (g .args .p)) (placed .won-at .ensures) (omega arith)
+    won-parts (g .args .base) (is (named .from-priority .result)) (placed .won-at .ensures) (omega arith)
     (omega (arith, g .pre .ready .high, cleared .clear .kept .0, met .meet .kept .0))
 
 extend-lowest-requires : tie.Need-extend-lowest-requires
 extend-lowest-requires c κs =
     let copied = c .before .before .before in
     let placed = after-won-at copied in
-    let cleared = after-clear placed in
+    let named = after-named placed in
+    let cleared = after-clear named in
     let met = after-meet cleared in
     let at = after-set-at met in
     let g = start-of at in
-    all-extends (g .args .p) (g .pre .ready) (g .pre .small) (at .set-at .ensures) (met .meet .ensures) (placed .won-at .ensures)
+    all-extends (g .args .p .0) (g .pre .ready) (g .pre .small) (at .set-at .ensures) (met .meet .ensures)
+    (named .from-priority .ensures) (placed .won-at .ensures)
     (cleared .clear .ensures)
     (copied .copy-with .ensures)
 
@@ -81,11 +90,13 @@ returns c priorities ready =
     let extended = c .before .before in
     let copied = after-copy extended in
     let placed = after-won-at copied in
-    let cleared = after-clear placed in
+    let named = after-named placed in
+    let cleared = after-clear named in
     let met = after-meet cleared in
     let at = after-set-at met in
     let g = start-of at in
-    all-made (g .args .p) ready (g .pre .small) (at .set-at .ensures) (met .meet .ensures) (placed .won-at .ensures)
+    all-made (g .args .p .0) ready (g .pre .small) (at .set-at .ensures) (met .meet .ensures)
+    (named .from-priority .ensures) (placed .won-at .ensures)
     (cleared .clear .ensures)
     (copied .copy-with .ensures)
     (extended .extend-lowest .ensures)
@@ -101,6 +112,7 @@ win-everything-spec =
     add-clear
     mul-clear-2
     clear-requires
+    from-priority-requires
     won-at-requires
     copy-with-requires
     extend-lowest-requires
