@@ -19,7 +19,7 @@ use Rattle.predecessors.specs.Table.{Ready, Predecessors}
 use Rattle.predecessors.specs.Whole.{accepted-edges}
 use Rattle.depth_first.specs.Area.{marks, behind, Within, Cleared, marked, marked-alike}
 use Rattle.depth_first.specs.Seeking.{rows-kept}
-use Rattle.parts.specs.Parity.{Sweepable, Swept, predecessor-rows, graph-sound, swept-all}
+use Rattle.subgame.specs.Parity.{Sweepable, Swept, predecessor-rows, graph-sound, swept-all}
 
 -- v is marked in the row of the other parity
 unfoldable pub losingAt : List ℕ → List ℕ → ℕ → ℕ → Set

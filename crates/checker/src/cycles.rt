@@ -58,8 +58,8 @@ fn mark_cycles(
     let rows = n + 1 + targets.len() + n + n + n + n + n + n;
     parts::clear(work, rows, rows + n + n);
     predecessors::build(offsets, targets, n, work);
-    parts::mark_parity(priorities, offsets, targets, kept, strategy, 0, work, rows);
-    parts::mark_parity(
+    subgame::mark_parity(priorities, offsets, targets, kept, strategy, 0, work, rows);
+    subgame::mark_parity(
         priorities,
         offsets,
         targets,

@@ -32,7 +32,7 @@ fn next_edge(
     let marks = priorities.len() + 1 + targets.len();
     let end = offsets[t + 1] as usize;
     for e in from..end {
-        let w = subgame::target(targets, e).0;
+        let w = targets[e] as usize;
         if links::opens(priorities, entries, p, work, marks, w, t, w) {
             return e;
         }
@@ -74,7 +74,7 @@ fn advance(
     let e = next_edge(priorities, offsets, targets, entries, p, work, t, from);
     work[marks + t] = e as u64 + 1;
     if e < offsets[t + 1] as usize {
-        let y = subgame::target(targets, e).0;
+        let y = targets[e] as usize;
         push(n, marks, offsets, work, y, at.top);
         return Progress {
             top: at.top + 1,

@@ -17,7 +17,7 @@ use Rattle.depth_first.specs.Area.{false-marked}
 use Rattle.depth_first.specs.Graph.{Graph, graph, gameIn, Leads, SoundGraph}
 use Rattle.depth_first.specs.Seeking.{assigned, Rows, rows-kept}
 use Rattle.breadth_first.specs.Spreading.{Way}
-use Rattle.parts.specs.Parity.{rows-alike}
+use Rattle.subgame.specs.Parity.{rows-alike}
 use Rattle.parts.specs.Whole.{Markable, Marked}
 use Rattle.loop_search.specs.Heads.{head, head-true, true-head, Headable, Headed}
 

@@ -25,7 +25,7 @@ fn find(
     let labels = n + 1 + targets.len() + n + n + n;
     let row = labels + n + n + n;
     parts::clear(work, row, row + n);
-    parts::mark_used(priorities, offsets, targets, kept, entries, p, work, row);
+    subgame::mark_used(priorities, offsets, targets, kept, entries, p, work, row);
     parts::clear(work, labels, labels + n);
     spread_heads(priorities, offsets, targets, entries, p, work, row);
 }

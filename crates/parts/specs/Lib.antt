@@ -1,5 +1,4 @@
--- The graph that the search for parts goes over, the places of the work area, and the laws of both passes.
+-- What the labels of the search tell of the parts, and the stages joined: from a lent work area to the row of marks.
 pub mod Noting
 pub mod Good
 pub mod Whole
-pub mod Parity

@@ -64,7 +64,7 @@ fn has_loop(
         return false;
     }
     for e in offsets[v] as usize..offsets[v + 1] as usize {
-        if subgame::leads_to(targets, e, v) {
+        if targets[e] as usize == v {
             return true;
         }
     }

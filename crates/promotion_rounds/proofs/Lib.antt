@@ -2,4 +2,3 @@
 pub mod Bare
 pub mod Stored
 pub mod Tables
-pub mod Walk

@@ -33,7 +33,7 @@ use Rattle.attractor.specs.Attracted.{own-is}
 use Rattle.depth_first.specs.Area.{behind}
 use Rattle.depth_first.specs.Graph.{Graph, graph, gameIn, Leads, SoundGraph, keeping}
 use Rattle.depth_first.specs.Leading.{link, leads}
-use Rattle.parts.specs.Parity.{predecessor-rows, graph-sound, game-of}
+use Rattle.subgame.specs.Parity.{predecessor-rows, graph-sound, game-of}
 use Rattle.loop_search.specs.Finding.{Unled}
 use Rattle.solitaire_game.specs.Running.{rows-fit, sole-owner-small}
 use Rattle.show_loop.specs.Checks.{Passed}

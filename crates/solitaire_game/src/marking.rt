@@ -28,7 +28,7 @@ pub fn mark_good(
     let n = owners.len();
     parts::clear(work, row, row + n);
     predecessors::build(offsets, targets, n, work);
-    parts::mark_parity(
+    subgame::mark_parity(
         priorities,
         offsets,
         targets,

@@ -1,3 +1,2 @@
--- What the proofs by hand share: the steps of a walk, and the functions of this crate as the walks see them.
-pub mod Readers
-pub mod Walk
+-- What the proofs by hand share: the view and its parts as types and machine values.
+pub mod Held

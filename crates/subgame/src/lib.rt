@@ -1,67 +1,72 @@
-// The subgame view, after the Rust's Subgame: it holds the target table of the game that it restricts. It is thin: each
-// of its functions leaves the work to one on plain tables.
-use parity_game::VertexIndex;
+// The subgame view, after the Rust's Subgame: a game's target table with the highest priority that is let in. It is thin:
+// it carries the two through the search for parts, which works on plain tables. Solitaire and the checker go by it.
+mod parity;
+
+pub use parity::mark_parity;
+pub use parity::mark_used;
+use parity_game::Priority;
 ghost use mathlib.Core.Path.{_≡_};
 ghost use Prim.Native.Nat.{_<_};
-ghost use lib.Dec.{eqb};
-ghost use lib.ListN.{length, getD};
+ghost use Rattle.depth_first.specs.Graph.{graph};
+ghost use Rattle.parts.specs.Whole.{Markable, Marked};
 
+// The game restricted to the vertices of priority at most top.
 pub struct Subgame<'a> {
     pub targets: &'a [u16],
-}
-
-// Where edge e of the table ends.
-fn target_of(targets: &[u16], e: usize) -> VertexIndex
-    requires { ⌜ e < length (now targets) ⌝ }
-    ensures { λ r. ⌜ r .0 ≡ getD (now (targets .entry)) e 0 ⌝ }
-{
-    VertexIndex(targets[e] as usize)
-}
-
-// Whether edge e of the table ends in v.
-fn ends_in(targets: &[u16], e: usize, v: usize) -> bool
-    requires { ⌜ e < length (now targets) ⌝ }
-    ensures { λ r. ⌜ r ≡ eqb (getD (now (targets .entry)) e 0) v ⌝ }
-{
-    targets[e] as usize == v
+    pub top: Priority,
 }
 
 impl<'a> Subgame<'a> {
-    pub fn new(targets: &'a [u16]) -> Subgame<'a>
-        ensures { λ r. ⌜ r .targets ≡ targets .entry ⌝ }
+    pub fn new(targets: &'a [u16], top: Priority) -> Subgame<'a>
+        ensures { λ r. ⌜ (r .targets ≡ targets .entry) × (r .top ≡ top) ⌝ }
     {
-        Subgame { targets }
+        Subgame { targets, top }
     }
 
-    // Where edge e ends.
-    pub fn target(self, e: usize) -> VertexIndex
-        requires { ⌜ e < length (now (self .targets)) ⌝ }
-        ensures { λ r. ⌜ r .0 ≡ getD (now (self .entry .targets)) e 0 ⌝ }
+    // Marks the vertices of the subgame's good parts in a row of n words from base on.
+    pub fn mark_parts(
+        self,
+        priorities: &[u16],
+        offsets: &[u16],
+        entries: &[u16],
+        work: &mut [u64],
+        base: usize,
+    )
+        requires { ⌜ Markable (graph (now priorities) (now offsets) (now (self .targets)) (now entries) (self .top .0))
+            (now work) base × (self .top .0 < 256) ⌝ }
+        ensures { λ _.
+            ⌜ Marked (graph (now (priorities .entry)) (now (offsets .entry)) (now (self .entry .targets))
+            (now (entries .entry)) (self .entry .top .0))
+            base (now (work .entry)) (now (work .exit)) ⌝ }
     {
-        target_of(self.targets, e)
-    }
-
-    // Whether edge e ends in v.
-    pub fn leads_to(self, e: usize, v: usize) -> bool
-        requires { ⌜ e < length (now (self .targets)) ⌝ }
-        ensures { λ r. ⌜ r ≡ eqb (getD (now (self .entry .targets)) e 0) v ⌝ }
-    {
-        ends_in(self.targets, e, v)
+        parts::mark_within(
+            priorities,
+            offsets,
+            self.targets,
+            entries,
+            self.top,
+            work,
+            base,
+        )
     }
 }
 
-// Where edge e ends, by a view of the table.
-pub fn target(targets: &[u16], e: usize) -> VertexIndex
-    requires { ⌜ e < length (now targets) ⌝ }
-    ensures { λ r. ⌜ r .0 ≡ getD (now (targets .entry)) e 0 ⌝ }
+// The same from plain tables, by a view that is made of them.
+pub fn mark_parts(
+    priorities: &[u16],
+    offsets: &[u16],
+    targets: &[u16],
+    entries: &[u16],
+    top: Priority,
+    work: &mut [u64],
+    base: usize,
+)
+    requires { ⌜ Markable (graph (now priorities) (now offsets) (now targets) (now entries) (top .0)) (now work) base ×
+        (top .0 < 256) ⌝ }
+    ensures { λ _.
+        ⌜ Marked (graph (now (priorities .entry)) (now (offsets .entry)) (now (targets .entry))
+        (now (entries .entry)) (top .0))
+        base (now (work .entry)) (now (work .exit)) ⌝ }
 {
-    Subgame::new(targets).target(e)
-}
-
-// Whether edge e ends in v, by a view of the table.
-pub fn leads_to(targets: &[u16], e: usize, v: usize) -> bool
-    requires { ⌜ e < length (now targets) ⌝ }
-    ensures { λ r. ⌜ r ≡ eqb (getD (now (targets .entry)) e 0) v ⌝ }
-{
-    Subgame::new(targets).leads_to(e, v)
+    Subgame::new(targets, top).mark_parts(priorities, offsets, entries, work, base)
 }

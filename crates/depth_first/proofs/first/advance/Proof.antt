@@ -56,19 +56,24 @@ shared-slice-read-if1 c = search needs
 cast-if1 : tie.Need-cast-if1
 cast-if1 c = search needs
 
-target-requires : tie.Need-target-requires
-target-requires c κs = search needs
+mul-y : tie.Need-mul-y
+mul-y c = search needs
+
+shared-slice-read-y : tie.Need-shared-slice-read-y
+shared-slice-read-y c = search needs
+
+cast-y : tie.Need-cast-y
+cast-y c = omega (arith, c .shared-slice-known6 .given (c .before .before .before .next-edge .result))
 
 push-requires : tie.Need-push-requires
 push-requires c κs =
     let s = c .before .before .before .before .before .before .before .before .before .before .before .before in
     let a = s .args in
     let f = c .before .before .before .before .next-edge in
-    rw (c .before .target .ensures)
-    (advance-pushable (graph-of s) (a .work .now) (a .t) (a .at .top) (a .at .done) (s .pre) (f .result) (f .ensures) (c .before .before .if1 .taken))
+    advance-pushable (graph-of s) (a .work .now) (a .t) (a .at .top) (a .at .done) (s .pre) (f .result) (f .ensures) (c .before .before .if1 .taken)
 
-add-t30 : tie.Need-add-t30
-add-t30 c = search needs
+add-t26 : tie.Need-add-t26
+add-t26 c = search needs
 
 same-length : tie.Need-same-length
 same-length c =
@@ -82,7 +87,7 @@ returns c =
     let f = c .before .before .before .before .before .before .before .before .next-edge in
     advance-pushes (graph-of s) (a .work .now) (a .t) (a .at .top) (a .at .done) (s .pre) (f .result) (f .ensures)
     (c .before .before .before .before .before .before .if1 .taken) (c .before .before .before .push .last .1 .1 .1 .0)
-    (rw (c .before .before .before .before .before .target .ensures) at (c .before .before .before .push .ensures))
+    (c .before .before .before .push .ensures)
 
 add-work-3 : tie.Need-add-work-3
 add-work-3 c = search needs
@@ -131,9 +136,11 @@ advance-spec =
     mul-if1
     shared-slice-read-if1
     cast-if1
-    target-requires
+    mul-y
+    shared-slice-read-y
+    cast-y
     push-requires
-    add-t30
+    add-t26
     same-length
     returns
     add-work-3

@@ -44,20 +44,26 @@ loop-holds c =
     let s = c .before .before .before .before .before .before in
     scanning-starts (graph-of s) (s .args .work .now) (s .args .t) (s .args .from) (s .pre)
 
-target-requires : tie.Need-target-requires Inv-loop μ-loop
-target-requires c κs = search needs
+mul-w : tie.Need-mul-w Inv-loop μ-loop
+mul-w c = search needs
+
+shared-slice-read-w : tie.Need-shared-slice-read-w Inv-loop μ-loop
+shared-slice-read-w c = search needs
+
+cast-w : tie.Need-cast-w Inv-loop μ-loop
+cast-w c = omega (arith, c .shared-slice-known7 .given (c .before .before .loop .e))
 
 opens-requires : tie.Need-opens-requires Inv-loop μ-loop
 opens-requires c κs =
     let below = start-of (c .before .before) .pre .sound .edges .target-below (c .before .before .loop .e) (omega arith) in
-    (rw (c .target .ensures) below, omega (arith, c .target .ensures, below))
+    (below, omega (arith, below))
 
 returns : tie.Need-returns Inv-loop μ-loop
 returns c =
     let l = c .before .before .before .before in
     let s = start-of l in
     scan-found (graph-of s) (s .args .work .now) (s .args .t) (s .args .from) (s .pre) (l .loop .e) (l .loop .inv)
-    (c .before .before .before .loop-test .taken) (rw (c .before .before .target .ensures) at (sym (c .before .opens .ensures) ∙ c .if1 .taken))
+    (c .before .before .before .loop-test .taken) (sym (c .before .opens .ensures) ∙ c .if1 .taken)
 
 add-e : tie.Need-add-e Inv-loop μ-loop
 add-e c = search needs
@@ -70,7 +76,7 @@ loop-again c =
     let l = c .before .before .before .before in
     let s = start-of l in
     scanning-more (graph-of s) (s .args .work .now) (s .args .t) (s .args .from) (s .pre) (l .loop .e) (l .loop .inv)
-    (c .before .before .before .loop-test .taken) (rw (c .before .before .target .ensures) at (sym (c .before .opens .ensures) ∙ c .if1 .left))
+    (c .before .before .before .loop-test .taken) (sym (c .before .opens .ensures) ∙ c .if1 .left)
 
 returns-2 : tie.Need-returns-2 Inv-loop μ-loop
 returns-2 c =
@@ -91,7 +97,9 @@ next-edge-spec =
     shared-slice-read-end
     cast-end
     loop-holds
-    target-requires
+    mul-w
+    shared-slice-read-w
+    cast-w
     opens-requires
     returns
     add-e

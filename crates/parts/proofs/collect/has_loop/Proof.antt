@@ -2,7 +2,7 @@
 use mathlib.Core.Path.{_≡_, refl, sym, _∙_}
 use Prim.Native.Nat.{_+_, _-_, _≤_}
 use native.Mathlib.Nat.{le-refl}
-use borrow.Author.Tests.{eqb-true, eqb-false, not-true, not-false}
+use borrow.Author.Tests.{not-true, not-false}
 use lib.ListN.{getD}
 use Rattle.depth_first.specs.Graph.{Graph, graph}
 use Rattle.parts.specs.Good.{Looping, loop-unkept, loop-found, loop-more, loop-none}
@@ -62,14 +62,20 @@ loop-holds c =
       },
     )
 
-leads-to-requires : tie.Need-leads-to-requires Inv-loop μ-loop
-leads-to-requires c κs = search needs
+mul-if2 : tie.Need-mul-if2 Inv-loop μ-loop
+mul-if2 c = search needs
+
+shared-slice-read-if2 : tie.Need-shared-slice-read-if2 Inv-loop μ-loop
+shared-slice-read-if2 c = search needs
+
+cast-if2 : tie.Need-cast-if2 Inv-loop μ-loop
+cast-if2 c = omega (arith, c .shared-slice-known7 .given (c .before .before .loop .e))
 
 returns-2 : tie.Need-returns-2 Inv-loop μ-loop
 returns-2 c =
     let s = c .before .before .before .before .before .before .before .before .before .before .before .before in
     let l = c .before .before .before .loop in
-    loop-found (graph-of s) (s .args .v) (s .pre) (l .e) (l .inv .2) (omega arith) (eqb-true _ _ (sym (c .before .leads-to .ensures) ∙ c .if2 .taken))
+    loop-found (graph-of s) (s .args .v) (s .pre) (l .e) (l .inv .2) (omega arith) (c .if2 .taken)
 
 add-e : tie.Need-add-e Inv-loop μ-loop
 add-e c = search needs
@@ -81,7 +87,7 @@ loop-again : tie.Need-loop-again Inv-loop μ-loop
 loop-again c =
     let s = c .before .before .before .before .before .before .before .before .before .before .before .before in
     let l = c .before .before .before .loop in
-    (omega arith, refl, loop-more (graph-of s) (s .args .v) (s .pre) (l .e) (l .inv .2) (eqb-false _ _ (sym (c .before .leads-to .ensures) ∙ c .if2 .left)))
+    (omega arith, refl, loop-more (graph-of s) (s .args .v) (s .pre) (l .e) (l .inv .2) (c .if2 .left))
 
 returns-3 : tie.Need-returns-3 Inv-loop μ-loop
 returns-3 c =
@@ -105,7 +111,9 @@ has-loop-spec =
     shared-slice-read-e-end
     cast-e-end
     loop-holds
-    leads-to-requires
+    mul-if2
+    shared-slice-read-if2
+    cast-if2
     returns-2
     add-e
     loop-less

@@ -56,7 +56,7 @@ use Rattle.promotion_rounds.specs.Solve.{Reached, reached-ready, reached
 use Rattle.promotion_rounds.proofs.Bare.{Bare, bared, valued}
 use Rattle.promotion_rounds.proofs.Stored.{R, mach, unsolved-fits, rounds-fits, typed, lies-in, lies-out}
 use Rattle.promotion_rounds.proofs.Tables.{sv, O₁, O₂, O₃, O₄, Tables, copies}
-use Rattle.promotion_rounds.proofs.Walk.{_▸_, full, span, Places, env, cells, begins, leaves, apart, knowing, arg, _&_, sets, while-test, if-test}
+use Rattle.by_hand.proofs.Walk.{_▸_, full, span, Places, env, cells, begins, leaves, apart, knowing, arg, _&_, sets, while-test, if-test}
 use Rattle.promotion_rounds.proofs.round.State as T
 use Rattle.promotion_rounds.proofs.round.State.Laws as T′
 use Rattle.promotion_rounds.proofs.round.State.step as thin

@@ -47,7 +47,7 @@ use Rattle.promotion_rounds.specs.declared.round.State.{State}
 use Rattle.promotion_rounds.specs.Rounds.{RoundReady, RoundDone}
 use Rattle.promotion_rounds.proofs.Stored.{R, mach, typed}
 use Rattle.promotion_rounds.proofs.Tables.{sv, O₁, O₂, O₃, O₄, Tables, copies}
-use Rattle.promotion_rounds.proofs.Walk.{_▸_, full, span, begins, leaves, apart, knowing, arg, _&_, sets}
+use Rattle.by_hand.proofs.Walk.{_▸_, full, span, begins, leaves, apart, knowing, arg, _&_, sets}
 use Rattle.promotion_rounds.proofs.round.State as T
 use Rattle.promotion_rounds.proofs.round.State.Laws as T′
 use Rattle.promotion_rounds.proofs.round.round as round

@@ -2,11 +2,11 @@
 use mathlib.Core.Path.{_≡_, refl, subst}
 use Prim.Native.Nat.{ℕ, _-_, _≤_}
 use lib.ListN.{length}
-use Rattle.parts.specs.Parity.{Swept, swept-none, sweep-ready, swept-more}
+use Rattle.subgame.specs.Parity.{Swept, swept-none, sweep-ready, swept-more}
 use native.Mathlib.Omega.{arith}
 use borrow.Author.Needs.{needs}
-use Rattle.parts.proofs.parity.mark_parity.Statement.{statement}
-use Rattle.parts.proofs.parity.mark_parity.Tie as tie
+use Rattle.subgame.proofs.parity.mark_parity.Statement.{statement}
+use Rattle.subgame.proofs.parity.mark_parity.Tie as tie
 
 abbrev Inv-loop : tie.InvT-loop
 Inv-loop priorities offsets targets kept entries parity work₀ base k₀ work k =

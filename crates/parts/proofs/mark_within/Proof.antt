@@ -1,17 +1,17 @@
--- `mark_parts` meets its contract: each stage leaves what the next one needs.
+-- `mark_within` meets its contract: each stage leaves what the next one needs.
 use Rattle.depth_first.specs.Graph.{Graph, graph}
 use Rattle.parts.specs.Whole.{passes, labelling, hits-noteable, pairs-noteable, collectable, marked-parts}
 use native.Mathlib.Omega.{arith}
 use borrow.Author.Needs.{needs}
-use Rattle.parts.proofs.mark_parts.Statement.{statement}
-use Rattle.parts.proofs.mark_parts.Tie as tie
+use Rattle.parts.proofs.mark_within.Statement.{statement}
+use Rattle.parts.proofs.mark_within.Tie as tie
 
 abbrev graph-of : tie.Start → Graph
-graph-of s = graph (s .args .priorities .now) (s .args .offsets .now) (s .args .targets .now) (s .args .entries .now) (s .args .p)
+graph-of s = graph (s .args .priorities .now) (s .args .offsets .now) (s .args .targets .now) (s .args .entries .now) (s .args .top .0)
 
 -- where the function begins, from each call on
 abbrev at1 : tie.After-clear → tie.Start
-at1 c = c .before .before .before .before .before .before .before
+at1 c = c .before .before .before .before .before .before .before .before
 
 abbrev at2 : tie.After-first-pass → tie.After-clear
 at2 c = c .before .before .before .before
@@ -24,6 +24,9 @@ at4 c = c .before .before .before .before
 
 abbrev at5 : tie.After-note2 → tie.After-note
 at5 c = c .before .before .before .before
+
+cast-p : tie.Need-cast-p
+cast-p c = search needs
 
 add-marks : tie.Need-add-marks
 add-marks c = search needs
@@ -56,14 +59,14 @@ first-pass-requires : tie.Need-first-pass-requires
 first-pass-requires c κs =
     let d1 = c .before .before .before in
     let s = at1 d1 in
-    passes (graph-of s) (s .args .work .now) (s .args .base) (s .pre) (d1 .clear .last .0) (d1 .clear .ensures)
+    passes (graph-of s) (s .args .work .now) (s .args .base) (s .pre .0) (d1 .clear .last .0) (d1 .clear .ensures)
 
 second-pass-requires : tie.Need-second-pass-requires
 second-pass-requires c κs =
     let d2 = c .before .before .before in
     let d1 = at2 d2 in
     let s = at1 d1 in
-    labelling (graph-of s) (s .args .work .now) (s .args .base) (s .pre) (d1 .clear .last .0) (d1 .clear .ensures)
+    labelling (graph-of s) (s .args .work .now) (s .args .base) (s .pre .0) (d1 .clear .last .0) (d1 .clear .ensures)
     (d2 .first-pass .last .1 .1 .1 .1 .1 .0) (d2 .first-pass .result) (d2 .first-pass .ensures)
 
 note-requires : tie.Need-note-requires
@@ -72,7 +75,7 @@ note-requires c κs =
     let d2 = at3 d3 in
     let d1 = at2 d2 in
     let s = at1 d1 in
-    hits-noteable (graph-of s) (s .args .work .now) (s .args .base) (s .pre) (d1 .clear .last .0) (d1 .clear .ensures)
+    hits-noteable (graph-of s) (s .args .work .now) (s .args .base) (s .pre .0) (d1 .clear .last .0) (d1 .clear .ensures)
     (d2 .first-pass .last .1 .1 .1 .1 .1 .0) (d2 .first-pass .result) (d2 .first-pass .ensures) (d3 .second-pass .last .1 .1 .1 .1 .1 .0)
     (d3 .second-pass .ensures)
 
@@ -83,7 +86,7 @@ add-note c =
     let d2 = at3 d3 in
     let d1 = at2 d2 in
     let s = at1 d1 in
-    omega (arith, s .pre .low-end, s .pre .fits, s .good .1 .1 .1 .1 .1 .0)
+    omega (arith, s .pre .0 .low-end, s .pre .0 .fits, s .good .1 .1 .1 .1 .1 .0)
 
 note-requires-2 : tie.Need-note-requires-2
 note-requires-2 c κs =
@@ -92,7 +95,7 @@ note-requires-2 c κs =
     let d2 = at3 d3 in
     let d1 = at2 d2 in
     let s = at1 d1 in
-    pairs-noteable (graph-of s) (s .args .work .now) (s .args .base) (s .pre) (d1 .clear .last .0) (d1 .clear .ensures)
+    pairs-noteable (graph-of s) (s .args .work .now) (s .args .base) (s .pre .0) (d1 .clear .last .0) (d1 .clear .ensures)
     (d2 .first-pass .last .1 .1 .1 .1 .1 .0) (d2 .first-pass .result) (d2 .first-pass .ensures) (d3 .second-pass .last .1 .1 .1 .1 .1 .0)
     (d3 .second-pass .ensures)
     (d4 .note .last .1 .1 .1 .0) (d4 .note .ensures)
@@ -105,7 +108,7 @@ collect-requires c κs =
     let d2 = at3 d3 in
     let d1 = at2 d2 in
     let s = at1 d1 in
-    collectable (graph-of s) (s .args .work .now) (s .args .base) (s .pre) (d1 .clear .last .0) (d1 .clear .ensures)
+    collectable (graph-of s) (s .args .work .now) (s .args .base) (s .pre .0) (d1 .clear .last .0) (d1 .clear .ensures)
     (d2 .first-pass .last .1 .1 .1 .1 .1 .0) (d2 .first-pass .result) (d2 .first-pass .ensures) (d3 .second-pass .last .1 .1 .1 .1 .1 .0)
     (d3 .second-pass .ensures)
     (d4 .note .last .1 .1 .1 .0) (d4 .note .ensures) (d5 .note2 .last .1 .1 .1 .0) (d5 .note2 .ensures)
@@ -119,7 +122,7 @@ same-length c =
     let d2 = at3 d3 in
     let d1 = at2 d2 in
     let s = at1 d1 in
-    marked-parts (graph-of s) (s .args .work .now) (s .args .base) (s .pre) (d1 .clear .last .0) (d1 .clear .ensures)
+    marked-parts (graph-of s) (s .args .work .now) (s .args .base) (s .pre .0) (d1 .clear .last .0) (d1 .clear .ensures)
     (d2 .first-pass .last .1 .1 .1 .1 .1 .0) (d2 .first-pass .result) (d2 .first-pass .ensures) (d3 .second-pass .last .1 .1 .1 .1 .1 .0)
     (d3 .second-pass .ensures)
     (d4 .note .last .1 .1 .1 .0) (d4 .note .ensures) (d5 .note2 .last .1 .1 .1 .0) (d5 .note2 .ensures) (d6 .collect .last .1 .1 .1 .1 .1 .0)
@@ -134,16 +137,17 @@ returns c =
     let d2 = at3 d3 in
     let d1 = at2 d2 in
     let s = at1 d1 in
-    marked-parts (graph-of s) (s .args .work .now) (s .args .base) (s .pre) (d1 .clear .last .0) (d1 .clear .ensures)
+    marked-parts (graph-of s) (s .args .work .now) (s .args .base) (s .pre .0) (d1 .clear .last .0) (d1 .clear .ensures)
     (d2 .first-pass .last .1 .1 .1 .1 .1 .0) (d2 .first-pass .result) (d2 .first-pass .ensures) (d3 .second-pass .last .1 .1 .1 .1 .1 .0)
     (d3 .second-pass .ensures)
     (d4 .note .last .1 .1 .1 .0) (d4 .note .ensures) (d5 .note2 .last .1 .1 .1 .0) (d5 .note2 .ensures) (d6 .collect .last .1 .1 .1 .1 .1 .0)
     (d6 .collect .ensures)
 
-pub mark-parts-spec : {M : Type 1} → statement M
-mark-parts-spec =
+pub mark-within-spec : {M : Type 1} → statement M
+mark-within-spec =
     tie.close
     (tie.spec
+    cast-p
     add-marks
     add-marks-2
     add-hits

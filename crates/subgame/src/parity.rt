@@ -1,10 +1,11 @@
-// All priorities of one parity, one after another.
+// All priorities of one parity, one subgame after another.
+use parity_game::Priority;
 ghost use mathlib.Core.Path.{_≡_};
 ghost use Prim.Native.Nat.{_<_};
 ghost use Rattle.rules.specs.Record.{freshCount};
 ghost use Rattle.depth_first.specs.Graph.{graph};
 ghost use Rattle.parts.specs.Whole.{Markable, Marked};
-ghost use Rattle.parts.specs.Parity.{Sweepable, Swept};
+ghost use Rattle.subgame.specs.Parity.{Sweepable, Swept};
 
 // A priority that no vertex has, by the kept numbers, has no part, and no search.
 pub fn mark_used(
@@ -25,7 +26,15 @@ pub fn mark_used(
         base (now (work .entry)) (now (work .exit)) ⌝ }
 {
     if kept[p as usize] != 0 {
-        crate::mark_parts(priorities, offsets, targets, entries, p, work, base);
+        crate::mark_parts(
+            priorities,
+            offsets,
+            targets,
+            entries,
+            Priority(p as usize),
+            work,
+            base,
+        );
     }
 }
 

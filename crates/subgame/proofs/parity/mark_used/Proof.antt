@@ -1,10 +1,10 @@
 -- `mark_used` meets its contract: where no vertex has the priority there is nothing to mark.
 use native.Mathlib.Omega.{arith}
 use Rattle.depth_first.specs.Graph.{graph}
-use Rattle.parts.specs.Parity.{kept-long, kept-unused, marked-unused}
+use Rattle.subgame.specs.Parity.{kept-long, kept-unused, marked-unused}
 use borrow.Author.Needs.{needs}
-use Rattle.parts.proofs.parity.mark_used.Statement.{statement}
-use Rattle.parts.proofs.parity.mark_used.Tie as tie
+use Rattle.subgame.proofs.parity.mark_used.Statement.{statement}
+use Rattle.subgame.proofs.parity.mark_used.Tie as tie
 
 abbrev start : tie.After-shared-slice-known6 → tie.Start
 start c = c .before .before .before .before .before .before .before
@@ -17,7 +17,7 @@ shared-slice-read-if1 c =
     let s = start c in omega (arith, kept-long (s .args .priorities .now) (s .args .kept .now) (s .pre .1), s .pre .2)
 
 mark-parts-requires : tie.Need-mark-parts-requires
-mark-parts-requires c κs = start (c .before .before) .pre .0
+mark-parts-requires c κs = (start (c .before .before) .pre .0, start (c .before .before) .pre .2)
 
 same-length : tie.Need-same-length
 same-length c = search needs

@@ -1,0 +1,2 @@
+-- What proofs by hand share, whatever function they are of.
+pub mod Walk
