@@ -15,7 +15,8 @@ use Rattle.rules.specs.Winning.{Reach}
 use Rattle.basics.specs.Basics.{clash, below-suc, count-strict, count-le}
 use Rattle.theory.specs.DepthFirst.{Marks, marks-cases, marks-keeps, marks-count}
 use Rattle.sets.specs.After.{Cleared}
-use Rattle.depth_first.specs.Area.{queue, labels, hits, Within, within-then, within-store, true-marked, marked-true}
+use Rattle.search_rows.specs.Rows.{queue, labels, hits}
+use Rattle.depth_first.specs.Area.{Within, within-then, within-store, true-marked, marked-true}
 use Rattle.depth_first.specs.Area.{false-marked, marked-marks}
 use Rattle.depth_first.specs.Graph.{Graph, size, edgeCount, priority, Leads, SoundGraph}
 use Rattle.depth_first.specs.Leading.{link}

@@ -14,7 +14,8 @@ use Rattle.rules.specs.Loop.{Path, alone, next}
 use Rattle.rules.specs.Winning.{Reach, here, step}
 use Rattle.basics.specs.Basics.{bool-cases, clash, below-suc, lt-or-ge}
 use Rattle.theory.specs.Loop.{path-map}
-use Rattle.depth_first.specs.Area.{queue, labels, hits, Within, within-same, within-then, true-marked, marked-true}
+use Rattle.search_rows.specs.Rows.{queue, labels, hits}
+use Rattle.depth_first.specs.Area.{Within, within-same, within-then, true-marked, marked-true}
 use Rattle.depth_first.specs.Graph.{Graph, size, edgeCount, priority, Leads, SoundGraph}
 use Rattle.depth_first.specs.Leading.{link}
 use Rattle.depth_first.specs.Walking.{Room}

@@ -1,6 +1,7 @@
 // The way round from a vertex back to it.
 use crate::search::spread;
 use depth_first::look_back;
+use search_rows::Rows;
 ghost use Rattle.depth_first.specs.Graph.{graph};
 ghost use Rattle.breadth_first.specs.Beginning.{Roundable, Rounded};
 
@@ -22,7 +23,8 @@ pub fn spread_round(
         u (now (work .entry)) (now (work .exit)) ⌝ }
 {
     let n = priorities.len();
-    let labels = n + 1 + targets.len() + n + n + n;
+    let m = targets.len();
+    let labels = Rows { n, m }.labels();
     sets::clear(work, labels, n);
     let begun = look_back(priorities, offsets, targets, entries, p, work, u, n, 0);
     spread(priorities, offsets, targets, entries, p, work, begun);

@@ -1,5 +1,6 @@
 // The search itself.
 use depth_first::look_back;
+use search_rows::Rows;
 ghost use Rattle.depth_first.specs.Graph.{graph};
 ghost use Rattle.breadth_first.specs.Spreading.{Standing, Spread};
 
@@ -21,7 +22,8 @@ pub fn spread(
         (now (work .entry)) (now (work .exit)) ⌝ }
 {
     let n = priorities.len();
-    let queue = n + 1 + targets.len() + n + n;
+    let m = targets.len();
+    let queue = Rows { n, m }.queue();
     let mut head = 0;
     let mut tail = begun;
     while head < tail {

@@ -29,7 +29,8 @@ use Rattle.parity_game.specs.Laws.{accepted-sound, outcome-pass}
 use Rattle.parity_game.specs.Laws.{Numbered, numbered-givenAt}
 use Rattle.predecessors.specs.Whole.{accepted-edges}
 use Rattle.lent_checks.specs.Checks.{checksBy, checks-passed}
-use Rattle.depth_first.specs.Area.{behind, Cleared, marked}
+use Rattle.search_rows.specs.Rows.{behind}
+use Rattle.depth_first.specs.Area.{Cleared, marked}
 use Rattle.checker_sides.specs.Sides.{Sets, Given, Sided, ownBy, sideOf, unchosen, entryNumber, wrongEntry, leavesSet, entry-is}
 use Rattle.checker.specs.Cycles.{losingAt, Scannable, MarksReady, CyclesMarked}
 

@@ -17,7 +17,8 @@ use Rattle.theory.specs.Chosen.{chosenPart}
 use Rattle.parity_game.specs.Laws.{accepted-sound}
 use Rattle.predecessors.specs.Table.{Ready, Predecessors}
 use Rattle.predecessors.specs.Whole.{accepted-edges}
-use Rattle.depth_first.specs.Area.{marks, behind, Within, Cleared, marked, marked-alike}
+use Rattle.search_rows.specs.Rows.{marks, behind}
+use Rattle.depth_first.specs.Area.{Within, Cleared, marked, marked-alike}
 use Rattle.depth_first.specs.Seeking.{rows-kept}
 use Rattle.subgame.specs.Parity.{Sweepable, Swept, predecessor-rows, graph-sound, swept-all}
 

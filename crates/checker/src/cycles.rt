@@ -2,6 +2,7 @@
 use parity_game::Answer;
 use parity_game::LOSING_CYCLE;
 use parity_game::VertexIndex;
+use search_rows::Rows;
 ghost use mathlib.Core.Path.{_≡_};
 ghost use Prim.Native.Nat.{_+_, _*_, _<_};
 ghost use lib.ListN.{length};
@@ -55,7 +56,8 @@ fn mark_cycles(
         (now (work .entry)) (now (work .exit)) ⌝ }
 {
     let n = priorities.len();
-    let rows = n + 1 + targets.len() + n + n + n + n + n + n;
+    let m = targets.len();
+    let rows = Rows { n, m }.behind();
     parts::clear(work, rows, rows + n + n);
     predecessors::build(offsets, targets, n, work);
     subgame::mark_parity(priorities, offsets, targets, kept, strategy, 0, work, rows);
@@ -91,5 +93,6 @@ pub fn check_cycles(
 {
     mark_cycles(owners, priorities, offsets, targets, kept, strategy, work);
     let n = priorities.len();
-    find_losing(even, work, n + 1 + targets.len() + n + n + n + n + n + n, n)
+    let m = targets.len();
+    find_losing(even, work, Rows { n, m }.behind(), n)
 }

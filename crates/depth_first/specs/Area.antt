@@ -1,9 +1,8 @@
--- Where the search keeps what it knows in the work area, behind the predecessor table: six words for each vertex. And laws of the rows
--- of words, of which each pass changes a few and leaves the rest.
+-- Laws of the rows of words that the search keeps in the work area, of which each pass changes a few and leaves the rest.
 use mathlib.Core.Bool.{Bool, true, false, _&&_, not}
 use mathlib.Core.List.{List, [], _∷_, _++_}
 use mathlib.Core.Logic.{_⊎_, inl, inr, ⊎-elim}
-use mathlib.Core.Path.{_≡_, refl, sym, ap, fun-ext, _∙_}
+use mathlib.Core.Path.{_≡_, refl, sym, ap, subst, fun-ext, _∙_}
 use Prim.Native.Nat.{ℕ, suc, _+_, _-_, _≤_, _<_}
 use native.Mathlib.Omega.{arith}
 use borrow.Author.Tests.{eqb-true, eqb-false, ne-eqb, lt-ltb, ltb-true, not-true}
@@ -14,30 +13,6 @@ use Rattle.rules.specs.Counting.{Set}
 use Rattle.basics.specs.Basics.{bool-ext, and-intro, and-left, and-right, not-true-is-false, clash}
 use Rattle.theory.specs.DepthFirst.{Marks}
 use Rattle.sets.specs.After as After
-
--- cursors of the first pass, plus 1; the finished vertices; the stack, or queue; the labels, plus 1; the labels whose part has
--- priority p, and those whose part has two vertices
-abbrev pub marks : ℕ → ℕ → ℕ
-marks n m = n + 1 + m
-
-abbrev pub order : ℕ → ℕ → ℕ
-order n m = marks n m + n
-
-abbrev pub queue : ℕ → ℕ → ℕ
-queue n m = order n m + n
-
-abbrev pub labels : ℕ → ℕ → ℕ
-labels n m = queue n m + n
-
-abbrev pub hits : ℕ → ℕ → ℕ
-hits n m = labels n m + n
-
-abbrev pub pairs : ℕ → ℕ → ℕ
-pairs n m = hits n m + n
-
--- the words behind, where sets may stand
-abbrev pub behind : ℕ → ℕ → ℕ
-behind n m = pairs n m + n
 
 -- only words from lo up to hi may have changed
 pub record Within (lo hi : ℕ) (before after : List ℕ) : Type 0 where
@@ -58,6 +33,13 @@ within-wider a b w =
 pub record Cleared (from to : ℕ) (before after : List ℕ) : Type 0 where
   pub within : Within from to before after
   pub zeros : (i : ℕ) → from ≤ i → i < to → getD after i 0 ≡ 0
+
+-- the ends by what they are equal to
+pub cleared-as :
+    {from from' to to' : ℕ} {before after : List ℕ} →
+    from ≡ from' → to ≡ to' → Cleared from to before after → Cleared from' to' before after
+cleared-as {from} {from'} {to} {to'} {before} {after} a b h =
+    subst (λ (k : ℕ). Cleared from' k before after) b (subst (λ (k : ℕ). Cleared k to before after) a h)
 
 -- a store
 pub within-store : (lo hi i a : ℕ) (work : List ℕ) → lo ≤ i → i < hi → Within lo hi work (set work i a)

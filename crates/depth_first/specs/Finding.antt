@@ -16,7 +16,8 @@ use Rattle.basics.specs.Basics.{count-pos}
 use Rattle.theory.specs.DepthFirst.{Marks}
 use Rattle.theory.specs.Kosaraju.{PartSought, part-starts, SecondPass, second-pass-starts, second-pass-skips, second-pass-assigns, second-pass-ends}
 use Rattle.theory.specs.Solitaire.{at-most-intro}
-use Rattle.depth_first.specs.Area.{order, queue, labels, hits, Within, within-same, within-then, within-store}
+use Rattle.search_rows.specs.Rows.{order, queue, labels, hits}
+use Rattle.depth_first.specs.Area.{Within, within-same, within-then, within-store}
 use Rattle.depth_first.specs.Area.{segment-length, segment-at, true-marked, marked-true, false-marked, marked-marks}
 use Rattle.depth_first.specs.Graph.{Graph, size, edgeCount, priority, gameIn, low, Leads, SoundGraph}
 use Rattle.depth_first.specs.Leading.{link}

@@ -10,7 +10,8 @@ use lib.ListN.{length, getD}
 use Rattle.basics.specs.Basics.{bool-cases, clash, not-false-is-true, below-suc}
 use Rattle.theory.specs.DepthFirst.{ReachesUp, dfs-starts}
 use Rattle.theory.specs.Solitaire.{at-most-elim}
-use Rattle.depth_first.specs.Area.{marks, queue, false-marked, marked-false, marked-true}
+use Rattle.search_rows.specs.Rows.{marks, queue}
+use Rattle.depth_first.specs.Area.{false-marked, marked-false, marked-true}
 use Rattle.depth_first.specs.Graph.{Graph, size, edgeCount, priority, low, Leads, SoundGraph, freshAt, gameIn}
 use Rattle.depth_first.specs.Leading.{fresh-true, true-fresh, edge-within}
 use Rattle.depth_first.specs.Walking.{visited, stackOf, markOf, Room, Walking, Pushable, pushed}

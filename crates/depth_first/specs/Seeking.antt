@@ -14,7 +14,8 @@ use Rattle.basics.specs.Basics.{clash, and-intro, and-left, and-right, not-fals
 use Rattle.basics.specs.Basics.{count-strict, count-le}
 use Rattle.theory.specs.DepthFirst.{FinishingOrder, Marks, marks-cases, marks-keeps, marks-count}
 use Rattle.theory.specs.Kosaraju.{Assigned, PartSought}
-use Rattle.depth_first.specs.Area.{marks, order, queue, labels, hits, Within, within-same, within-then, within-store}
+use Rattle.search_rows.specs.Rows.{marks, order, queue, labels, hits}
+use Rattle.depth_first.specs.Area.{Within, within-same, within-then, within-store}
 use Rattle.depth_first.specs.Area.{marked, marked-true, false-marked, marked-false, marked-marks}
 use Rattle.depth_first.specs.Graph.{Graph, size, edgeCount, priority, gameIn, low, Leads, SoundGraph, keeping, freshAt}
 use Rattle.depth_first.specs.Leading.{fresh-true, true-fresh, link, leads}
@@ -56,6 +57,17 @@ pub record Putable (row x queue at : ℕ) (work : List ℕ) : Type 0 where
 
 abbrev pub putting : ℕ → ℕ → ℕ → ℕ → ℕ → List ℕ → List ℕ
 putting row x word queue at work = set (set work (row + x) word) (queue + at) x
+
+-- the rows by what they are equal to
+pub putable-as :
+    {row row' x queue queue' at : ℕ} {work : List ℕ} →
+    row ≡ row' → queue ≡ queue' → Putable row' x queue' at work → Putable row x queue at work
+putable-as a b h = record { word = rw a (h .word); place = rw b (h .place) }
+
+pub putting-as :
+    {row row' queue queue' : ℕ} (x word at : ℕ) (work : List ℕ) →
+    row ≡ row' → queue ≡ queue' → putting row x word queue at work ≡ putting row' x word queue' at work
+putting-as x word at work a b = rw (a, b)
 
 pub record Lookable (G : Graph) (work : List ℕ) (w r tail : ℕ) : Type 0 where
   pub sound : SoundGraph G

@@ -17,7 +17,8 @@ use Rattle.basics.specs.Basics.{bool-ext, clash, not-false-is-true, and-intro, 
 use Rattle.theory.specs.Walks.{Relation, reach-step}
 use Rattle.theory.specs.DepthFirst.{Searched, searching, ReachesUp, Marks, marks-keeps, each-last, dfs-pushes, dfs-pops, dfs-room}
 use Rattle.theory.specs.DepthFirst.{marks-cases}
-use Rattle.depth_first.specs.Area.{marks, order, queue, labels, behind, Within, within-same, within-then, within-store}
+use Rattle.search_rows.specs.Rows.{marks, order, queue, labels, behind}
+use Rattle.depth_first.specs.Area.{Within, within-same, within-then, within-store}
 use Rattle.depth_first.specs.Area.{segment, segment-length, segment-alike, segment-more, marked}
 use Rattle.depth_first.specs.Area.{true-marked, marked-true, false-marked, marked-false, marked-alike, marked-marks}
 use Rattle.depth_first.specs.Graph.{Graph, size, edgeCount, priority, offset, target, low, Leads, SoundGraph, keeping, freshAt}

@@ -1,8 +1,10 @@
 // The first pass: a depth-first search along the links, with the stack in the work area. It writes the vertices in
 // the order in which they finish.
 use crate::links;
+use search_rows::Rows;
 ghost use mathlib.Core.Path.{_≡_};
 ghost use Prim.Native.Nat.{_+_, _<_};
+ghost use Rattle.search_rows.specs.Rows.{marks};
 ghost use Rattle.depth_first.specs.Graph.{graph};
 ghost use Rattle.depth_first.specs.Walking.{Scannable, Scanned, Pushable, pushed, Advances, Advanced, Startable, Searches, Passes, Finished};
 
@@ -29,7 +31,11 @@ fn next_edge(
         (now (entries .entry)) p)
         (now (work .entry)) t from r ⌝ }
 {
-    let marks = priorities.len() + 1 + targets.len();
+    let rows = Rows {
+        n: priorities.len(),
+        m: targets.len(),
+    };
+    let marks = rows.marks();
     let end = offsets[t + 1] as usize;
     for e in from..end {
         let w = targets[e] as usize;
@@ -41,12 +47,15 @@ fn next_edge(
 }
 
 // y is visited, with its cursor at its first edge, and goes onto the stack.
-fn push(n: usize, marks: usize, offsets: &[u16], work: &mut [u64], y: usize, top: usize)
-    requires { ⌜ Pushable n marks (now offsets) (now work) y top ⌝ }
-    ensures { λ _. ⌜ now (work .exit) ≡ pushed n marks (now (offsets .entry)) y top (now (work .entry)) ⌝ }
+fn push(rows: Rows, offsets: &[u16], work: &mut [u64], y: usize, top: usize)
+    requires { ⌜ Pushable (rows .n) (marks (rows .n) (rows .m)) (now offsets) (now work) y top ⌝ }
+    ensures { λ _. ⌜ now (work .exit) ≡ pushed (rows .n) (marks (rows .n) (rows .m)) (now (offsets .entry)) y top
+        (now (work .entry)) ⌝ }
 {
+    let marks = rows.marks();
+    let stack = rows.queue();
     work[marks + y] = offsets[y] as u64 + 1;
-    work[marks + n + n + top] = y as u64;
+    work[stack + top] = y as u64;
 }
 
 // One move, with t on top of the stack: the next unvisited vertex that it leads to goes onto the stack, or it is
@@ -68,20 +77,24 @@ fn advance(
         (now (entries .entry)) p)
         (now (work .entry)) (now (work .exit)) (at .top) (at .done) (r .top) (r .done) ⌝ }
 {
-    let n = priorities.len();
-    let marks = n + 1 + targets.len();
+    let rows = Rows {
+        n: priorities.len(),
+        m: targets.len(),
+    };
+    let marks = rows.marks();
     let from = work[marks + t] as usize - 1;
     let e = next_edge(priorities, offsets, targets, entries, p, work, t, from);
     work[marks + t] = e as u64 + 1;
     if e < offsets[t + 1] as usize {
         let y = targets[e] as usize;
-        push(n, marks, offsets, work, y, at.top);
+        push(rows, offsets, work, y, at.top);
         return Progress {
             top: at.top + 1,
             done: at.done,
         };
     }
-    work[marks + n + at.done] = t as u64;
+    let order = rows.order();
+    work[order + at.done] = t as u64;
     Progress {
         top: at.top - 1,
         done: at.done + 1,
@@ -105,12 +118,15 @@ fn search_from(
         (now (entries .entry)) p)
         (now (work .entry)) (now (work .exit)) r done k ⌝ }
 {
-    let n = priorities.len();
-    let marks = n + 1 + targets.len();
-    push(n, marks, offsets, work, r, 0);
+    let rows = Rows {
+        n: priorities.len(),
+        m: targets.len(),
+    };
+    let stack = rows.queue();
+    push(rows, offsets, work, r, 0);
     let mut at = Progress { top: 1, done };
     while at.top != 0 {
-        let t = work[marks + n + n + (at.top - 1)] as usize;
+        let t = work[stack + (at.top - 1)] as usize;
         at = advance(priorities, offsets, targets, entries, p, work, t, at);
     }
     at.done
@@ -131,7 +147,11 @@ pub fn first_pass(
         (now (entries .entry)) p)
         (now (work .entry)) (now (work .exit)) k ⌝ }
 {
-    let marks = priorities.len() + 1 + targets.len();
+    let rows = Rows {
+        n: priorities.len(),
+        m: targets.len(),
+    };
+    let marks = rows.marks();
     let mut done = 0;
     for r in 0..priorities.len() {
         if links::is_fresh(priorities, p, work, marks, r) {

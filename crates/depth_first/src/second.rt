@@ -1,6 +1,7 @@
 // The second pass: one part after another, from the last finished vertex to the first, by a search against the links.
 // It writes for each vertex of priority at most p the label of its part.
 use crate::links;
+use search_rows::Rows;
 ghost use mathlib.Core.Path.{_≡_};
 ghost use Prim.Native.Nat.{_+_, _<_};
 ghost use lib.ListN.{getD};
@@ -36,8 +37,12 @@ pub fn look_back(
         (now (work .entry)) w r tail (getD (now (work .entry)) (w + 1) 0) (now (work .exit)) end ⌝ }
 {
     let n = priorities.len();
-    let queue = n + 1 + targets.len() + n + n;
-    let labels = queue + n;
+    let rows = Rows {
+        n,
+        m: targets.len(),
+    };
+    let queue = rows.queue();
+    let labels = rows.labels();
     let mut end = tail;
     for e in work[w] as usize..work[w + 1] as usize {
         let v = work[n + 1 + e] as usize;
@@ -64,9 +69,12 @@ fn find_part(
         ⌜ Found (graph (now (priorities .entry)) (now (offsets .entry)) (now (targets .entry)) (now (entries .entry)) p)
         (now (work .entry)) r (now (work .exit)) ⌝ }
 {
-    let n = priorities.len();
-    let queue = n + 1 + targets.len() + n + n;
-    put(work, queue + n, r, r as u64 + 1, queue, 0);
+    let rows = Rows {
+        n: priorities.len(),
+        m: targets.len(),
+    };
+    let queue = rows.queue();
+    put(work, rows.labels(), r, r as u64 + 1, queue, 0);
     let mut head = 0;
     let mut tail = 1;
     while head < tail {
@@ -92,11 +100,15 @@ pub fn second_pass(
         (now (entries .entry)) p)
         (now (work .entry)) (now (work .exit)) ⌝ }
 {
-    let n = priorities.len();
-    let order = n + 1 + targets.len() + n;
+    let rows = Rows {
+        n: priorities.len(),
+        m: targets.len(),
+    };
+    let order = rows.order();
+    let labels = rows.labels();
     for i in 0..done {
         let r = work[order + (done - 1 - i)] as usize;
-        if work[order + n + n + r] == 0 {
+        if work[labels + r] == 0 {
             find_part(priorities, offsets, targets, entries, p, work, r);
         }
     }

@@ -12,7 +12,8 @@ use lib.ListN.{length, getD}
 use Rattle.rules.specs.Winning.{Reach}
 use Rattle.basics.specs.Basics.{clash, or-right, or-cases, below-suc}
 use Rattle.theory.specs.Chosen.{chosenPart}
-use Rattle.depth_first.specs.Area.{marks, queue, labels, hits, behind, Within, Cleared, marked, true-marked, marked-true}
+use Rattle.search_rows.specs.Rows.{labels, behind}
+use Rattle.depth_first.specs.Area.{Cleared, marked, true-marked, marked-true}
 use Rattle.depth_first.specs.Area.{false-marked}
 use Rattle.depth_first.specs.Graph.{Graph, graph, gameIn, Leads, SoundGraph}
 use Rattle.depth_first.specs.Seeking.{assigned, Rows, rows-kept}

@@ -12,7 +12,8 @@ use lib.ListN.{length, getD}
 use Rattle.rules.specs.Winning.{Reach}
 use Rattle.basics.specs.Basics.{clash, and-intro, and-left, and-right, below-suc, not-true-is-false}
 use Rattle.theory.specs.DepthFirst.{marks-cases, marks-keeps}
-use Rattle.depth_first.specs.Area.{queue, labels, hits, Within, within-same, within-then, true-marked, marked-true, marked-false}
+use Rattle.search_rows.specs.Rows.{queue, labels, hits}
+use Rattle.depth_first.specs.Area.{Within, within-same, within-then, true-marked, marked-true, marked-false}
 use Rattle.depth_first.specs.Graph.{Graph, size, edgeCount, priority, Leads}
 use Rattle.depth_first.specs.Seeking.{assigned, labelWord, Putable, putting}
 use Rattle.breadth_first.specs.Spreading.{Way, Standing, Spread, found-way, found-all}
@@ -64,6 +65,13 @@ pub record Headed (G : Graph) (p row : ℕ) (before after : List ℕ) : Type 0 w
       (vs : List ℕ) × (way : Way G after u vs) × (length vs ≤ size G) × (head (G .priorities) p row before (way .last) ≡ true)
   pub all :
       {u x : ℕ} → Reach (Leads G) u x → x < size G → head (G .priorities) p row before x ≡ true → assigned G after u ≡ true
+
+-- the row by what it is equal to
+pub headable-as : {G : Graph} {work : List ℕ} {row row' : ℕ} → row ≡ row' → Headable G row' work → Headable G row work
+headable-as {G} {work} e h = subst (λ (k : ℕ). Headable G k work) (sym e) h
+
+pub headed-as : {G : Graph} {p row row' : ℕ} {before after : List ℕ} → row ≡ row' → Headed G p row before after → Headed G p row' before after
+headed-as {G} {p} {before = before} {after = after} e h = subst (λ (k : ℕ). Headed G p k before after) e h
 
 module _ (G : Graph) (p row : ℕ) (before : List ℕ) (given : Headable G row before) where
   pub heading-none : Heading G p row before 0 before 0

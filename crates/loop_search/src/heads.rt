@@ -1,6 +1,7 @@
 // The heads: the vertices of exactly p that a row of n words marks.
 use breadth_first::spread;
 use depth_first::put;
+use search_rows::Rows;
 ghost use mathlib.Core.Path.{_≡_};
 ghost use Prim.Native.Nat.{_+_, _<_};
 ghost use lib.ListN.{length};
@@ -35,8 +36,9 @@ pub fn spread_heads(
         p row (now (work .entry)) (now (work .exit)) ⌝ }
 {
     let n = priorities.len();
-    let queue = n + 1 + targets.len() + n + n;
-    let labels = queue + n;
+    let m = targets.len();
+    let queue = Rows { n, m }.queue();
+    let labels = Rows { n, m }.labels();
     let mut end = 0;
     for v in 0..n {
         if is_head(priorities, p, work, row, v) {

@@ -1,5 +1,6 @@
 // One priority after another.
 use crate::heads::spread_heads;
+use search_rows::Rows;
 ghost use mathlib.Core.Path.{_≡_};
 ghost use Prim.Native.Nat.{_<_};
 ghost use Rattle.rules.specs.Record.{freshCount};
@@ -22,8 +23,9 @@ fn find(
         (now (work .entry)) (now (work .exit)) ⌝ }
 {
     let n = priorities.len();
-    let labels = n + 1 + targets.len() + n + n + n;
-    let row = labels + n + n + n;
+    let m = targets.len();
+    let labels = Rows { n, m }.labels();
+    let row = Rows { n, m }.behind();
     parts::clear(work, row, row + n);
     subgame::mark_used(priorities, offsets, targets, kept, entries, p, work, row);
     parts::clear(work, labels, labels + n);
@@ -48,7 +50,8 @@ pub fn seek(
         (now (work .entry)) (now (work .exit)) p ⌝ }
 {
     let n = priorities.len();
-    let labels = n + 1 + targets.len() + n + n + n;
+    let m = targets.len();
+    let labels = Rows { n, m }.labels();
     for k in 0..128u16 {
         find(
             priorities,

@@ -19,7 +19,8 @@ use Rattle.basics.specs.Basics.{some-intro, some-elim, some-cong, below-suc}
 use Rattle.theory.specs.Chosen.{chosenPart}
 use Rattle.theory.specs.Kosaraju.{Assigned, labels-good-part}
 use Rattle.theory.specs.Solitaire.{edge-test, test-edge, at-most-elim, at-most-intro}
-use Rattle.depth_first.specs.Area.{labels, hits, pairs, behind, Within, within-same, within-then, within-store}
+use Rattle.search_rows.specs.Rows.{labels, hits, pairs, behind}
+use Rattle.depth_first.specs.Area.{Within, within-same, within-then, within-store}
 use Rattle.depth_first.specs.Area.{marked, true-marked, marked-true, false-marked, marked-alike, marked-marks}
 use Rattle.depth_first.specs.Graph.{Graph, size, edgeCount, priority, offset, target, gameIn, low, linksIn, Leads, SoundGraph, keeping}
 use Rattle.depth_first.specs.Leading.{link, leads, edge-at, edge-place}

@@ -14,7 +14,8 @@ use lib.Seq.{getD-set-same, getD-set-other}
 use Rattle.rules.specs.Counting.{some}
 use Rattle.basics.specs.Basics.{bool-ext, clash, and-intro, and-left, and-right, or-left, or-right, or-cases, not-true-is-false}
 use Rattle.theory.specs.DepthFirst.{Marks, marks-cases, marks-keeps}
-use Rattle.depth_first.specs.Area.{labels, hits, Within, within-same, within-then, within-store}
+use Rattle.search_rows.specs.Rows.{labels, hits}
+use Rattle.depth_first.specs.Area.{Within, within-same, within-then, within-store}
 use Rattle.depth_first.specs.Area.{marked, false-marked, marked-marks}
 
 -- u, whose label's word is l, tells that its part has two vertices, or that p is among its priorities
@@ -41,6 +42,17 @@ pub record Noted (priorities : List ℕ) (m p : ℕ) (before : List ℕ) (row : 
   pub within : Within row (row + length priorities) before after
   pub told :
       (x : ℕ) → x < length priorities → marked (length priorities) row after x ≡ some i (tellsOf priorities m p before two x)
+
+-- the row by what it is equal to
+pub noteable-as :
+    {priorities work : List ℕ} {m p row row' : ℕ} → row ≡ row' → Noteable priorities m p work row' → Noteable priorities m p work row
+noteable-as {priorities} {work} {m} {p} e h = subst (λ (k : ℕ). Noteable priorities m p work k) (sym e) h
+
+pub noted-as :
+    {priorities before after : List ℕ} {m p row row' i : ℕ} {two : Bool} →
+    row ≡ row' → Noted priorities m p before row two i after → Noted priorities m p before row' two i after
+noted-as {priorities} {before} {after} {m} {p} {i = i} {two = two} e h =
+    subst (λ (k : ℕ). Noted priorities m p before k two i after) e h
 
 module _ (priorities : List ℕ) (p l u : ℕ) where
   pub tells-nothing : (two : Bool) → l ≡ 0 → false ≡ noteTest priorities p l u two

@@ -17,7 +17,8 @@ use Rattle.theory.specs.DepthFirst.{dfs-done-order}
 use Rattle.theory.specs.Kosaraju.{Assigned}
 use Rattle.theory.specs.Links.{Together}
 use Rattle.theory.specs.Solitaire.{at-most-elim, at-most-intro}
-use Rattle.depth_first.specs.Area.{marks, order, queue, labels, hits, pairs, behind, Within, within-then, within-wider, Cleared}
+use Rattle.search_rows.specs.Rows.{marks, order, queue, labels, hits, pairs, behind}
+use Rattle.depth_first.specs.Area.{Within, within-then, within-wider, Cleared}
 use Rattle.depth_first.specs.Area.{segment-length, segment-at, marked, true-marked, marked-true, marked-alike}
 use Rattle.depth_first.specs.Graph.{Graph, size, edgeCount, gameIn, low, Leads, SoundGraph}
 use Rattle.depth_first.specs.Walking.{visited, finished, Room, Passes, Finished}
@@ -39,6 +40,13 @@ pub record Marked (G : Graph) (base : ℕ) (before after : List ℕ) : Type 0 wh
   pub found :
       (v : ℕ) → v < size G →
       marked (size G) base after v ≡ (marked (size G) base before v || chosenPart (gameIn G) (G .entries) (G .top) v)
+
+-- the row by what it is equal to
+pub markable-as : {G : Graph} {work : List ℕ} {base base' : ℕ} → base ≡ base' → Markable G work base' → Markable G work base
+markable-as {G} {work} e h = subst (λ (k : ℕ). Markable G work k) (sym e) h
+
+pub marked-as : {G : Graph} {before after : List ℕ} {base base' : ℕ} → base ≡ base' → Marked G base before after → Marked G base' before after
+marked-as {G} {before} {after} e h = subst (λ (k : ℕ). Marked G k before after) e h
 
 -- labels in words that stay are whole parts still
 labels-kept :

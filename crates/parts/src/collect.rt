@@ -1,5 +1,6 @@
 // What the labels tell: which parts are good, and so which vertices lie in a good one.
 use depth_first::keeps;
+use search_rows::Rows;
 ghost use mathlib.Core.Path.{_≡_};
 ghost use Prim.Native.Nat.{_+_, _≤_, _<_};
 ghost use lib.ListN.{length};
@@ -38,7 +39,7 @@ pub fn note(priorities: &[u16], m: usize, p: u16, work: &mut [u64], row: usize, 
         (now (work .exit)) ⌝ }
 {
     let n = priorities.len();
-    let labels = n + 1 + m + n + n + n;
+    let labels = Rows { n, m }.labels();
     for u in 0..n {
         let l = work[labels + u];
         if tells(priorities, p, l, u, two) {
@@ -90,14 +91,18 @@ fn is_good(
     if p < priorities[v] {
         return false;
     }
-    let n = priorities.len();
-    let labels = n + 1 + targets.len() + n + n + n;
-    let hits = labels + n;
+    let rows = Rows {
+        n: priorities.len(),
+        m: targets.len(),
+    };
+    let labels = rows.labels();
     let label = work[labels + v] as usize - 1;
+    let hits = rows.hits();
     if work[hits + label] == 0 {
         return false;
     }
-    if work[hits + n + label] != 0 {
+    let pairs = rows.pairs();
+    if work[pairs + label] != 0 {
         return true;
     }
     has_loop(priorities, offsets, targets, entries, p, v)

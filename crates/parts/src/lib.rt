@@ -5,6 +5,7 @@ mod collect;
 
 pub use collect::clear;
 use parity_game::Priority;
+use search_rows::Rows;
 ghost use Prim.Native.Nat.{_<_};
 ghost use Rattle.depth_first.specs.Graph.{graph};
 ghost use Rattle.parts.specs.Whole.{Markable, Marked};
@@ -29,13 +30,12 @@ pub fn mark_within(
 {
     let n = priorities.len();
     let m = targets.len();
+    let rows = Rows { n, m };
     let p = top.0 as u16;
-    let marks = n + 1 + m;
-    let hits = marks + n + n + n + n;
-    collect::clear(work, marks, hits + n + n);
+    collect::clear(work, rows.marks(), rows.behind());
     let done = depth_first::first_pass(priorities, offsets, targets, entries, p, work);
     depth_first::second_pass(priorities, offsets, targets, entries, p, work, done);
-    collect::note(priorities, m, p, work, hits, false);
-    collect::note(priorities, m, p, work, hits + n, true);
+    collect::note(priorities, m, p, work, rows.hits(), false);
+    collect::note(priorities, m, p, work, rows.pairs(), true);
     collect::collect(priorities, offsets, targets, entries, p, work, base);
 }

@@ -30,7 +30,7 @@ use Rattle.predecessors.specs.Table as Table
 use Rattle.predecessors.specs.Table.{Predecessors}
 use Rattle.predecessors.specs.Whole.{accepted-edges}
 use Rattle.attractor.specs.Attracted.{own-is}
-use Rattle.depth_first.specs.Area.{behind}
+use Rattle.search_rows.specs.Rows.{behind}
 use Rattle.depth_first.specs.Graph.{Graph, graph, gameIn, Leads, SoundGraph, keeping}
 use Rattle.depth_first.specs.Leading.{link, leads}
 use Rattle.subgame.specs.Parity.{predecessor-rows, graph-sound, game-of}

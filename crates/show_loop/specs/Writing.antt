@@ -11,7 +11,7 @@ use Rattle.rules.specs.Mending.{overwritten}
 use Rattle.theory.specs.Chosen.{chosen-part-cycle}
 use Rattle.theory.specs.Loop.{path-map, last-step}
 use Rattle.theory.specs.Walks.{Relation}
-use Rattle.depth_first.specs.Area.{queue, labels, behind}
+use Rattle.search_rows.specs.Rows.{labels}
 use Rattle.depth_first.specs.Graph.{Graph, graph, gameIn, Leads}
 use Rattle.breadth_first.specs.Following.{Followable, Followed}
 use Rattle.breadth_first.specs.Spreading.{way-words, way-once}

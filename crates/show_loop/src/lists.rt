@@ -2,6 +2,7 @@
 use breadth_first::follow;
 use breadth_first::spread_round;
 use loop_search::seek;
+use search_rows::Rows;
 ghost use mathlib.Core.Path.{_≡_};
 ghost use lib.ListN.{length};
 ghost use Rattle.rules.specs.Record.{freshCount};
@@ -34,7 +35,8 @@ fn write_lists(
         (now (path .entry)) (now (path .exit)) (now (cycle .entry)) (now (cycle .exit)) (r .path) (r .cycle) ⌝ }
 {
     let n = priorities.len();
-    let labels = n + 1 + targets.len() + n + n + n;
+    let m = targets.len();
+    let labels = Rows { n, m }.labels();
     let on = follow(n, labels, work, v, path);
     let u = path[on - 1] as usize;
     spread_round(priorities, offsets, targets, entries, p, work, u);

@@ -22,7 +22,8 @@ use Rattle.parity_game.specs.Laws.{accepted-sound}
 use Rattle.predecessors.specs.Table.{Ready, Predecessors}
 use Rattle.predecessors.specs.Whole.{accepted-edges}
 use Rattle.attractor.specs.Attracted.{Listed, listed-kept, own-is, built-listed}
-use Rattle.depth_first.specs.Area.{behind, Cleared, marked, marked-true}
+use Rattle.search_rows.specs.Rows.{behind}
+use Rattle.depth_first.specs.Area.{Cleared, marked, marked-true}
 use Rattle.subgame.specs.Parity.{Sweepable, Swept, predecessor-rows, graph-sound, swept-all}
 
 pub record Markable (t : Tables) (owner : ℕ) (work : List ℕ) (row : ℕ) : Type 0 where

@@ -24,7 +24,8 @@ use Rattle.parity_game.specs.Laws.{accepted-sound}
 use Rattle.area.specs.Area.{free, setAt, wordsAt}
 use Rattle.attractor.specs.Attracted.{Attractable, Attracted, listed-kept, edges-sound}
 use Rattle.area.specs.Lent.{part-is}
-use Rattle.depth_first.specs.Area.{behind, marked-true}
+use Rattle.search_rows.specs.Rows.{behind}
+use Rattle.depth_first.specs.Area.{marked-true}
 use Rattle.solitaire_game.specs.Checks.{Passed}
 use Rattle.solitaire_game.specs.Marking.{Markable, Marked}
 use Rattle.solitaire_game.specs.Gathering.{Placeable, Placed}
@@ -41,14 +42,7 @@ pub record Runnable (t : Tables) (set work : List ℕ) : Type 0 where
   pub room : length work ≡ workWords (vertices t) (edgesIn t)
 
 -- the marked row stands behind the words of the search for parts, and the two sets behind the row; two words more, for where there
--- is no vertex the attractor's layers have two
-abbrev pub rowOf : Tables → ℕ
-rowOf t = behind (vertices t) (edgesIn t)
-
-abbrev pub baseOf : Tables → ℕ
-baseOf t = rowOf t + vertices t + 2
-
--- W words have room for them
+-- is no vertex the attractor's layers have two. W words have room for them
 pub rows-fit : (n m : ℕ) → behind n m + n + 2 + words n + words n ≤ workWords n m
 unfolding workWords words
 rows-fit zero m = omega arith
@@ -69,47 +63,52 @@ sole-owner-small t accepted owner is =
     (lt-or-ge 0 (vertices t))
 
 -- and both stand where a set may
-base-free : (t : Tables) → free (vertices t) (edgesIn t) ≤ baseOf t
+base-free : (t : Tables) (row : ℕ) → row ≡ behind (vertices t) (edgesIn t) → free (vertices t) (edgesIn t) ≤ row + vertices t + 2
 unfolding words
-base-free t = omega arith
+base-free t row at = omega arith
 
-module _ (t : Tables) (set w₀ : List ℕ) (given : Runnable t set w₀) (owner : ℕ) (is : owner ≡ getD (t .owners) 0 0) where
+module _ (t : Tables) (set w₀ : List ℕ) (given : Runnable t set w₀) (owner : ℕ) (is : owner ≡ getD (t .owners) 0 0)
+    (row : ℕ) (at : row ≡ behind (vertices t) (edgesIn t)) where
   abbrev n : ℕ
   n = vertices t
 
   abbrev s : ℕ
   s = length set
 
+  -- where the two sets begin
+  abbrev base : ℕ
+  base = row + n + 2
+
   -- the owner, as the rules have it
   player : playerOf owner ≡ soleOwner t
   player = ap playerOf is
 
-  fits : baseOf t + s + s ≤ length w₀
+  fits : base + s + s ≤ length w₀
   fits = omega (arith, rows-fit n (edgesIn t), given .room, given .set-size)
 
-  pub mark-ready : Markable t owner w₀ (rowOf t)
+  pub mark-ready : Markable t owner w₀ row
   mark-ready = record { accepted = given .accepted; side = sole-owner-small t (given .accepted) owner is; low = omega arith; high = omega (arith, fits) }
 
-  module _ (w₁ : List ℕ) (marks : Marked t (playerOf owner) (rowOf t) w₀ w₁) where
-    pub place-ready : Placeable n s (rowOf t) (baseOf t) w₁
+  module _ (w₁ : List ℕ) (marks : Marked t (playerOf owner) row w₀ w₁) where
+    pub place-ready : Placeable n s row base w₁
     place-ready = record { size = given .set-size; low = omega arith; high = omega (arith, fits, marks .long) }
 
-    module _ (w₂ : List ℕ) (placed : Placed n s (rowOf t) (baseOf t) w₁ w₂) where
-      pub attract-ready : Attractable (t .owners) (t .offsets) (t .targets) owner (baseOf t) (baseOf t + s) w₂
+    module _ (w₂ : List ℕ) (placed : Placed n s row base w₁ w₂) where
+      pub attract-ready : Attractable (t .owners) (t .offsets) (t .targets) owner base (base + s) w₂
       attract-ready =
           record {
             placed =
                 record {
-                  within-low = base-free t;
+                  within-low = base-free t row at;
                   within-high = omega (arith, fits, marks .long, placed .long, given .set-size);
-                  set-low = omega (arith, base-free t);
+                  set-low = omega (arith, base-free t row at);
                   set-high = omega (arith, fits, marks .long, placed .long, given .set-size);
                   apart = inl (omega (arith, given .set-size));
                 };
             nested =
                 record {
                   below = λ v e. ltb-true v n (sym (placed .full v) ∙ e);
-                  part = λ v e. placed .full v ∙ lt-ltb v n (marked-true n (rowOf t) w₁ v (sym (placed .found v) ∙ e) .0);
+                  part = λ v e. placed .full v ∙ lt-ltb v n (marked-true n row w₁ v (sym (placed .found v) ∙ e) .0);
                 };
             edges = edges-sound t (given .accepted);
             listed =
@@ -117,24 +116,24 @@ module _ (t : Tables) (set w₀ : List ℕ) (given : Runnable t set w₀) (owner
             side = sole-owner-small t (given .accepted) owner is;
           }
 
-      module _ (looks : ℕ) (w₃ : List ℕ) (drawn : Attracted t (playerOf owner) (baseOf t) (baseOf t + s) w₂ w₃ looks) where
+      module _ (looks : ℕ) (w₃ : List ℕ) (drawn : Attracted t (playerOf owner) base (base + s) w₂ w₃ looks) where
         pub long₃ : length w₃ ≡ length w₀
         long₃ = drawn .long ∙ placed .long ∙ marks .long
 
-        pub copy-fits : baseOf t + s + s ≤ length w₃
+        pub copy-fits : base + s + s ≤ length w₃
         copy-fits = omega (arith, fits, long₃)
 
         -- the words that are copied out
-        copied : take ((baseOf t + s + s) - (baseOf t + s)) (drop (baseOf t + s) w₃) ≡ wordsAt n (baseOf t + s) w₃
+        copied : take ((base + s + s) - (base + s)) (drop (base + s) w₃) ≡ wordsAt n (base + s) w₃
         copied =
-            part-is (baseOf t + s) s w₃ ∙ ap (λ (k : ℕ). take k (drop (baseOf t + s) w₃)) (given .set-size)
+            part-is (base + s) s w₃ ∙ ap (λ (k : ℕ). take k (drop (base + s) w₃)) (given .set-size)
 
-        pub copy-long : length set ≡ length (take ((baseOf t + s + s) - (baseOf t + s)) (drop (baseOf t + s) w₃))
+        pub copy-long : length set ≡ length (take ((base + s + s) - (base + s)) (drop (base + s) w₃))
         copy-long = given .set-size ∙ sym (drawn .holds .long) ∙ sym (ap length copied)
 
         -- the attractor of the good parts among all vertices
         answer : (v : ℕ) → v < n →
-            attractor (gameOf t) (playerOf owner) (setAt n (baseOf t) w₂) (setAt n (baseOf t + s) w₂) v ≡ solitaire (gameOf t) (soleOwner t) v
+            attractor (gameOf t) (playerOf owner) (setAt n base w₂) (setAt n (base + s) w₂) v ≡ solitaire (gameOf t) (soleOwner t) v
         unfolding gameOf
         answer v l =
             ap₂ (λ (X T : Set). attractor (gameOf t) (playerOf owner) X T v)
@@ -147,12 +146,12 @@ module _ (t : Tables) (set w₀ : List ℕ) (given : Runnable t set w₀) (owner
 
         pub answer-holds :
             (set′ : List ℕ) →
-            set′ ≡ take ((baseOf t + s + s) - (baseOf t + s)) (drop (baseOf t + s) w₃) →
+            set′ ≡ take ((base + s + s) - (base + s)) (drop (base + s) w₃) →
             Narrow set′ →
             Holds n (solitaire (gameOf t) (soleOwner t)) set′
         answer-holds set′ e narrow = narrow-holds narrow (rw (e, copied) as-bits)
           where
-            as-bits : Bits n (solitaire (gameOf t) (soleOwner t)) (wordsAt n (baseOf t + s) w₃)
+            as-bits : Bits n (solitaire (gameOf t) (soleOwner t)) (wordsAt n (base + s) w₃)
             as-bits =
                 record {
                   long = drawn .holds .long;

@@ -5,6 +5,7 @@ use crate::checks::sole_owner;
 use crate::marking::mark_good;
 use crate::marking::place;
 use parity_game::Answer;
+use search_rows::Rows;
 ghost use mathlib.Core.Path.{_≡_};
 ghost use lib.ListN.{length, replicate};
 ghost use Rattle.rules.specs.Record.{freshCount};
@@ -35,7 +36,8 @@ fn run(
     let n = owners.len();
     let s = set.len();
     let owner = sole_owner(owners);
-    let row = n + 1 + targets.len() + n + n + n + n + n + n;
+    let m = targets.len();
+    let row = Rows { n, m }.behind();
     let base = row + n + 2;
     mark_good(owners, priorities, offsets, targets, kept, owner, work, row);
     place(work, n, s, row, base);

@@ -24,7 +24,8 @@ use Rattle.theory.specs.Counts.{length-fresh, take-fresh, counted-used}
 use Rattle.parity_game.specs.Laws.{accepted-sound}
 use Rattle.predecessors.specs.Table.{start, row, Ready, Predecessors}
 use Rattle.predecessors.specs.Whole.{starts-grow, row-length, row-at, accepted-edges}
-use Rattle.depth_first.specs.Area.{marks, behind, marked, false-marked}
+use Rattle.search_rows.specs.Rows.{marks, behind}
+use Rattle.depth_first.specs.Area.{marked, false-marked}
 use Rattle.depth_first.specs.Graph.{Graph, graph, size, edgeCount, gameIn, linksIn, SoundGraph}
 use Rattle.depth_first.specs.Seeking.{Rows}
 use Rattle.parts.specs.Whole.{Markable, Marked}
@@ -44,6 +45,20 @@ pub record Swept (priorities offsets targets entries : List ℕ) (parity base k 
       marked (length priorities) base after v ≡
       (marked (length priorities) base before v ||
       some k (λ j. chosenPart (gameIn (graph priorities offsets targets entries 0)) entries (2 * j + parity) v))
+
+-- the row by what it is equal to
+pub sweepable-as :
+    {priorities offsets targets entries work : List ℕ} {parity base base' : ℕ} →
+    base ≡ base' → Sweepable priorities offsets targets entries parity work base' → Sweepable priorities offsets targets entries parity work base
+sweepable-as {priorities} {offsets} {targets} {entries} {work} {parity} e h =
+    subst (λ (k : ℕ). Sweepable priorities offsets targets entries parity work k) (sym e) h
+
+pub swept-as :
+    {priorities offsets targets entries before after : List ℕ} {parity base base' k : ℕ} →
+    base ≡ base' → Swept priorities offsets targets entries parity base k before after →
+    Swept priorities offsets targets entries parity base' k before after
+swept-as {priorities} {offsets} {targets} {entries} {before} {after} {parity} {k = k} e h =
+    subst (λ (b : ℕ). Swept priorities offsets targets entries parity b k before after) e h
 
 or-nothing : (b : Bool) → (b || false) ≡ b
 or-nothing true = refl

@@ -1,7 +1,9 @@
 -- `mark_within` meets its contract: each stage leaves what the next one needs.
-use Rattle.depth_first.specs.Graph.{Graph, graph}
+use Rattle.search_rows.specs.Rows.{marks, behind}
+use Rattle.depth_first.specs.Area.{Cleared, cleared-as}
+use Rattle.depth_first.specs.Graph.{Graph, graph, size, edgeCount}
+use Rattle.parts.specs.Noting.{noteable-as, noted-as}
 use Rattle.parts.specs.Whole.{passes, labelling, hits-noteable, pairs-noteable, collectable, marked-parts}
-use native.Mathlib.Omega.{arith}
 use borrow.Author.Needs.{needs}
 use Rattle.parts.proofs.mark_within.Statement.{statement}
 use Rattle.parts.proofs.mark_within.Tie as tie
@@ -11,7 +13,7 @@ graph-of s = graph (s .args .priorities .now) (s .args .offsets .now) (s .args .
 
 -- where the function begins, from each call on
 abbrev at1 : tie.After-clear → tie.Start
-at1 c = c .before .before .before .before .before .before .before .before
+at1 c = c .before .before .before .before .before .before .before .before .before .before
 
 abbrev at2 : tie.After-first-pass → tie.After-clear
 at2 c = c .before .before .before .before
@@ -20,37 +22,26 @@ abbrev at3 : tie.After-second-pass → tie.After-first-pass
 at3 c = c .before .before .before .before
 
 abbrev at4 : tie.After-note → tie.After-second-pass
-at4 c = c .before .before .before .before
+at4 c = c .before .before .before .before .before
 
 abbrev at5 : tie.After-note2 → tie.After-note
-at5 c = c .before .before .before .before
+at5 c = c .before .before .before .before .before
 
 cast-p : tie.Need-cast-p
 cast-p c = search needs
 
-add-marks : tie.Need-add-marks
-add-marks c = search needs
+-- what each stage has left, in the rows as the laws name them
+cleared :
+    (c : tie.After-clear) →
+    let G = graph-of (at1 c) in
+    Cleared (marks (size G) (edgeCount G)) (behind (size G) (edgeCount G)) (at1 c .args .work .now) (c .clear .last .0)
+cleared c = cleared-as (c .before .before .marks .ensures) (c .before .behind .ensures) (c .clear .ensures)
 
-add-marks-2 : tie.Need-add-marks-2
-add-marks-2 c = search needs
+marks-requires : tie.Need-marks-requires
+marks-requires c κs = search needs
 
-add-hits : tie.Need-add-hits
-add-hits c = search needs
-
-add-hits-2 : tie.Need-add-hits-2
-add-hits-2 c = search needs
-
-add-hits-3 : tie.Need-add-hits-3
-add-hits-3 c = search needs
-
-add-hits-4 : tie.Need-add-hits-4
-add-hits-4 c = search needs
-
-add-clear : tie.Need-add-clear
-add-clear c = search needs
-
-add-clear-2 : tie.Need-add-clear-2
-add-clear-2 c = search needs
+behind-requires : tie.Need-behind-requires
+behind-requires c κs = search needs
 
 clear-requires : tie.Need-clear-requires
 clear-requires c κs = search needs
@@ -59,46 +50,45 @@ first-pass-requires : tie.Need-first-pass-requires
 first-pass-requires c κs =
     let d1 = c .before .before .before in
     let s = at1 d1 in
-    passes (graph-of s) (s .args .work .now) (s .args .base) (s .pre .0) (d1 .clear .last .0) (d1 .clear .ensures)
+    passes (graph-of s) (s .args .work .now) (s .args .base) (s .pre .0) (d1 .clear .last .0) (cleared d1)
 
 second-pass-requires : tie.Need-second-pass-requires
 second-pass-requires c κs =
     let d2 = c .before .before .before in
     let d1 = at2 d2 in
     let s = at1 d1 in
-    labelling (graph-of s) (s .args .work .now) (s .args .base) (s .pre .0) (d1 .clear .last .0) (d1 .clear .ensures)
+    labelling (graph-of s) (s .args .work .now) (s .args .base) (s .pre .0) (d1 .clear .last .0) (cleared d1)
     (d2 .first-pass .last .1 .1 .1 .1 .1 .0) (d2 .first-pass .result) (d2 .first-pass .ensures)
+
+hits-requires : tie.Need-hits-requires
+hits-requires c κs = search needs
 
 note-requires : tie.Need-note-requires
 note-requires c κs =
-    let d3 = c .before .before .before in
+    let d3 = c .before .before .before .before in
     let d2 = at3 d3 in
     let d1 = at2 d2 in
     let s = at1 d1 in
-    hits-noteable (graph-of s) (s .args .work .now) (s .args .base) (s .pre .0) (d1 .clear .last .0) (d1 .clear .ensures)
+    noteable-as (c .hits .ensures)
+    (hits-noteable (graph-of s) (s .args .work .now) (s .args .base) (s .pre .0) (d1 .clear .last .0) (cleared d1)
     (d2 .first-pass .last .1 .1 .1 .1 .1 .0) (d2 .first-pass .result) (d2 .first-pass .ensures) (d3 .second-pass .last .1 .1 .1 .1 .1 .0)
-    (d3 .second-pass .ensures)
+    (d3 .second-pass .ensures))
 
-add-note : tie.Need-add-note
-add-note c =
-    let d4 = c .before .before .before in
-    let d3 = at4 d4 in
-    let d2 = at3 d3 in
-    let d1 = at2 d2 in
-    let s = at1 d1 in
-    omega (arith, s .pre .0 .low-end, s .pre .0 .fits, s .good .1 .1 .1 .1 .1 .0)
+pairs-requires : tie.Need-pairs-requires
+pairs-requires c κs = search needs
 
 note-requires-2 : tie.Need-note-requires-2
 note-requires-2 c κs =
-    let d4 = c .before .before .before in
+    let d4 = c .before .before .before .before in
     let d3 = at4 d4 in
     let d2 = at3 d3 in
     let d1 = at2 d2 in
     let s = at1 d1 in
-    pairs-noteable (graph-of s) (s .args .work .now) (s .args .base) (s .pre .0) (d1 .clear .last .0) (d1 .clear .ensures)
+    noteable-as (c .pairs .ensures)
+    (pairs-noteable (graph-of s) (s .args .work .now) (s .args .base) (s .pre .0) (d1 .clear .last .0) (cleared d1)
     (d2 .first-pass .last .1 .1 .1 .1 .1 .0) (d2 .first-pass .result) (d2 .first-pass .ensures) (d3 .second-pass .last .1 .1 .1 .1 .1 .0)
     (d3 .second-pass .ensures)
-    (d4 .note .last .1 .1 .1 .0) (d4 .note .ensures)
+    (d4 .note .last .1 .1 .1 .0) (noted-as (d4 .before .hits .ensures) (d4 .note .ensures)))
 
 collect-requires : tie.Need-collect-requires
 collect-requires c κs =
@@ -108,10 +98,10 @@ collect-requires c κs =
     let d2 = at3 d3 in
     let d1 = at2 d2 in
     let s = at1 d1 in
-    collectable (graph-of s) (s .args .work .now) (s .args .base) (s .pre .0) (d1 .clear .last .0) (d1 .clear .ensures)
+    collectable (graph-of s) (s .args .work .now) (s .args .base) (s .pre .0) (d1 .clear .last .0) (cleared d1)
     (d2 .first-pass .last .1 .1 .1 .1 .1 .0) (d2 .first-pass .result) (d2 .first-pass .ensures) (d3 .second-pass .last .1 .1 .1 .1 .1 .0)
     (d3 .second-pass .ensures)
-    (d4 .note .last .1 .1 .1 .0) (d4 .note .ensures) (d5 .note2 .last .1 .1 .1 .0) (d5 .note2 .ensures)
+    (d4 .note .last .1 .1 .1 .0) (noted-as (d4 .before .hits .ensures) (d4 .note .ensures)) (d5 .note2 .last .1 .1 .1 .0) (noted-as (d5 .before .pairs .ensures) (d5 .note2 .ensures))
 
 same-length : tie.Need-same-length
 same-length c =
@@ -122,10 +112,10 @@ same-length c =
     let d2 = at3 d3 in
     let d1 = at2 d2 in
     let s = at1 d1 in
-    marked-parts (graph-of s) (s .args .work .now) (s .args .base) (s .pre .0) (d1 .clear .last .0) (d1 .clear .ensures)
+    marked-parts (graph-of s) (s .args .work .now) (s .args .base) (s .pre .0) (d1 .clear .last .0) (cleared d1)
     (d2 .first-pass .last .1 .1 .1 .1 .1 .0) (d2 .first-pass .result) (d2 .first-pass .ensures) (d3 .second-pass .last .1 .1 .1 .1 .1 .0)
     (d3 .second-pass .ensures)
-    (d4 .note .last .1 .1 .1 .0) (d4 .note .ensures) (d5 .note2 .last .1 .1 .1 .0) (d5 .note2 .ensures) (d6 .collect .last .1 .1 .1 .1 .1 .0)
+    (d4 .note .last .1 .1 .1 .0) (noted-as (d4 .before .hits .ensures) (d4 .note .ensures)) (d5 .note2 .last .1 .1 .1 .0) (noted-as (d5 .before .pairs .ensures) (d5 .note2 .ensures)) (d6 .collect .last .1 .1 .1 .1 .1 .0)
     (d6 .collect .ensures) .long
 
 returns : tie.Need-returns
@@ -137,10 +127,10 @@ returns c =
     let d2 = at3 d3 in
     let d1 = at2 d2 in
     let s = at1 d1 in
-    marked-parts (graph-of s) (s .args .work .now) (s .args .base) (s .pre .0) (d1 .clear .last .0) (d1 .clear .ensures)
+    marked-parts (graph-of s) (s .args .work .now) (s .args .base) (s .pre .0) (d1 .clear .last .0) (cleared d1)
     (d2 .first-pass .last .1 .1 .1 .1 .1 .0) (d2 .first-pass .result) (d2 .first-pass .ensures) (d3 .second-pass .last .1 .1 .1 .1 .1 .0)
     (d3 .second-pass .ensures)
-    (d4 .note .last .1 .1 .1 .0) (d4 .note .ensures) (d5 .note2 .last .1 .1 .1 .0) (d5 .note2 .ensures) (d6 .collect .last .1 .1 .1 .1 .1 .0)
+    (d4 .note .last .1 .1 .1 .0) (noted-as (d4 .before .hits .ensures) (d4 .note .ensures)) (d5 .note2 .last .1 .1 .1 .0) (noted-as (d5 .before .pairs .ensures) (d5 .note2 .ensures)) (d6 .collect .last .1 .1 .1 .1 .1 .0)
     (d6 .collect .ensures)
 
 pub mark-within-spec : {M : Type 1} → statement M
@@ -148,19 +138,14 @@ mark-within-spec =
     tie.close
     (tie.spec
     cast-p
-    add-marks
-    add-marks-2
-    add-hits
-    add-hits-2
-    add-hits-3
-    add-hits-4
-    add-clear
-    add-clear-2
+    marks-requires
+    behind-requires
     clear-requires
     first-pass-requires
     second-pass-requires
+    hits-requires
     note-requires
-    add-note
+    pairs-requires
     note-requires-2
     collect-requires
     same-length

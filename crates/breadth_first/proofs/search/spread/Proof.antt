@@ -10,30 +10,28 @@ use Rattle.breadth_first.proofs.search.spread.Statement.{statement}
 use Rattle.breadth_first.proofs.search.spread.Tie as tie
 
 abbrev Inv-loop : tie.InvT-loop
-Inv-loop priorities offsets targets entries p work₀ begun n queue head₀ tail₀ work head tail =
+Inv-loop priorities offsets targets entries p work₀ begun n m queue head₀ tail₀ work head tail =
     Standing (graph priorities offsets targets entries p) work head tail × Kept
     (graph priorities offsets targets entries p) work₀ work
 
 abbrev μ-loop : tie.MeasureT-loop
-μ-loop priorities offsets targets entries p work₀ begun n queue head₀ tail₀ work head tail = length priorities - head
+μ-loop priorities offsets targets entries p work₀ begun n m queue head₀ tail₀ work head tail = length priorities - head
+
+-- where the row of the queue begins, and where the function does
+abbrev row-of : tie.At-loop Inv-loop μ-loop → tie.After-queue Inv-loop μ-loop
+row-of a = a .before
+
+abbrev start : tie.At-loop Inv-loop μ-loop → tie.Start Inv-loop μ-loop
+start a = row-of a .before .before .before .before .before .before
 
 abbrev graph-of : tie.Start Inv-loop μ-loop → Graph
 graph-of s = graph (s .args .priorities .now) (s .args .offsets .now) (s .args .targets .now) (s .args .entries .now) (s .args .p)
 
-add-queue : tie.Need-add-queue Inv-loop μ-loop
-add-queue c = search needs
-
-add-queue-2 : tie.Need-add-queue-2 Inv-loop μ-loop
-add-queue-2 c = search needs
-
-add-queue-3 : tie.Need-add-queue-3 Inv-loop μ-loop
-add-queue-3 c = search needs
-
-add-queue-4 : tie.Need-add-queue-4 Inv-loop μ-loop
-add-queue-4 c = search needs
+queue-requires : tie.Need-queue-requires Inv-loop μ-loop
+queue-requires c κs = search needs
 
 loop-holds : tie.Need-loop-holds Inv-loop μ-loop
-loop-holds c = let s = c .before .before .before .before .before in (s .pre, kept-same (graph-of s) (s .args .work .now))
+loop-holds c = let s = c .before .before .before .before .before .before in (s .pre, kept-same (graph-of s) (s .args .work .now))
 
 add-w : tie.Need-add-w Inv-loop μ-loop
 add-w c = search needs
@@ -46,9 +44,10 @@ slice-read-w c = search needs
 
 look-back-requires : tie.Need-look-back-requires Inv-loop μ-loop
 look-back-requires c κs =
-    let s = c .before .before .before .before .before .before .before .before .before in
-    let l = c .before .before .before .loop in
-    look-ready (graph-of s) (l .work) (l .head) (l .tail) (l .inv .0) (c .before .before .loop-test .taken)
+    let a = c .before .before .before in
+    let s = start a in
+    let l = a .loop in
+    rw (row-of a .queue .ensures) (look-ready (graph-of s) (l .work) (l .head) (l .tail) (l .inv .0) (c .before .before .loop-test .taken))
 
 add-head : tie.Need-add-head Inv-loop μ-loop
 add-head c = search needs
@@ -58,13 +57,14 @@ loop-less c = search needs
 
 loop-again : tie.Need-loop-again Inv-loop μ-loop
 loop-again c =
-    let s = c .before .before .before .before .before .before .before .before .before .before .before .before in
-    let l = c .before .before .before .before .before .before .loop in
+    let a = c .before .before .before .before .before .before in
+    let s = start a in
+    let l = a .loop in
     let f = c .before .before .look-back in
+    let looked = rw (row-of a .queue .ensures) at (f .ensures) in
     let more = c .before .before .before .before .before .loop-test .taken in (
-      standing-moves (graph-of s) (l .work) (l .head) (l .tail) (l .inv .0) more (f .last .1 .1 .1 .1 .1 .0) (f .result)
-          (f .ensures),
-      kept-moves (graph-of s) (l .work) (l .head) (l .tail) (l .inv .0) more (f .last .1 .1 .1 .1 .1 .0) (f .result) (f .ensures)
+      standing-moves (graph-of s) (l .work) (l .head) (l .tail) (l .inv .0) more (f .last .1 .1 .1 .1 .1 .0) (f .result) looked,
+      kept-moves (graph-of s) (l .work) (l .head) (l .tail) (l .inv .0) more (f .last .1 .1 .1 .1 .1 .0) (f .result) looked
           (s .args .work .now) (l .inv .1),
     )
 
@@ -74,7 +74,7 @@ same-length c = c .before .loop .inv .1 .within .long
 returns : tie.Need-returns Inv-loop μ-loop
 returns c =
     let l = c .before .loop in
-    let s = c .before .before .before .before .before .before .before in
+    let s = start (c .before) in
     let all : l .head ≡ l .tail = omega (arith, l .inv .0 .ahead, c .loop-test .left) in
     record {
       kept = l .inv .1;
@@ -89,10 +89,7 @@ spread-spec =
     (tie.spec
     Inv-loop
     μ-loop
-    add-queue
-    add-queue-2
-    add-queue-3
-    add-queue-4
+    queue-requires
     loop-holds
     add-w
     mul-w

@@ -1,7 +1,10 @@
 -- `check_cycles` meets its contract: the search over the marks is the rule's 24.
+use mathlib.Core.Path.{sym, ap, subst, _∙_}
+use Prim.Native.Nat.{ℕ, _<_, _^_}
 use lib.ListN.{length}
-use Rattle.depth_first.specs.Area.{behind}
-use Rattle.checker.specs.Cycles.{Scannable}
+use Rattle.rules.specs.Outcome.{outcome, answered, givenAt}
+use Rattle.search_rows.specs.Rows.{behind}
+use Rattle.checker.specs.Cycles.{losingAt, Scannable}
 use Rattle.checker.specs.Checks.{cycles-ready, scan-ready, cycles-told}
 use native.Mathlib.Omega.{arith}
 use borrow.Author.Needs.{needs}
@@ -24,66 +27,41 @@ mark-cycles-requires : tie.Need-mark-cycles-requires
 mark-cycles-requires c κs =
     let s = c .before .before .before .before .before .before .before .before .before in (cycles-ready (s .pre .0), s .pre .1)
 
-add-find-losing : tie.Need-add-find-losing
-add-find-losing c = search needs
-
-add-find-losing-2 : tie.Need-add-find-losing-2
-add-find-losing-2 c = search needs
-
-add-find-losing-3 : tie.Need-add-find-losing-3
-add-find-losing-3 c = search needs
-
-add-find-losing-4 : tie.Need-add-find-losing-4
-add-find-losing-4 c = search needs
-
-add-find-losing-5 : tie.Need-add-find-losing-5
-add-find-losing-5 c =
+behind-requires : tie.Need-behind-requires
+behind-requires c κs =
     let d = c .before .before .before in
     let s = start d in
-    omega (arith, scannable d .room, d .mark-cycles .ensures .long)
-
-add-find-losing-6 : tie.Need-add-find-losing-6
-add-find-losing-6 c =
-    let d = c .before .before .before in
-    let s = start d in
-    omega (arith, scannable d .room, d .mark-cycles .ensures .long)
-
-add-find-losing-7 : tie.Need-add-find-losing-7
-add-find-losing-7 c =
-    let d = c .before .before .before in
-    let s = start d in
-    omega (arith, scannable d .room, d .mark-cycles .ensures .long)
-
-add-find-losing-8 : tie.Need-add-find-losing-8
-add-find-losing-8 c =
-    let d = c .before .before .before in
-    let s = start d in
-    omega (arith, scannable d .room, d .mark-cycles .ensures .long)
+    let small : behind (length (s .args .priorities .now)) (length (s .args .targets .now)) < 2 ^ 64 =
+    omega (arith, scannable d .room, d .mark-cycles .ensures .long) in
+    small
 
 find-losing-requires : tie.Need-find-losing-requires
-find-losing-requires c κs = scannable (c .before .before .before)
+find-losing-requires c κs =
+    let d = c .before .before .before .before in
+    let a = start d .args in
+    subst
+    (λ (k : ℕ). Scannable (a .even .now) (d .mark-cycles .last .1 .1 .1 .1 .1 .1 .0) k (length (a .priorities .now)))
+    (sym (c .behind .ensures)) (scannable d)
 
 same-length : tie.Need-same-length
 same-length c = search needs
 
 returns : tie.Need-returns
 returns c =
-    let d = c .before .before .before .before in
-    cycles-told (start d .pre .0) (d .mark-cycles .ensures) (c .find-losing .ensures)
+    let d = c .before .before .before .before .before in
+    let a = start d .args in
+    let n = length (a .priorities .now) in
+    cycles-told (start d .pre .0) (d .mark-cycles .ensures)
+    (c .find-losing .ensures ∙
+    ap (λ (k : ℕ). outcome (givenAt 24 n (losingAt (a .even .now) (d .mark-cycles .last .1 .1 .1 .1 .1 .1 .0) k n)) (answered 0))
+    (c .before .behind .ensures))
 
 pub check-cycles-spec : {M : Type 1} → statement M
 check-cycles-spec =
     tie.close
     (tie.spec
     mark-cycles-requires
-    add-find-losing
-    add-find-losing-2
-    add-find-losing-3
-    add-find-losing-4
-    add-find-losing-5
-    add-find-losing-6
-    add-find-losing-7
-    add-find-losing-8
+    behind-requires
     find-losing-requires
     same-length
     returns)

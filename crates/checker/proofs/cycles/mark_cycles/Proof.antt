@@ -1,19 +1,39 @@
 -- `mark_cycles` meets its contract: each stage leaves what the next one needs.
+use mathlib.Core.Path.{ap}
+use Prim.Native.Nat.{ℕ, _+_}
+use lib.ListN.{length}
+use Rattle.search_rows.specs.Rows.{behind}
+use Rattle.depth_first.specs.Area.{Cleared, cleared-as}
+use Rattle.subgame.specs.Parity.{sweepable-as, swept-as}
 use Rattle.checker.specs.Cycles.{CyclesMarked, build-ready, evens-ready, odds-ready, cycles-marked}
-use native.Mathlib.Omega.{arith}
 use borrow.Author.Needs.{needs}
 use Rattle.checker.proofs.cycles.mark_cycles.Statement.{statement}
 use Rattle.checker.proofs.cycles.mark_cycles.Tie as tie
 
 -- where the function begins, where the rows are cleared, and where the table is built
 abbrev start : tie.After-clear → tie.Start
-start k = k .before .before .before .before .before .before .before .before .before
+start k = k .before .before .before .before .before .before .before .before .before .before
 
 abbrev cleared : tie.After-build → tie.After-clear
 cleared b = b .before .before .before .before
 
 abbrev built : tie.After-mark-parity → tie.After-build
 built e = e .before .before .before .before
+
+-- the rows begin behind those of the search
+abbrev row-of : tie.After-clear → tie.After-behind
+row-of k = k .before .before
+
+bare :
+    (k : tie.After-clear) →
+    let a = start k .args in
+    let n = length (a .priorities .now) in
+    let b = behind n (length (a .targets .now)) in
+    Cleared b (b + n + n) (a .work .now) (k .clear .last .0)
+bare k =
+    let n = length (start k .args .priorities .now) in
+    let e = row-of k .behind .ensures in
+    cleared-as e (ap (λ (x : ℕ). x + n + n) e) (k .clear .ensures)
 
 -- both rows are marked
 all-marked :
@@ -25,31 +45,13 @@ all-marked o =
     let e = o .before .before .before .before in
     let b = built e in
     let k = cleared b in
-    cycles-marked (start k .pre .0) (k .clear .ensures) (b .build .ensures) (e .mark-parity .ensures) (o .mark-parity2 .ensures)
+    let at = row-of k .behind .ensures in
+    let n = length (start k .args .priorities .now) in
+    cycles-marked (start k .pre .0) (bare k) (b .build .ensures) (swept-as at (e .mark-parity .ensures))
+    (swept-as (ap (λ (x : ℕ). x + n) at) (o .mark-parity2 .ensures))
 
-add-rows : tie.Need-add-rows
-add-rows c = search needs
-
-add-rows-2 : tie.Need-add-rows-2
-add-rows-2 c = search needs
-
-add-rows-3 : tie.Need-add-rows-3
-add-rows-3 c = search needs
-
-add-rows-4 : tie.Need-add-rows-4
-add-rows-4 c = search needs
-
-add-rows-5 : tie.Need-add-rows-5
-add-rows-5 c = search needs
-
-add-rows-6 : tie.Need-add-rows-6
-add-rows-6 c = search needs
-
-add-rows-7 : tie.Need-add-rows-7
-add-rows-7 c = search needs
-
-add-rows-8 : tie.Need-add-rows-8
-add-rows-8 c = search needs
+behind-requires : tie.Need-behind-requires
+behind-requires c κs = search needs
 
 add-clear : tie.Need-add-clear
 add-clear c = search needs
@@ -62,13 +64,13 @@ clear-requires c κs = search needs
 
 build-requires : tie.Need-build-requires
 build-requires c κs =
-    let k = c .before .before .before in build-ready (start k .pre .0) (k .clear .ensures)
+    let k = c .before .before .before in build-ready (start k .pre .0) (bare k)
 
 mark-parity-requires : tie.Need-mark-parity-requires
 mark-parity-requires c κs =
     let b = c .before .before .before in
     let k = cleared b in
-    (evens-ready (start k .pre .0) (k .clear .ensures) (b .build .ensures), start k .pre .1)
+    (sweepable-as (row-of k .behind .ensures) (evens-ready (start k .pre .0) (bare k) (b .build .ensures)), start k .pre .1)
 
 add-mark-parity : tie.Need-add-mark-parity
 add-mark-parity c = search needs
@@ -78,7 +80,12 @@ mark-parity-requires-2 c κs =
     let e = c .before .before .before in
     let b = built e in
     let k = cleared b in
-    (odds-ready (start k .pre .0) (k .clear .ensures) (b .build .ensures) (e .mark-parity .ensures), start k .pre .1)
+    let at = row-of k .behind .ensures in
+    let n = length (start k .args .priorities .now) in (
+      sweepable-as (ap (λ (x : ℕ). x + n) at)
+          (odds-ready (start k .pre .0) (bare k) (b .build .ensures) (swept-as at (e .mark-parity .ensures))),
+      start k .pre .1,
+    )
 
 same-length : tie.Need-same-length
 same-length c = all-marked (c .before .before) .long
@@ -90,14 +97,7 @@ pub mark-cycles-spec : {M : Type 1} → statement M
 mark-cycles-spec =
     tie.close
     (tie.spec
-    add-rows
-    add-rows-2
-    add-rows-3
-    add-rows-4
-    add-rows-5
-    add-rows-6
-    add-rows-7
-    add-rows-8
+    behind-requires
     add-clear
     add-clear-2
     clear-requires

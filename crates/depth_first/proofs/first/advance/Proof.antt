@@ -1,21 +1,38 @@
 -- `advance` meets its contract: the cursor moves, and then the next vertex goes onto the stack, or the top is finished.
-use mathlib.Core.Path.{_∙_}
+use mathlib.Core.Path.{_≡_, _∙_}
+use Prim.Native.Nat.{_-_}
 use lib.ListN.{length-set}
-use Rattle.depth_first.specs.Graph.{Graph, graph}
-use Rattle.depth_first.specs.Walking.{advance-pushable, advance-pushes, advance-pops}
+use Rattle.search_rows.specs.Rows.{marks}
+use Rattle.depth_first.specs.Graph.{Graph, graph, size, edgeCount}
+use Rattle.depth_first.specs.Walking.{markOf, Scanned, advance-pushable, advance-pushes, advance-pops}
 use native.Mathlib.Omega.{arith}
 use borrow.Author.Needs.{needs}
 use Rattle.depth_first.proofs.first.advance.Statement.{statement}
 use Rattle.depth_first.proofs.first.advance.Tie as tie
 
+-- where the function begins, and where it knows the row of cursors
+abbrev start : tie.After-marks → tie.Start
+start c = c .before .before .before .before .before .before
+
+abbrev row-of : tie.After-next-edge → tie.After-marks
+row-of c = c .before .before .before
+
 abbrev graph-of : tie.Start → Graph
 graph-of s = graph (s .args .priorities .now) (s .args .offsets .now) (s .args .targets .now) (s .args .entries .now) (s .args .p)
 
-add-marks : tie.Need-add-marks
-add-marks c = search needs
+-- the cursors' row begins where it should
+row-is : (c : tie.After-marks) → c .marks .result ≡ marks (size (graph-of (start c))) (edgeCount (graph-of (start c)))
+row-is c = c .marks .ensures
 
-add-marks-2 : tie.Need-add-marks-2
-add-marks-2 c = search needs
+-- what the next edge is told from is the cursor of t
+scanned :
+    (c : tie.After-next-edge) →
+    let s = start (row-of c) in
+    Scanned (graph-of s) (s .args .work .now) (s .args .t) (markOf (graph-of s) (s .args .work .now) (s .args .t) - 1) (c .next-edge .result)
+scanned c = rw (row-is (row-of c)) at (c .next-edge .ensures)
+
+marks-requires : tie.Need-marks-requires
+marks-requires c κs = search needs
 
 add-from : tie.Need-add-from
 add-from c = search needs
@@ -27,10 +44,10 @@ slice-read-from : tie.Need-slice-read-from
 slice-read-from c = search needs
 
 sub-from : tie.Need-sub-from
-sub-from c = search needs
+sub-from c = rw (row-is (c .before)) (search needs)
 
 next-edge-requires : tie.Need-next-edge-requires
-next-edge-requires c κs = search needs
+next-edge-requires c κs = rw (row-is (c .before .before)) (search needs)
 
 add-work : tie.Need-add-work
 add-work c = search needs
@@ -67,33 +84,36 @@ cast-y c = omega (arith, c .shared-slice-known6 .given (c .before .before .befor
 
 push-requires : tie.Need-push-requires
 push-requires c κs =
-    let s = c .before .before .before .before .before .before .before .before .before .before .before .before in
+    let e = c .before .before .before .before in
+    let s = start (row-of e) in
     let a = s .args in
-    let f = c .before .before .before .before .next-edge in
-    advance-pushable (graph-of s) (a .work .now) (a .t) (a .at .top) (a .at .done) (s .pre) (f .result) (f .ensures) (c .before .before .if1 .taken)
+    let f = e .next-edge in
+    rw (row-is (row-of e))
+    (advance-pushable (graph-of s) (a .work .now) (a .t) (a .at .top) (a .at .done) (s .pre) (f .result) (scanned e) (c .before .before .if1 .taken))
 
-add-t26 : tie.Need-add-t26
-add-t26 c = search needs
+add-t27 : tie.Need-add-t27
+add-t27 c = search needs
 
 same-length : tie.Need-same-length
 same-length c =
-    let s = c .before .before .before .before .before .before .before .before .before .before .before .before .before .before .before .before in
-    c .before .before .before .push .kept .1 .1 .1 .0 ∙ length-set (s .args .work .now) _ _
+    let s = start (row-of (c .before .before .before .before .before .before .before .before)) in
+    c .before .before .before .push .kept .1 .1 .0 ∙ length-set (s .args .work .now) _ _
 
 returns : tie.Need-returns
 returns c =
-    let s = c .before .before .before .before .before .before .before .before .before .before .before .before .before .before .before .before in
+    let e = c .before .before .before .before .before .before .before .before in
+    let s = start (row-of e) in
     let a = s .args in
-    let f = c .before .before .before .before .before .before .before .before .next-edge in
-    advance-pushes (graph-of s) (a .work .now) (a .t) (a .at .top) (a .at .done) (s .pre) (f .result) (f .ensures)
-    (c .before .before .before .before .before .before .if1 .taken) (c .before .before .before .push .last .1 .1 .1 .0)
-    (c .before .before .before .push .ensures)
+    let f = e .next-edge in
+    advance-pushes (graph-of s) (a .work .now) (a .t) (a .at .top) (a .at .done) (s .pre) (f .result) (scanned e)
+    (c .before .before .before .before .before .before .if1 .taken) (c .before .before .before .push .last .1 .1 .0)
+    (rw (row-is (row-of e)) at (c .before .before .before .push .ensures))
+
+order-requires : tie.Need-order-requires
+order-requires c κs = search needs
 
 add-work-3 : tie.Need-add-work-3
 add-work-3 c = search needs
-
-add-work-4 : tie.Need-add-work-4
-add-work-4 c = search needs
 
 mul-work-2 : tie.Need-mul-work-2
 mul-work-2 c = search needs
@@ -104,25 +124,27 @@ slice-write-work-2 c = simp length-set (omega arith)
 sub-t15 : tie.Need-sub-t15
 sub-t15 c = search needs
 
-add-t14 : tie.Need-add-t14
-add-t14 c = search needs
+add-t19 : tie.Need-add-t19
+add-t19 c = search needs
 
 same-length-2 : tie.Need-same-length-2
 same-length-2 c = search needs
 
 returns-2 : tie.Need-returns-2
 returns-2 c =
-    let s = c .before .before .before .before .before .before .before .before .before .before .before .before .before in
+    let o = c .before .before .before in
+    let e = o .before .before .before in
+    let s = start (row-of e) in
     let a = s .args in
-    let f = c .before .before .before .before .before .next-edge in
-    advance-pops (graph-of s) (a .work .now) (a .t) (a .at .top) (a .at .done) (s .pre) (f .result) (f .ensures) (c .before .before .before .if1 .left)
+    let f = e .next-edge in
+    rw (o .order .ensures, row-is (row-of e))
+    (advance-pops (graph-of s) (a .work .now) (a .t) (a .at .top) (a .at .done) (s .pre) (f .result) (scanned e) (o .before .if1 .left))
 
 pub advance-spec : {M : Type 1} → statement M
 advance-spec =
     tie.close
     (tie.spec
-    add-marks
-    add-marks-2
+    marks-requires
     add-from
     mul-from
     slice-read-from
@@ -140,14 +162,14 @@ advance-spec =
     shared-slice-read-y
     cast-y
     push-requires
-    add-t26
+    add-t27
     same-length
     returns
+    order-requires
     add-work-3
-    add-work-4
     mul-work-2
     slice-write-work-2
     sub-t15
-    add-t14
+    add-t19
     same-length-2
     returns-2)

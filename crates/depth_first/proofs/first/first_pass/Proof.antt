@@ -17,30 +17,35 @@ Inv-loop priorities offsets targets entries p work₀ marks done₀ r₀ r-end w
 abbrev μ-loop : tie.MeasureT-loop
 μ-loop priorities offsets targets entries p work₀ marks done₀ r₀ r-end work done r = length priorities - r
 
+-- where the row of cursors begins
+abbrev row-of : tie.At-loop Inv-loop μ-loop → tie.After-marks Inv-loop μ-loop
+row-of a = a .before
+
 abbrev graph-of : tie.Start Inv-loop μ-loop → Graph
 graph-of s = graph (s .args .priorities .now) (s .args .offsets .now) (s .args .targets .now) (s .args .entries .now) (s .args .p)
 
-add-marks : tie.Need-add-marks Inv-loop μ-loop
-add-marks c = search needs
-
-add-marks-2 : tie.Need-add-marks-2 Inv-loop μ-loop
-add-marks-2 c = search needs
+marks-requires : tie.Need-marks-requires Inv-loop μ-loop
+marks-requires c κs = search needs
 
 loop-holds : tie.Need-loop-holds Inv-loop μ-loop
 loop-holds c =
-    let s = c .before .before .before .before .before in
+    let s = c .before .before .before .before .before .before in
     (refl, roots-start (graph-of s) (s .args .work .now) (s .pre))
 
 is-fresh-requires : tie.Need-is-fresh-requires Inv-loop μ-loop
 is-fresh-requires c κs =
-    (search needs, omega (arith, c .before .before .before .before .before .before .before .before .pre .room, c .before .before .loop .inv .1 .long))
+    let l = c .before .before in (
+      search needs,
+      omega (arith, row-of l .marks .ensures, row-of l .before .before .before .before .before .before .pre .room, l .loop .inv .1 .long),
+    )
 
 search-from-requires : tie.Need-search-from-requires Inv-loop μ-loop
 search-from-requires c κs =
-    let s = c .before .before .before .before .before .before .before .before .before .before .before in
-    let l = c .before .before .before .before .before .loop in
+    let a = c .before .before .before .before .before in
+    let s = row-of a .before .before .before .before .before .before in
+    let l = a .loop in
     root-ready (graph-of s) (s .args .work .now) (s .pre) (l .work) (l .r) (l .done) (l .inv .1) (omega arith)
-    (sym (c .before .before .is-fresh .ensures) ∙ c .before .if1 .taken)
+    (rw (row-of a .marks .ensures) at (sym (c .before .before .is-fresh .ensures) ∙ c .before .if1 .taken))
 
 add-r : tie.Need-add-r Inv-loop μ-loop
 add-r c = search needs
@@ -50,8 +55,9 @@ loop-less c = search needs
 
 loop-again : tie.Need-loop-again Inv-loop μ-loop
 loop-again c =
-    let s = c .before .before .before .before .before .before .before .before .before .before in
-    let l = c .before .before .before .before .loop in
+    let a = c .before .before .before .before in
+    let s = row-of a .before .before .before .before .before .before in
+    let l = a .loop in
     let more : l .r < length (s .args .priorities .now) = omega arith in (
       refl,
       ⊎-elim
@@ -62,7 +68,7 @@ loop-again c =
           (λ w.
           rooting-as (w .1) (w .2)
           (root-passes (graph-of s) (s .args .work .now) (s .pre) (l .work) (l .r) (l .done) (l .inv .1) more
-          (sym (c .before .is-fresh .ensures) ∙ w .0 .left)))
+          (rw (row-of a .marks .ensures) at (sym (c .before .is-fresh .ensures) ∙ w .0 .left))))
           (c .if1 .came),
     )
 
@@ -71,7 +77,7 @@ same-length c = c .before .loop .inv .1 .long
 
 returns : tie.Need-returns Inv-loop μ-loop
 returns c =
-    let s = c .before .before .before .before .before .before .before in
+    let s = c .before .before .before .before .before .before .before .before in
     let l = c .before .loop in
     roots-end (graph-of s) (s .args .work .now) (s .pre) (l .work) (l .r) (l .done) (l .inv .1) (omega arith)
 
@@ -81,8 +87,7 @@ first-pass-spec =
     (tie.spec
     Inv-loop
     μ-loop
-    add-marks
-    add-marks-2
+    marks-requires
     loop-holds
     is-fresh-requires
     search-from-requires

@@ -16,16 +16,17 @@ abbrev μ-loop : tie.MeasureT-loop
 μ-loop priorities offsets targets entries p work t from marks end e₀ e = end - e
 
 abbrev start-of : tie.At-loop Inv-loop μ-loop → tie.Start Inv-loop μ-loop
-start-of c = c .before .before .before .before .before .before .before
+start-of c = c .before .before .before .before .before .before .before .before
+
+-- where the row of cursors begins
+abbrev row-of : tie.At-loop Inv-loop μ-loop → tie.After-marks Inv-loop μ-loop
+row-of c = c .before .before
 
 abbrev graph-of : tie.Start Inv-loop μ-loop → Graph
 graph-of s = graph (s .args .priorities .now) (s .args .offsets .now) (s .args .targets .now) (s .args .entries .now) (s .args .p)
 
-add-marks : tie.Need-add-marks Inv-loop μ-loop
-add-marks c = search needs
-
-add-marks-2 : tie.Need-add-marks-2 Inv-loop μ-loop
-add-marks-2 c = search needs
+marks-requires : tie.Need-marks-requires Inv-loop μ-loop
+marks-requires c κs = search needs
 
 add-end : tie.Need-add-end Inv-loop μ-loop
 add-end c = search needs
@@ -37,11 +38,11 @@ shared-slice-read-end : tie.Need-shared-slice-read-end Inv-loop μ-loop
 shared-slice-read-end c = search needs
 
 cast-end : tie.Need-cast-end Inv-loop μ-loop
-cast-end c = omega (arith, c .shared-slice-known6 .given (c .before .before .before .before .before .before .args .t + 1))
+cast-end c = omega (arith, c .shared-slice-known6 .given (c .before .before .before .before .before .before .before .args .t + 1))
 
 loop-holds : tie.Need-loop-holds Inv-loop μ-loop
 loop-holds c =
-    let s = c .before .before .before .before .before .before in
+    let s = c .before .before .before .before .before .before .before in
     scanning-starts (graph-of s) (s .args .work .now) (s .args .t) (s .args .from) (s .pre)
 
 mul-w : tie.Need-mul-w Inv-loop μ-loop
@@ -56,14 +57,14 @@ cast-w c = omega (arith, c .shared-slice-known7 .given (c .before .before .loop 
 opens-requires : tie.Need-opens-requires Inv-loop μ-loop
 opens-requires c κs =
     let below = start-of (c .before .before) .pre .sound .edges .target-below (c .before .before .loop .e) (omega arith) in
-    (below, omega (arith, below))
+    (below, omega (arith, below, row-of (c .before .before) .marks .ensures))
 
 returns : tie.Need-returns Inv-loop μ-loop
 returns c =
     let l = c .before .before .before .before in
     let s = start-of l in
     scan-found (graph-of s) (s .args .work .now) (s .args .t) (s .args .from) (s .pre) (l .loop .e) (l .loop .inv)
-    (c .before .before .before .loop-test .taken) (sym (c .before .opens .ensures) ∙ c .if1 .taken)
+    (c .before .before .before .loop-test .taken) (rw (row-of l .marks .ensures) at (sym (c .before .opens .ensures) ∙ c .if1 .taken))
 
 add-e : tie.Need-add-e Inv-loop μ-loop
 add-e c = search needs
@@ -76,7 +77,7 @@ loop-again c =
     let l = c .before .before .before .before in
     let s = start-of l in
     scanning-more (graph-of s) (s .args .work .now) (s .args .t) (s .args .from) (s .pre) (l .loop .e) (l .loop .inv)
-    (c .before .before .before .loop-test .taken) (sym (c .before .opens .ensures) ∙ c .if1 .left)
+    (c .before .before .before .loop-test .taken) (rw (row-of l .marks .ensures) at (sym (c .before .opens .ensures) ∙ c .if1 .left))
 
 returns-2 : tie.Need-returns-2 Inv-loop μ-loop
 returns-2 c =
@@ -90,8 +91,7 @@ next-edge-spec =
     (tie.spec
     Inv-loop
     μ-loop
-    add-marks
-    add-marks-2
+    marks-requires
     add-end
     mul-end
     shared-slice-read-end

@@ -4,7 +4,7 @@ use mathlib.Core.Path.{_≡_, refl, sym, subst, _∙_}
 use Prim.Native.Nat.{ℕ, _+_, _-_, _<_}
 use native.Mathlib.Nat.{le-refl}
 use Rattle.depth_first.specs.Graph.{Graph, graph}
-use Rattle.depth_first.specs.Seeking.{rowStart, Looked, LookingBack, looking-as, looked-starts, entry-vertex, looked-passes, look-putable, looked-puts}
+use Rattle.depth_first.specs.Seeking.{rowStart, source, Looked, LookingBack, looking-as, looked-starts, entry-vertex, looked-passes, look-putable, looked-puts, putable-as, putting-as}
 use native.Mathlib.Omega.{arith}
 use borrow.Author.Needs.{needs}
 use Rattle.depth_first.proofs.second.look_back.Statement.{statement}
@@ -17,23 +17,24 @@ Inv-loop priorities offsets targets entries p work₀ w r tail n queue labels en
 abbrev μ-loop : tie.MeasureT-loop
 μ-loop priorities offsets targets entries p work₀ w r tail n queue labels end₀ e₀ e-end work end e = e-end - e
 
+-- where the rows of labels and of the queue begin, and where the function does
+abbrev labels-of : tie.At-loop Inv-loop μ-loop → tie.After-labels Inv-loop μ-loop
+labels-of a = a .before .before .before
+
+abbrev queue-of : tie.At-loop Inv-loop μ-loop → tie.After-queue Inv-loop μ-loop
+queue-of a = labels-of a .before
+
+abbrev start : tie.At-loop Inv-loop μ-loop → tie.Start Inv-loop μ-loop
+start a = queue-of a .before .before .before .before .before .before
+
 abbrev graph-of : tie.Start Inv-loop μ-loop → Graph
 graph-of s = graph (s .args .priorities .now) (s .args .offsets .now) (s .args .targets .now) (s .args .entries .now) (s .args .p)
 
-add-queue : tie.Need-add-queue Inv-loop μ-loop
-add-queue c = search needs
+queue-requires : tie.Need-queue-requires Inv-loop μ-loop
+queue-requires c κs = search needs
 
-add-queue-2 : tie.Need-add-queue-2 Inv-loop μ-loop
-add-queue-2 c = search needs
-
-add-queue-3 : tie.Need-add-queue-3 Inv-loop μ-loop
-add-queue-3 c = search needs
-
-add-queue-4 : tie.Need-add-queue-4 Inv-loop μ-loop
-add-queue-4 c = search needs
-
-add-labels : tie.Need-add-labels Inv-loop μ-loop
-add-labels c = search needs
+labels-requires : tie.Need-labels-requires Inv-loop μ-loop
+labels-requires c κs = search needs
 
 mul-e : tie.Need-mul-e Inv-loop μ-loop
 mul-e c = search needs
@@ -52,7 +53,7 @@ slice-read-e-end c = search needs
 
 loop-holds : tie.Need-loop-holds Inv-loop μ-loop
 loop-holds c =
-    let s = c .before .before .before .before .before .before .before in
+    let s = c .before .before .before .before .before .before .before .before .before in
     record {
       is-last = refl;
       low-end = le-refl _;
@@ -75,21 +76,24 @@ slice-read-v c = search needs
 
 opens-requires : tie.Need-opens-requires Inv-loop μ-loop
 opens-requires c κs =
-    let s = c .before .before .before .before .before .before .before .before .before .before .before in
-    let l = c .before .before .before .loop in
+    let a = c .before .before .before in
+    let s = start a in
+    let l = a .loop in
     let below = entry-vertex (graph-of s) (s .args .work .now) (s .args .w) (s .args .r) (s .args .tail) (s .pre) (l .e) (l .work) (l .end)
     (l .inv .looked) (l .inv .low-end) (omega arith) in
-    (below, omega (arith, s .pre .room, l .inv .long))
+    (below, omega (arith, labels-of a .labels .ensures, s .pre .room, l .inv .long))
 
 add-put : tie.Need-add-put Inv-loop μ-loop
 add-put c = search needs
 
 put-requires : tie.Need-put-requires Inv-loop μ-loop
 put-requires c κs =
-    let s = c .before .before .before .before .before .before .before .before .before .before .before .before .before .before in
-    let l = c .before .before .before .before .before .before .loop in
-    look-putable (graph-of s) (s .args .work .now) (s .args .w) (s .args .r) (s .args .tail) (s .pre) (l .e) (l .work) (l .end) (l .inv .looked)
-    (l .inv .low-end) (omega arith) (sym (c .before .before .opens .ensures) ∙ c .before .if1 .taken)
+    let a = c .before .before .before .before .before .before in
+    let s = start a in
+    let l = a .loop in
+    putable-as (labels-of a .labels .ensures) (queue-of a .queue .ensures)
+    (look-putable (graph-of s) (s .args .work .now) (s .args .w) (s .args .r) (s .args .tail) (s .pre) (l .e) (l .work) (l .end) (l .inv .looked)
+    (l .inv .low-end) (omega arith) (rw (labels-of a .labels .ensures) at (sym (c .before .before .opens .ensures) ∙ c .before .if1 .taken)))
 
 add-end : tie.Need-add-end Inv-loop μ-loop
 add-end c = search needs
@@ -102,18 +106,20 @@ loop-less c = search needs
 
 loop-again : tie.Need-loop-again Inv-loop μ-loop
 loop-again c =
-    let s = c .before .before .before .before .before .before .before .before .before .before .before .before .before in
-    let l = c .before .before .before .before .before .loop in
+    let a = c .before .before .before .before .before in
+    let s = start a in
+    let l = a .loop in
     let more : l .e < rowStart (s .args .work .now) (s .args .w + 1) = omega arith in
     let next = ⊎-elim
     (λ w.
-    looking-as {before = s .args .work .now} (w .5 ∙ w .2 .ensures) (w .6)
+    looking-as {before = s .args .work .now} (w .5 ∙ (w .2 .ensures ∙ putting-as (source (graph-of s) (l .work) (l .e)) (s .args .r + 1) (l .end) (l .work)
+    (labels-of a .labels .ensures) (queue-of a .queue .ensures))) (w .6)
     (looked-puts (graph-of s) (s .args .work .now) (s .args .w) (s .args .r) (s .args .tail) (s .pre) (l .e) (l .work) (l .end) (l .inv .looked)
-    (l .inv .low-end) more (sym (c .before .opens .ensures) ∙ w .0 .taken)))
+    (l .inv .low-end) more (rw (labels-of a .labels .ensures) at (sym (c .before .opens .ensures) ∙ w .0 .taken))))
     (λ w.
     looking-as {before = s .args .work .now} (w .1) (w .2)
     (looked-passes (graph-of s) (s .args .work .now) (s .args .w) (s .args .r) (s .args .tail) (s .pre) (l .e) (l .work) (l .end) (l .inv .looked)
-    (l .inv .low-end) more (sym (c .before .opens .ensures) ∙ w .0 .left)))
+    (l .inv .low-end) more (rw (labels-of a .labels .ensures) at (sym (c .before .opens .ensures) ∙ w .0 .left))))
     (c .if1 .came) in
     record {
       is-last = refl;
@@ -128,7 +134,7 @@ same-length c = c .before .loop .inv .long
 
 returns : tie.Need-returns Inv-loop μ-loop
 returns c =
-    let s = c .before .before .before .before .before .before .before .before .before in
+    let s = start (c .before) in
     let l = c .before .loop in
     let end : l .e ≡ rowStart (s .args .work .now) (s .args .w + 1) = omega arith in
     subst
@@ -141,11 +147,8 @@ look-back-spec =
     (tie.spec
     Inv-loop
     μ-loop
-    add-queue
-    add-queue-2
-    add-queue-3
-    add-queue-4
-    add-labels
+    queue-requires
+    labels-requires
     mul-e
     slice-read-e
     add-e-end

@@ -1,9 +1,11 @@
 -- `second_pass` meets its contract. The loop's invariant: the parts of the last i vertices of the order are found.
 use mathlib.Core.Logic.{⊎-elim}
 use mathlib.Core.List.{List}
-use mathlib.Core.Path.{sym, subst}
-use Prim.Native.Nat.{ℕ, _+_, _-_}
-use Rattle.depth_first.specs.Graph.{Graph, graph}
+use mathlib.Core.Path.{_≡_, sym, ap₂, subst, _∙_}
+use Prim.Native.Nat.{ℕ, _+_, _-_, _<_}
+use lib.ListN.{length, getD}
+use Rattle.search_rows.specs.Rows.{order, labels}
+use Rattle.depth_first.specs.Graph.{Graph, graph, size, edgeCount}
 use Rattle.depth_first.specs.Finding.{Passing, passing-starts, next-vertex, passing-skips, find-ready, passing-finds, passing-ends}
 use native.Mathlib.Omega.{arith}
 use borrow.Author.Needs.{needs}
@@ -11,27 +13,58 @@ use Rattle.depth_first.proofs.second.second_pass.Statement.{statement}
 use Rattle.depth_first.proofs.second.second_pass.Tie as tie
 
 abbrev Inv-loop : tie.InvT-loop
-Inv-loop priorities offsets targets entries p work₀ done n order i₀ work i =
+Inv-loop priorities offsets targets entries p work₀ done order labels i₀ work i =
     Passing (graph priorities offsets targets entries p) work₀ done i work
 
 abbrev μ-loop : tie.MeasureT-loop
-μ-loop priorities offsets targets entries p work₀ done n order i₀ work i = done - i
+μ-loop priorities offsets targets entries p work₀ done order labels i₀ work i = done - i
+
+-- where the rows of the order and of the labels begin, and where the function does
+abbrev labels-of : tie.At-loop Inv-loop μ-loop → tie.After-labels Inv-loop μ-loop
+labels-of a = a .before
+
+abbrev order-of : tie.At-loop Inv-loop μ-loop → tie.After-order Inv-loop μ-loop
+order-of a = a .before .before
+
+abbrev start : tie.At-loop Inv-loop μ-loop → tie.Start Inv-loop μ-loop
+start a = order-of a .before .before .before .before .before .before
 
 abbrev graph-of : tie.Start Inv-loop μ-loop → Graph
 graph-of s = graph (s .args .priorities .now) (s .args .offsets .now) (s .args .targets .now) (s .args .entries .now) (s .args .p)
 
-add-order : tie.Need-add-order Inv-loop μ-loop
-add-order c = search needs
+-- the next vertex has a label's word
+labels-fit :
+    (a : tie.At-loop Inv-loop μ-loop) → a .loop .i < start a .args .done →
+    let G = graph-of (start a) in
+    labels-of a .labels .result + getD (a .loop .work) (order (size G) (edgeCount G) + (start a .args .done - 1 - a .loop .i)) 0 < length (a .loop .work)
+labels-fit a more =
+    let s = start a in
+    let l = a .loop in
+    let below = next-vertex (graph-of s) (s .args .work .now) (s .args .done) (s .pre) (l .i) (l .work) (l .inv) more in
+    omega (arith, below, l .inv .room, labels-of a .labels .ensures)
 
-add-order-2 : tie.Need-add-order-2 Inv-loop μ-loop
-add-order-2 c = search needs
+-- the word that is looked at is its label's
+word-is :
+    (a : tie.At-loop Inv-loop μ-loop) →
+    let G = graph-of (start a) in
+    let work = a .loop .work in
+    let k = start a .args .done - 1 - a .loop .i in
+    getD work (labels-of a .labels .result + getD work (order-of a .order .result + k) 0) 0 ≡
+    getD work (labels (size G) (edgeCount G) + getD work (order (size G) (edgeCount G) + k) 0) 0
+word-is a =
+    let work = a .loop .work in
+    let k = start a .args .done - 1 - a .loop .i in
+    ap₂ (λ (x y : ℕ). getD work (x + getD work (y + k) 0) 0) (labels-of a .labels .ensures) (order-of a .order .ensures)
 
-add-order-3 : tie.Need-add-order-3 Inv-loop μ-loop
-add-order-3 c = search needs
+order-requires : tie.Need-order-requires Inv-loop μ-loop
+order-requires c κs = search needs
+
+labels-requires : tie.Need-labels-requires Inv-loop μ-loop
+labels-requires c κs = search needs
 
 loop-holds : tie.Need-loop-holds Inv-loop μ-loop
 loop-holds c =
-    let s = c .before .before .before .before .before in
+    let s = c .before .before .before .before .before .before .before in
     passing-starts (graph-of s) (s .args .work .now) (s .args .done) (s .pre)
 
 sub-r : tie.Need-sub-r Inv-loop μ-loop
@@ -50,37 +83,22 @@ slice-read-r : tie.Need-slice-read-r Inv-loop μ-loop
 slice-read-r c = search needs
 
 add-if1 : tie.Need-add-if1 Inv-loop μ-loop
-add-if1 c = search needs
-
-add-if1-2 : tie.Need-add-if1-2 Inv-loop μ-loop
-add-if1-2 c = search needs
-
-add-if1-3 : tie.Need-add-if1-3 Inv-loop μ-loop
-add-if1-3 c =
-    let s = c .before .before .before .before .before .before .before .before in
-    let l = c .before .before .loop in
-    let below = next-vertex (graph-of s) (s .args .work .now) (s .args .done) (s .pre) (l .i) (l .work) (l .inv) (omega arith) in
-    omega (arith, l .inv .room)
+add-if1 c = rw (order-of (c .before .before) .order .ensures) (omega (arith, labels-fit (c .before .before) (c .before .loop-test .taken)))
 
 mul-if1 : tie.Need-mul-if1 Inv-loop μ-loop
-mul-if1 c =
-    let s = c .before .before .before .before .before .before .before .before in
-    let l = c .before .before .loop in
-    let below = next-vertex (graph-of s) (s .args .work .now) (s .args .done) (s .pre) (l .i) (l .work) (l .inv) (omega arith) in
-    omega (arith, l .inv .room)
+mul-if1 c = rw (order-of (c .before .before) .order .ensures) (omega (arith, labels-fit (c .before .before) (c .before .loop-test .taken)))
 
 slice-read-if1 : tie.Need-slice-read-if1 Inv-loop μ-loop
-slice-read-if1 c =
-    let s = c .before .before .before .before .before .before .before .before .before in
-    let l = c .before .before .before .loop in
-    let below = next-vertex (graph-of s) (s .args .work .now) (s .args .done) (s .pre) (l .i) (l .work) (l .inv) (omega arith) in
-    omega (arith, l .inv .room)
+slice-read-if1 c = rw (order-of (c .before .before .before) .order .ensures) (omega (arith, labels-fit (c .before .before .before) (c .before .before .loop-test .taken)))
 
 find-part-requires : tie.Need-find-part-requires Inv-loop μ-loop
 find-part-requires c κs =
-    let s = c .before .before .before .before .before .before .before .before .before .before .before in
-    let l = c .before .before .before .before .before .loop in
-    find-ready (graph-of s) (s .args .work .now) (s .args .done) (s .pre) (l .i) (l .work) (l .inv) (omega arith) (c .before .if1 .taken)
+    let a = c .before .before .before .before .before in
+    let s = start a in
+    let l = a .loop in
+    rw (order-of a .order .ensures)
+    (find-ready (graph-of s) (s .args .work .now) (s .args .done) (s .pre) (l .i) (l .work) (l .inv) (omega arith)
+    (sym (word-is a) ∙ c .before .if1 .taken))
 
 add-i : tie.Need-add-i Inv-loop μ-loop
 add-i c = search needs
@@ -90,14 +108,17 @@ loop-less c = search needs
 
 loop-again : tie.Need-loop-again Inv-loop μ-loop
 loop-again c =
-    let s = c .before .before .before .before .before .before .before .before .before .before in
-    let l = c .before .before .before .before .loop in
+    let a = c .before .before .before .before in
+    let s = start a in
+    let l = a .loop in
     let on : List ℕ → Type 0 = λ (xs : List ℕ). Passing (graph-of s) (s .args .work .now) (s .args .done) (l .i + 1) xs in
     ⊎-elim
     (λ w. subst on (sym (w .5))
     (passing-finds (graph-of s) (s .args .work .now) (s .args .done) (s .pre) (l .i) (l .work) (l .inv) (omega arith) (w .2 .last .1 .1 .1 .1 .1 .0)
-    (w .0 .taken) (w .2 .ensures)))
-    (λ w. subst on (sym (w .1)) (passing-skips (graph-of s) (s .args .work .now) (s .args .done) (s .pre) (l .i) (l .work) (l .inv) (omega arith) (w .0 .left)))
+    (sym (word-is a) ∙ w .0 .taken)
+    (rw (order-of a .order .ensures) at (w .2 .ensures))))
+    (λ w. subst on (sym (w .1)) (passing-skips (graph-of s) (s .args .work .now) (s .args .done) (s .pre) (l .i) (l .work) (l .inv) (omega arith)
+    (λ e. w .0 .left (word-is a ∙ e))))
     (c .if1 .came)
 
 same-length : tie.Need-same-length Inv-loop μ-loop
@@ -105,7 +126,7 @@ same-length c = c .before .loop .inv .long
 
 returns : tie.Need-returns Inv-loop μ-loop
 returns c =
-    let s = c .before .before .before .before .before .before .before in
+    let s = start (c .before) in
     let l = c .before .loop in
     passing-ends (graph-of s) (s .args .work .now) (s .args .done) (s .pre) (l .i) (l .work) (l .inv) (c .loop-test .left)
 
@@ -115,9 +136,8 @@ second-pass-spec =
     (tie.spec
     Inv-loop
     μ-loop
-    add-order
-    add-order-2
-    add-order-3
+    order-requires
+    labels-requires
     loop-holds
     sub-r
     sub-r-2
@@ -125,8 +145,6 @@ second-pass-spec =
     mul-r
     slice-read-r
     add-if1
-    add-if1-2
-    add-if1-3
     mul-if1
     slice-read-if1
     find-part-requires

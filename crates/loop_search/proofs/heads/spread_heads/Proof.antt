@@ -7,22 +7,30 @@ use native.Mathlib.Omega.{arith}
 use borrow.Author.Needs.{needs}
 use lib.ListN.{length}
 use Rattle.depth_first.specs.Graph.{Graph, graph}
+use Rattle.depth_first.specs.Seeking.{putable-as, putting-as}
 use Rattle.loop_search.specs.Heads.{Heading, heading-none, heading-skips, head-putable, heading-joins, headed}
 use Rattle.loop_search.proofs.heads.spread_heads.Statement.{statement}
 use Rattle.loop_search.proofs.heads.spread_heads.Tie as tie
 
 abbrev Inv-loop : tie.InvT-loop
-Inv-loop priorities offsets targets entries p work₀ row n queue labels end₀ v₀ work end v =
+Inv-loop priorities offsets targets entries p work₀ row n m queue labels end₀ v₀ work end v =
     (v ≤ length priorities) × Heading (graph priorities offsets targets entries 255) p row work₀ v work end
 
 abbrev μ-loop : tie.MeasureT-loop
-μ-loop priorities offsets targets entries p work₀ row n queue labels end₀ v₀ work end v = length priorities - v
+μ-loop priorities offsets targets entries p work₀ row n m queue labels end₀ v₀ work end v = length priorities - v
 
 abbrev graph-of : tie.Start Inv-loop μ-loop → Graph
 graph-of s = graph (s .args .priorities .now) (s .args .offsets .now) (s .args .targets .now) (s .args .entries .now) 255
 
 abbrev start : tie.At-loop Inv-loop μ-loop → tie.Start Inv-loop μ-loop
-start a = a .before .before .before .before .before .before
+start a = a .before .before .before .before .before .before .before .before
+
+-- where the rows of labels and of the queue begin
+abbrev labels-of : tie.At-loop Inv-loop μ-loop → tie.After-labels Inv-loop μ-loop
+labels-of a = a .before
+
+abbrev queue-of : tie.At-loop Inv-loop μ-loop → tie.After-queue Inv-loop μ-loop
+queue-of a = a .before .before
 
 -- the work area by what it is equal to
 heading-as :
@@ -49,24 +57,15 @@ whole e =
     subst (λ (k : ℕ). Heading (graph-of s) (s .args .p) (s .args .row) (s .args .work .now) k (a .loop .work)
     (a .loop .end)) all (a .loop .inv .1)
 
-add-queue : tie.Need-add-queue Inv-loop μ-loop
-add-queue c = search needs
+queue-requires : tie.Need-queue-requires Inv-loop μ-loop
+queue-requires c κs = search needs
 
-add-queue-2 : tie.Need-add-queue-2 Inv-loop μ-loop
-add-queue-2 c = search needs
-
-add-queue-3 : tie.Need-add-queue-3 Inv-loop μ-loop
-add-queue-3 c = search needs
-
-add-queue-4 : tie.Need-add-queue-4 Inv-loop μ-loop
-add-queue-4 c = search needs
-
-add-labels : tie.Need-add-labels Inv-loop μ-loop
-add-labels c = search needs
+labels-requires : tie.Need-labels-requires Inv-loop μ-loop
+labels-requires c κs = search needs
 
 loop-holds : tie.Need-loop-holds Inv-loop μ-loop
 loop-holds c =
-    let s = c .before .before .before .before .before in
+    let s = c .before .before .before .before .before .before .before in
     (omega arith, heading-none (graph-of s) (s .args .p) (s .args .row) (s .args .work .now) (s .pre))
 
 is-head-requires : tie.Need-is-head-requires Inv-loop μ-loop
@@ -82,8 +81,9 @@ put-requires : tie.Need-put-requires Inv-loop μ-loop
 put-requires c κs =
     let a = c .before .before .before .before .before in
     let s = start a in
-    head-putable (graph-of s) (s .args .p) (s .args .row) (s .args .work .now) (s .pre) (a .loop .v) (a .loop .work)
-    (a .loop .end) (a .loop .inv .1) (omega arith)
+    putable-as (labels-of a .labels .ensures) (queue-of a .queue .ensures)
+    (head-putable (graph-of s) (s .args .p) (s .args .row) (s .args .work .now) (s .pre) (a .loop .v) (a .loop .work)
+    (a .loop .end) (a .loop .inv .1) (omega arith))
 
 add-end : tie.Need-add-end Inv-loop μ-loop
 add-end c = search needs
@@ -103,7 +103,8 @@ loop-again c =
       omega arith,
       ⊎-elim
           (λ w.
-          heading-as (w .5 ∙ w .2 .ensures) (w .6)
+          heading-as (w .5 ∙ w .2 .ensures ∙
+          putting-as (l .v) (length (s .args .priorities .now) + 1) (l .end) (l .work) (labels-of a .labels .ensures) (queue-of a .queue .ensures)) (w .6)
           (heading-joins (graph-of s) (s .args .p) (s .args .row) (s .args .work .now) (s .pre) (l .v) (l .work) (l .end)
           (l .inv .1) (omega arith)
           (sym (w .0 .taken) ∙ says)))
@@ -142,11 +143,8 @@ spread-heads-spec =
     (tie.spec
     Inv-loop
     μ-loop
-    add-queue
-    add-queue-2
-    add-queue-3
-    add-queue-4
-    add-labels
+    queue-requires
+    labels-requires
     loop-holds
     is-head-requires
     add-put

@@ -1,4 +1,11 @@
 -- `find` meets its contract: each call asks for what the calls before it left.
+use mathlib.Core.Path.{ap}
+use Prim.Native.Nat.{ℕ, _+_}
+use lib.ListN.{length}
+use Rattle.search_rows.specs.Rows.{labels, behind}
+use Rattle.depth_first.specs.Area.{Cleared, cleared-as}
+use Rattle.parts.specs.Whole.{markable-as, marked-as}
+use Rattle.loop_search.specs.Heads.{headable-as, headed-as}
 use borrow.Author.Needs.{needs}
 use Rattle.loop_search.specs.Finding.{find-markable, find-headable, found}
 use Rattle.loop_search.proofs.priority.find.Statement.{statement}
@@ -6,7 +13,7 @@ use Rattle.loop_search.proofs.priority.find.Tie as tie
 
 -- the calls in order, and where the function begins
 abbrev start : tie.After-clear → tie.Start
-start c = c .before .before .before .before .before .before .before .before
+start c = c .before .before .before .before .before .before .before .before .before .before
 
 abbrev bared : tie.After-mark-used → tie.After-clear
 bared c = c .before .before .before .before
@@ -14,29 +21,44 @@ bared c = c .before .before .before .before
 abbrev marked : tie.After-clear2 → tie.After-mark-used
 marked c = c .before .before .before .before
 
-add-labels : tie.Need-add-labels
-add-labels c = search needs
+-- where the rows of labels and of marks begin
+abbrev row-of : tie.After-clear → tie.After-behind
+row-of d = d .before .before
 
-add-labels-2 : tie.Need-add-labels-2
-add-labels-2 c = search needs
+abbrev labels-of : tie.After-clear → tie.After-labels
+labels-of d = row-of d .before
 
-add-labels-3 : tie.Need-add-labels-3
-add-labels-3 c = search needs
+-- what each call has left, in the rows as the laws name them
+bare :
+    (d : tie.After-clear) →
+    let a = start d .args in
+    let n = length (a .priorities .now) in
+    let b = behind n (length (a .targets .now)) in
+    Cleared b (b + n) (a .work .now) (d .clear .last .0)
+bare d =
+    let n = length (start d .args .priorities .now) in
+    let e = row-of d .behind .ensures in
+    cleared-as e (ap (λ (x : ℕ). x + n) e) (d .clear .ensures)
 
-add-labels-4 : tie.Need-add-labels-4
-add-labels-4 c = search needs
+blank :
+    (b : tie.After-clear2) →
+    let m = marked b in
+    let d = bared m in
+    let a = start d .args in
+    let n = length (a .priorities .now) in
+    let l = labels n (length (a .targets .now)) in
+    Cleared l (l + n) (m .mark-used .last .1 .1 .1 .1 .1 .1 .0) (b .clear2 .last .0)
+blank b =
+    let d = bared (marked b) in
+    let n = length (start d .args .priorities .now) in
+    let e = labels-of d .labels .ensures in
+    cleared-as e (ap (λ (x : ℕ). x + n) e) (b .clear2 .ensures)
 
-add-labels-5 : tie.Need-add-labels-5
-add-labels-5 c = search needs
+labels-requires : tie.Need-labels-requires
+labels-requires c κs = search needs
 
-add-row : tie.Need-add-row
-add-row c = search needs
-
-add-row-2 : tie.Need-add-row-2
-add-row-2 c = search needs
-
-add-row-3 : tie.Need-add-row-3
-add-row-3 c = search needs
+behind-requires : tie.Need-behind-requires
+behind-requires c κs = search needs
 
 add-clear : tie.Need-add-clear
 add-clear c = search needs
@@ -48,9 +70,10 @@ mark-used-requires : tie.Need-mark-used-requires
 mark-used-requires c κs =
     let d = c .before .before .before in
     let s = start d in (
-      find-markable (s .args .priorities .now) (s .args .offsets .now) (s .args .targets .now) (s .args .entries .now)
+      markable-as (row-of d .behind .ensures)
+          (find-markable (s .args .priorities .now) (s .args .offsets .now) (s .args .targets .now) (s .args .entries .now)
           (s .args .p) (s .args .work .now) (s .pre .0)
-          (d .clear .last .0) (d .clear .ensures),
+          (d .clear .last .0) (bare d)),
       s .pre .1,
       s .pre .2,
     )
@@ -67,10 +90,11 @@ spread-heads-requires c κs =
     let m = marked b in
     let d = bared m in
     let s = start d in
-    find-headable (s .args .priorities .now) (s .args .offsets .now) (s .args .targets .now) (s .args .entries .now)
+    headable-as (row-of d .behind .ensures)
+    (find-headable (s .args .priorities .now) (s .args .offsets .now) (s .args .targets .now) (s .args .entries .now)
     (s .args .p) (s .args .work .now) (s .pre .0)
-    (d .clear .last .0) (d .clear .ensures) (m .mark-used .last .1 .1 .1 .1 .1 .1 .0) (m .mark-used .ensures) (b .clear2 .last .0)
-    (b .clear2 .ensures)
+    (d .clear .last .0) (bare d) (m .mark-used .last .1 .1 .1 .1 .1 .1 .0) (marked-as (row-of d .behind .ensures) (m .mark-used .ensures)) (b .clear2 .last .0)
+    (blank b))
 
 same-length : tie.Need-same-length
 same-length c =
@@ -81,9 +105,9 @@ same-length c =
     let s = start d in
     found (s .args .priorities .now) (s .args .offsets .now) (s .args .targets .now) (s .args .entries .now) (s .args .p)
     (s .args .work .now) (s .pre .0)
-    (d .clear .last .0) (d .clear .ensures) (m .mark-used .last .1 .1 .1 .1 .1 .1 .0) (m .mark-used .ensures) (b .clear2 .last .0)
-    (b .clear2 .ensures)
-    (f .spread-heads .last .1 .1 .1 .1 .1 .0) (f .spread-heads .ensures) .long
+    (d .clear .last .0) (bare d) (m .mark-used .last .1 .1 .1 .1 .1 .1 .0) (marked-as (row-of d .behind .ensures) (m .mark-used .ensures)) (b .clear2 .last .0)
+    (blank b)
+    (f .spread-heads .last .1 .1 .1 .1 .1 .0) (headed-as (row-of d .behind .ensures) (f .spread-heads .ensures)) .long
 
 returns : tie.Need-returns
 returns c =
@@ -94,22 +118,16 @@ returns c =
     let s = start d in
     found (s .args .priorities .now) (s .args .offsets .now) (s .args .targets .now) (s .args .entries .now) (s .args .p)
     (s .args .work .now) (s .pre .0)
-    (d .clear .last .0) (d .clear .ensures) (m .mark-used .last .1 .1 .1 .1 .1 .1 .0) (m .mark-used .ensures) (b .clear2 .last .0)
-    (b .clear2 .ensures)
-    (f .spread-heads .last .1 .1 .1 .1 .1 .0) (f .spread-heads .ensures)
+    (d .clear .last .0) (bare d) (m .mark-used .last .1 .1 .1 .1 .1 .1 .0) (marked-as (row-of d .behind .ensures) (m .mark-used .ensures)) (b .clear2 .last .0)
+    (blank b)
+    (f .spread-heads .last .1 .1 .1 .1 .1 .0) (headed-as (row-of d .behind .ensures) (f .spread-heads .ensures))
 
 pub find-spec : {M : Type 1} → statement M
 find-spec =
     tie.close
     (tie.spec
-    add-labels
-    add-labels-2
-    add-labels-3
-    add-labels-4
-    add-labels-5
-    add-row
-    add-row-2
-    add-row-3
+    labels-requires
+    behind-requires
     add-clear
     clear-requires
     mark-used-requires

@@ -1,6 +1,8 @@
 -- `seek` meets its contract. The loop's invariant: for the priorities passed v reaches no head.
-use mathlib.Core.Path.{_≡_, subst}
-use Prim.Native.Nat.{ℕ, _-_, _≤_}
+use mathlib.Core.Path.{_≡_, sym, ap, subst, _∙_}
+use Prim.Native.Nat.{ℕ, _+_, _-_, _≤_}
+use lib.ListN.{length, getD}
+use Rattle.search_rows.specs.Rows.{labels}
 use native.Mathlib.Omega.{arith}
 use borrow.Author.Needs.{needs}
 use Rattle.loop_search.specs.Finding.{Seeking, seeking-starts, seeking-on, seeking-met, seeking-ends}
@@ -8,36 +10,37 @@ use Rattle.loop_search.proofs.priority.seek.Statement.{statement}
 use Rattle.loop_search.proofs.priority.seek.Tie as tie
 
 abbrev Inv-loop : tie.InvT-loop
-Inv-loop priorities offsets targets kept entries parity work₀ v n labels k₀ work k =
+Inv-loop priorities offsets targets kept entries parity work₀ v n m labels k₀ work k =
     (k ≤ 128) × Seeking priorities offsets targets entries parity v work₀ k work
 
 abbrev μ-loop : tie.MeasureT-loop
-μ-loop priorities offsets targets kept entries parity work₀ v n labels k₀ work k = 128 - k
+μ-loop priorities offsets targets kept entries parity work₀ v n m labels k₀ work k = 128 - k
 
 abbrev start : tie.At-loop Inv-loop μ-loop → tie.Start Inv-loop μ-loop
-start a = a .before .before .before .before .before .before .before
+start a = a .before .before .before .before .before .before .before .before
 
 abbrev at : tie.After-find Inv-loop μ-loop → tie.At-loop Inv-loop μ-loop
 at f = f .before .before .before
 
-add-labels : tie.Need-add-labels Inv-loop μ-loop
-add-labels c = search needs
+-- where the row of labels begins, and the word of v there
+abbrev row-of : tie.At-loop Inv-loop μ-loop → tie.After-labels Inv-loop μ-loop
+row-of a = a .before
 
-add-labels-2 : tie.Need-add-labels-2 Inv-loop μ-loop
-add-labels-2 c = search needs
+word-is :
+    (f : tie.After-find Inv-loop μ-loop) →
+    let a = start (at f) .args in
+    let work = f .find .last .1 .1 .1 .1 .1 .1 .0 in
+    getD work (row-of (at f) .labels .result + a .v) 0 ≡
+    getD work (labels (length (a .priorities .now)) (length (a .targets .now)) + a .v) 0
+word-is f =
+    ap (λ (x : ℕ). getD (f .find .last .1 .1 .1 .1 .1 .1 .0) (x + start (at f) .args .v) 0) (row-of (at f) .labels .ensures)
 
-add-labels-3 : tie.Need-add-labels-3 Inv-loop μ-loop
-add-labels-3 c = search needs
-
-add-labels-4 : tie.Need-add-labels-4 Inv-loop μ-loop
-add-labels-4 c = search needs
-
-add-labels-5 : tie.Need-add-labels-5 Inv-loop μ-loop
-add-labels-5 c = search needs
+labels-requires : tie.Need-labels-requires Inv-loop μ-loop
+labels-requires c κs = search needs
 
 loop-holds : tie.Need-loop-holds Inv-loop μ-loop
 loop-holds c =
-    let s = c .before .before .before .before .before .before in (
+    let s = c .before .before .before .before .before .before .before in (
       omega arith,
       seeking-starts (s .args .priorities .now) (s .args .offsets .now) (s .args .targets .now)
           (s .args .entries .now) (s .args .parity) (s .args .v) (s .args .work .now) (s .pre .0),
@@ -58,19 +61,19 @@ add-if1 : tie.Need-add-if1 Inv-loop μ-loop
 add-if1 c =
     let f = c .before .before in
     let s = start (at f) in
-    omega (arith, s .pre .0 .vertex, f .find .ensures .ready .room)
+    omega (arith, row-of (at f) .labels .ensures, s .pre .0 .vertex, f .find .ensures .ready .room)
 
 mul-if1 : tie.Need-mul-if1 Inv-loop μ-loop
 mul-if1 c =
     let f = c .before .before in
     let s = start (at f) in
-    omega (arith, s .pre .0 .vertex, f .find .ensures .ready .room)
+    omega (arith, row-of (at f) .labels .ensures, s .pre .0 .vertex, f .find .ensures .ready .room)
 
 slice-read-if1 : tie.Need-slice-read-if1 Inv-loop μ-loop
 slice-read-if1 c =
     let f = c .before .before .before in
     let s = start (at f) in
-    omega (arith, s .pre .0 .vertex, f .find .ensures .ready .room)
+    omega (arith, row-of (at f) .labels .ensures, s .pre .0 .vertex, f .find .ensures .ready .room)
 
 mul-result : tie.Need-mul-result Inv-loop μ-loop
 mul-result c = let a = at (c .before .before .before .before) in omega arith
@@ -86,7 +89,7 @@ same-length c =
     seeking-met (s .args .priorities .now) (s .args .offsets .now) (s .args .targets .now) (s .args .entries .now)
     (s .args .parity) (s .args .v) (s .args .work .now) (s .pre .0)
     (a .loop .k) (a .loop .work) (a .loop .inv .1) (f .find .last .1 .1 .1 .1 .1 .1 .0) (f .find .ensures) (omega arith)
-    (c .if1 .taken) .long
+    (λ z. c .if1 .taken (word-is f ∙ z)) .long
 
 returns : tie.Need-returns Inv-loop μ-loop
 returns c =
@@ -96,7 +99,7 @@ returns c =
     seeking-met (s .args .priorities .now) (s .args .offsets .now) (s .args .targets .now) (s .args .entries .now)
     (s .args .parity) (s .args .v) (s .args .work .now) (s .pre .0)
     (a .loop .k) (a .loop .work) (a .loop .inv .1) (f .find .last .1 .1 .1 .1 .1 .1 .0) (f .find .ensures) (omega arith)
-    (c .if1 .taken)
+    (λ z. c .if1 .taken (word-is f ∙ z))
 
 add-k : tie.Need-add-k Inv-loop μ-loop
 add-k c = search needs
@@ -112,7 +115,7 @@ loop-again c =
       omega arith,
       seeking-on (s .args .priorities .now) (s .args .offsets .now) (s .args .targets .now) (s .args .entries .now)
           (s .args .parity) (s .args .v) (s .args .work .now) (s .pre .0)
-          (a .loop .k) (a .loop .work) (a .loop .inv .1) (f .find .last .1 .1 .1 .1 .1 .1 .0) (f .find .ensures) (c .if1 .left),
+          (a .loop .k) (a .loop .work) (a .loop .inv .1) (f .find .last .1 .1 .1 .1 .1 .1 .0) (f .find .ensures) (sym (word-is f) ∙ c .if1 .left),
     )
 
 same-length-2 : tie.Need-same-length-2 Inv-loop μ-loop
@@ -139,11 +142,7 @@ seek-spec =
     (tie.spec
     Inv-loop
     μ-loop
-    add-labels
-    add-labels-2
-    add-labels-3
-    add-labels-4
-    add-labels-5
+    labels-requires
     loop-holds
     mul-find
     add-find

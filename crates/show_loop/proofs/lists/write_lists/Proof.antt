@@ -1,6 +1,9 @@
 -- `write_lists` meets its contract: each call asks for what the calls before it left.
-use mathlib.Core.Path.{refl}
-use Prim.Native.Nat.{_-_}
+use mathlib.Core.Path.{refl, sym, subst}
+use Prim.Native.Nat.{ℕ, _-_}
+use lib.ListN.{length, getD}
+use Rattle.search_rows.specs.Rows.{labels}
+use Rattle.breadth_first.specs.Following.{Followable, Followed}
 use native.Mathlib.Omega.{arith}
 use borrow.Author.Needs.{needs}
 use Rattle.show_loop.specs.Writing.{path-followable, last-place, round-roundable, cycle-followable, wrote}
@@ -9,7 +12,11 @@ use Rattle.show_loop.proofs.lists.write_lists.Tie as tie
 
 -- the calls in order, and where the function begins
 abbrev start : tie.After-follow → tie.Start
-start c = c .before .before .before .before .before .before .before .before .before .before
+start c = c .before .before .before .before .before .before .before .before .before .before .before
+
+-- where the row of labels begins
+abbrev row-of : tie.After-follow → tie.After-labels
+row-of f = f .before .before .before
 
 abbrev followed : tie.After-spread-round → tie.After-follow
 followed c = c .before .before .before .before .before
@@ -17,27 +24,46 @@ followed c = c .before .before .before .before .before
 abbrev rounded : tie.After-follow2 → tie.After-spread-round
 rounded c = c .before .before .before .before .before
 
-add-labels : tie.Need-add-labels
-add-labels c = search needs
+-- what was followed, in the row as the laws name it
+told :
+    (f : tie.After-follow) →
+    let a = start f .args in
+    let n = length (a .priorities .now) in
+    Followed n (labels n (length (a .targets .now))) (a .work .now) (a .v) (a .path .now) (f .follow .last .1 .1 .1 .1 .0) (f .follow .result)
+told f =
+    let a = start f .args in
+    subst
+    (λ (k : ℕ). Followed (length (a .priorities .now)) k (a .work .now) (a .v) (a .path .now) (f .follow .last .1 .1 .1 .1 .0) (f .follow .result))
+    (row-of f .labels .ensures) (f .follow .ensures)
 
-add-labels-2 : tie.Need-add-labels-2
-add-labels-2 c = search needs
+told-round :
+    (g : tie.After-follow2) →
+    let r = rounded g in
+    let f = followed r in
+    let a = start f .args in
+    let n = length (a .priorities .now) in
+    Followed n (labels n (length (a .targets .now))) (r .spread-round .last .1 .1 .1 .1 .1 .0)
+    (getD (f .follow .last .1 .1 .1 .1 .0) (f .follow .result - 1) 0) (a .cycle .now) (g .follow2 .last .1 .1 .1 .1 .0) (g .follow2 .result)
+told-round g =
+    let r = rounded g in
+    let f = followed r in
+    let a = start f .args in
+    subst
+    (λ (k : ℕ). Followed (length (a .priorities .now)) k (r .spread-round .last .1 .1 .1 .1 .1 .0)
+    (getD (f .follow .last .1 .1 .1 .1 .0) (f .follow .result - 1) 0) (a .cycle .now) (g .follow2 .last .1 .1 .1 .1 .0) (g .follow2 .result))
+    (row-of f .labels .ensures) (g .follow2 .ensures)
 
-add-labels-3 : tie.Need-add-labels-3
-add-labels-3 c = search needs
-
-add-labels-4 : tie.Need-add-labels-4
-add-labels-4 c = search needs
-
-add-labels-5 : tie.Need-add-labels-5
-add-labels-5 c = search needs
+labels-requires : tie.Need-labels-requires
+labels-requires c κs = search needs
 
 follow-requires : tie.Need-follow-requires
 follow-requires c κs =
-    let s = c .before .before .before .before .before .before .before .before .before in
-    path-followable (s .args .priorities .now) (s .args .offsets .now) (s .args .targets .now) (s .args .entries .now)
+    let s = c .before .before .before .before .before .before .before .before .before .before in
+    subst (λ (k : ℕ). Followable (length (s .args .priorities .now)) k (s .args .work .now) (s .args .v) (s .args .path .now))
+    (sym (c .before .before .labels .ensures))
+    (path-followable (s .args .priorities .now) (s .args .offsets .now) (s .args .targets .now) (s .args .entries .now)
     (s .args .p) (s .args .work .now) (s .args .v)
-    (s .args .path .now) (s .args .cycle .now) (s .pre)
+    (s .args .path .now) (s .args .cycle .now) (s .pre))
 
 sub-u : tie.Need-sub-u
 sub-u c =
@@ -47,7 +73,7 @@ sub-u c =
     last-place (s .args .priorities .now) (s .args .offsets .now) (s .args .targets .now) (s .args .entries .now) (s .args .p)
     (s .args .work .now) (s .args .v)
     (s .args .path .now) (s .args .cycle .now) (s .pre)
-    (f .follow .last .1 .1 .1 .1 .0) (f .follow .result) (f .follow .ensures) in
+    (f .follow .last .1 .1 .1 .1 .0) (f .follow .result) (told f) in
     omega arith
 
 mul-u : tie.Need-mul-u
@@ -58,7 +84,7 @@ mul-u c =
     last-place (s .args .priorities .now) (s .args .offsets .now) (s .args .targets .now) (s .args .entries .now) (s .args .p)
     (s .args .work .now) (s .args .v)
     (s .args .path .now) (s .args .cycle .now) (s .pre)
-    (f .follow .last .1 .1 .1 .1 .0) (f .follow .result) (f .follow .ensures) in
+    (f .follow .last .1 .1 .1 .1 .0) (f .follow .result) (told f) in
     omega arith
 
 slice-read-u : tie.Need-slice-read-u
@@ -69,7 +95,7 @@ slice-read-u c =
     last-place (s .args .priorities .now) (s .args .offsets .now) (s .args .targets .now) (s .args .entries .now) (s .args .p)
     (s .args .work .now) (s .args .v)
     (s .args .path .now) (s .args .cycle .now) (s .pre)
-    (f .follow .last .1 .1 .1 .1 .0) (f .follow .result) (f .follow .ensures) in
+    (f .follow .last .1 .1 .1 .1 .0) (f .follow .result) (told f) in
     omega arith
 
 cast-u : tie.Need-cast-u
@@ -82,18 +108,22 @@ spread-round-requires c κs =
     round-roundable (s .args .priorities .now) (s .args .offsets .now) (s .args .targets .now) (s .args .entries .now)
     (s .args .p) (s .args .work .now) (s .args .v)
     (s .args .path .now) (s .args .cycle .now) (s .pre)
-    (f .follow .last .1 .1 .1 .1 .0) (f .follow .result) (f .follow .ensures) _ refl
+    (f .follow .last .1 .1 .1 .1 .0) (f .follow .result) (told f) _ refl
 
 follow-requires-2 : tie.Need-follow-requires-2
 follow-requires-2 c κs =
     let r = c .before .before .before .before in
     let f = followed r in
     let s = start f in
-    cycle-followable (s .args .priorities .now) (s .args .offsets .now) (s .args .targets .now) (s .args .entries .now)
+    subst
+    (λ (k : ℕ). Followable (length (s .args .priorities .now)) k (r .spread-round .last .1 .1 .1 .1 .1 .0)
+    (getD (f .follow .last .1 .1 .1 .1 .0) (f .follow .result - 1) 0) (s .args .cycle .now))
+    (sym (row-of f .labels .ensures))
+    (cycle-followable (s .args .priorities .now) (s .args .offsets .now) (s .args .targets .now) (s .args .entries .now)
     (s .args .p) (s .args .work .now) (s .args .v)
     (s .args .path .now) (s .args .cycle .now) (s .pre)
-    (f .follow .last .1 .1 .1 .1 .0) (f .follow .result) (f .follow .ensures) _ refl (r .spread-round .last .1 .1 .1 .1 .1 .0)
-    (r .spread-round .ensures)
+    (f .follow .last .1 .1 .1 .1 .0) (f .follow .result) (told f) _ refl (r .spread-round .last .1 .1 .1 .1 .1 .0)
+    (r .spread-round .ensures))
 
 same-length : tie.Need-same-length
 same-length c = search needs
@@ -114,20 +144,16 @@ returns c =
       wrote (s .args .priorities .now) (s .args .offsets .now) (s .args .targets .now) (s .args .entries .now) (s .args .p)
           (s .args .work .now) (s .args .v)
           (s .args .path .now) (s .args .cycle .now) (s .pre)
-          (f .follow .last .1 .1 .1 .1 .0) (f .follow .result) (f .follow .ensures) _ refl
+          (f .follow .last .1 .1 .1 .1 .0) (f .follow .result) (told f) _ refl
           (r .spread-round .last .1 .1 .1 .1 .1 .0) (r .spread-round .ensures)
-          (g .follow2 .last .1 .1 .1 .1 .0) (g .follow2 .result) (g .follow2 .ensures),
+          (g .follow2 .last .1 .1 .1 .1 .0) (g .follow2 .result) (told-round g),
     )
 
 pub write-lists-spec : {M : Type 1} → statement M
 write-lists-spec =
     tie.close
     (tie.spec
-    add-labels
-    add-labels-2
-    add-labels-3
-    add-labels-4
-    add-labels-5
+    labels-requires
     follow-requires
     sub-u
     mul-u

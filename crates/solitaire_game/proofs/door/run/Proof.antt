@@ -1,16 +1,17 @@
 -- `run` meets its contract: each call asks for what the calls before it left.
 use mathlib.Core.Path.{_≡_, _∙_}
-use Prim.Native.Nat.{_+_, _≤_}
+use Prim.Native.Nat.{_+_, _≤_, _<_, _^_}
 use native.Mathlib.Omega.{arith}
 use borrow.Author.Needs.{needs}
 use lib.ListN.{length}
 use Rattle.rules.specs.Tables.{Tables, tablesOf}
+use Rattle.search_rows.specs.Rows.{behind}
 use Rattle.rules.specs.Game.{playerOf}
 use Rattle.accepted.specs.Tables.{accepted-sound}
 use Rattle.attractor.specs.Attracted.{Attracted}
 use Rattle.area.specs.Lent.{words-few}
 use Rattle.sets.specs.Laws.{cleared-all}
-use Rattle.solitaire_game.specs.Running.{baseOf, mark-ready, place-ready, attract-ready, long₃, copy-fits, copy-long, answer-holds}
+use Rattle.solitaire_game.specs.Running.{mark-ready, place-ready, attract-ready, long₃, copy-fits, copy-long, answer-holds}
 use Rattle.solitaire_game.proofs.door.run.Statement.{statement}
 use Rattle.solitaire_game.proofs.door.run.Tie as tie
 
@@ -23,7 +24,11 @@ abbrev start : tie.After-sole-owner → tie.Start
 start c = c .before .before .before .before .before .before .before .before
 
 abbrev owned : tie.After-mark-good → tie.After-sole-owner
-owned c = c .before .before
+owned c = c .before .before .before
+
+-- where the marked row begins
+abbrev row-of : tie.After-mark-good → tie.After-behind
+row-of c = c .before .before
 
 abbrev marked : tie.After-place → tie.After-mark-good
 marked c = c .before .before .before .before
@@ -50,7 +55,7 @@ few g =
 attracted :
     (d : tie.After-attract) →
     let g = begun d in
-    let base = baseOf (tables g) in
+    let base = row-of (marked (placed d)) .behind .result + length (g .args .owners .now) + 2 in
     Attracted (tables g) (playerOf (owned (marked (placed d)) .sole-owner .result)) base (base + length (g .args .set .now)) (placed d .place .last .0)
     (d .attract .last .1 .1 .1 .1 .0) (d .attract .result)
 attracted d = let g = begun d in d .attract .ensures (g .args .priorities .now) (g .pre .0 .accepted)
@@ -61,58 +66,44 @@ long d =
     let m = marked p in
     let g = begun d in
     long₃ (tables g) (g .args .set .now) (g .args .work .now) (g .pre .0) (owned m .sole-owner .result) (owned m .sole-owner .ensures)
+    (row-of m .behind .result) (row-of m .behind .ensures)
     (m .mark-good .last .1 .1 .1 .1 .1 .1 .0) (m .mark-good .ensures) (p .place .last .0) (p .place .ensures) (d .attract .result)
     (d .attract .last .1 .1 .1 .1 .0) (attracted d)
 
 room :
     (d : tie.After-attract) →
     let g = begun d in
-    baseOf (tables g) + length (g .args .set .now) + length (g .args .set .now) ≤ length (d .attract .last .1 .1 .1 .1 .0)
+    row-of (marked (placed d)) .behind .result + length (g .args .owners .now) + 2 + length (g .args .set .now) + length (g .args .set .now) ≤ length (d .attract .last .1 .1 .1 .1 .0)
 room d =
     let p = placed d in
     let m = marked p in
     let g = begun d in
     copy-fits (tables g) (g .args .set .now) (g .args .work .now) (g .pre .0) (owned m .sole-owner .result) (owned m .sole-owner .ensures)
+    (row-of m .behind .result) (row-of m .behind .ensures)
     (m .mark-good .last .1 .1 .1 .1 .1 .1 .0) (m .mark-good .ensures) (p .place .last .0) (p .place .ensures) (d .attract .result)
     (d .attract .last .1 .1 .1 .1 .0) (attracted d)
 
 sole-owner-requires : tie.Need-sole-owner-requires
 sole-owner-requires c κs = search needs
 
-add-row : tie.Need-add-row
-add-row c = search needs
-
-add-row-2 : tie.Need-add-row-2
-add-row-2 c = search needs
-
-add-row-3 : tie.Need-add-row-3
-add-row-3 c = omega (arith, few (start c))
-
-add-row-4 : tie.Need-add-row-4
-add-row-4 c = omega (arith, few (start c))
-
-add-row-5 : tie.Need-add-row-5
-add-row-5 c = omega (arith, few (start c))
-
-add-row-6 : tie.Need-add-row-6
-add-row-6 c = omega (arith, few (start c))
-
-add-row-7 : tie.Need-add-row-7
-add-row-7 c = omega (arith, few (start c))
-
-add-row-8 : tie.Need-add-row-8
-add-row-8 c = omega (arith, few (start c))
+behind-requires : tie.Need-behind-requires
+behind-requires c κs =
+    let g = start c in
+    let small : behind (length (g .args .owners .now)) (length (g .args .targets .now)) < 2 ^ 64 = omega (arith, few g) in
+    small
 
 add-base : tie.Need-add-base
-add-base c = omega (arith, few (start c))
+add-base c = omega (arith, c .behind .ensures, few (start (c .before)))
 
 add-base-2 : tie.Need-add-base-2
-add-base-2 c = omega (arith, few (start c))
+add-base-2 c = omega (arith, c .behind .ensures, few (start (c .before)))
 
 mark-good-requires : tie.Need-mark-good-requires
 mark-good-requires c κs =
-    let g = start (c .before) in (
-      mark-ready (tables g) (g .args .set .now) (g .args .work .now) (g .pre .0) (c .before .sole-owner .result) (c .before .sole-owner .ensures),
+    let o = c .before .before in
+    let g = start o in (
+      mark-ready (tables g) (g .args .set .now) (g .args .work .now) (g .pre .0) (o .sole-owner .result) (o .sole-owner .ensures)
+          (c .before .behind .result) (c .before .behind .ensures),
       g .pre .1,
     )
 
@@ -121,10 +112,12 @@ place-requires c κs =
     let m = c .before .before .before in
     let g = start (owned m) in
     place-ready (tables g) (g .args .set .now) (g .args .work .now) (g .pre .0) (owned m .sole-owner .result) (owned m .sole-owner .ensures)
+    (row-of m .behind .result) (row-of m .behind .ensures)
     (m .mark-good .last .1 .1 .1 .1 .1 .1 .0) (m .mark-good .ensures)
 
 add-attract : tie.Need-add-attract
-add-attract c = omega (arith, few (start (owned (marked (c .before .before .before)))))
+add-attract c =
+    let m = marked (c .before .before .before) in omega (arith, row-of m .behind .ensures, few (start (owned m)))
 
 attract-requires : tie.Need-attract-requires
 attract-requires c κs =
@@ -132,19 +125,24 @@ attract-requires c κs =
     let m = marked p in
     let g = start (owned m) in
     attract-ready (tables g) (g .args .set .now) (g .args .work .now) (g .pre .0) (owned m .sole-owner .result) (owned m .sole-owner .ensures)
+    (row-of m .behind .result) (row-of m .behind .ensures)
     (m .mark-good .last .1 .1 .1 .1 .1 .1 .0) (m .mark-good .ensures) (p .place .last .0) (p .place .ensures)
 
 add-copy-from : tie.Need-add-copy-from
-add-copy-from c = omega (arith, few (begun (c .before .before .before)))
+add-copy-from c =
+    let d = c .before .before .before in omega (arith, row-of (marked (placed d)) .behind .ensures, few (begun d))
 
 add-copy-from-2 : tie.Need-add-copy-from-2
-add-copy-from-2 c = omega (arith, few (begun (c .before .before .before)))
+add-copy-from-2 c =
+    let d = c .before .before .before in omega (arith, row-of (marked (placed d)) .behind .ensures, few (begun d))
 
 add-copy-from-3 : tie.Need-add-copy-from-3
-add-copy-from-3 c = omega (arith, few (begun (c .before .before .before)))
+add-copy-from-3 c =
+    let d = c .before .before .before in omega (arith, row-of (marked (placed d)) .behind .ensures, few (begun d))
 
 mul-copy-from : tie.Need-mul-copy-from
-mul-copy-from c = omega (arith, few (begun (c .before .before .before)))
+mul-copy-from c =
+    let d = c .before .before .before in omega (arith, row-of (marked (placed d)) .behind .ensures, few (begun d))
 
 sub-copy-from : tie.Need-sub-copy-from
 sub-copy-from c = search needs
@@ -162,6 +160,7 @@ copy-from-requires c κs =
     let m = marked p in
     let g = begun d in
     copy-long (tables g) (g .args .set .now) (g .args .work .now) (g .pre .0) (owned m .sole-owner .result) (owned m .sole-owner .ensures)
+    (row-of m .behind .result) (row-of m .behind .ensures)
     (m .mark-good .last .1 .1 .1 .1 .1 .1 .0) (m .mark-good .ensures) (p .place .last .0) (p .place .ensures) (d .attract .result)
     (d .attract .last .1 .1 .1 .1 .0) (attracted d)
 
@@ -182,6 +181,7 @@ returns c =
     let g = begun d in (
       cleared-all (g .args .work .now) (d .attract .last .1 .1 .1 .1 .0) (long d) (c .before .before .clear .ensures),
       answer-holds (tables g) (g .args .set .now) (g .args .work .now) (g .pre .0) (owned m .sole-owner .result) (owned m .sole-owner .ensures)
+          (row-of m .behind .result) (row-of m .behind .ensures)
           (m .mark-good .last .1 .1 .1 .1 .1 .1 .0) (m .mark-good .ensures) (p .place .last .0) (p .place .ensures) (d .attract .result)
           (d .attract .last .1 .1 .1 .1 .0) (attracted d)
           (c .before .before .before .before .before .before .copy-from .last .0)
@@ -194,14 +194,7 @@ run-spec =
     tie.close
     (tie.spec
     sole-owner-requires
-    add-row
-    add-row-2
-    add-row-3
-    add-row-4
-    add-row-5
-    add-row-6
-    add-row-7
-    add-row-8
+    behind-requires
     add-base
     add-base-2
     mark-good-requires

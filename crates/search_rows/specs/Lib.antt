@@ -1,0 +1,2 @@
+-- Where the rows of the search for parts begin.
+pub mod Rows
