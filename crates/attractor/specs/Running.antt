@@ -304,7 +304,8 @@ module _ (owners offsets targets : List ℕ) (alpha within set : ℕ) (before : 
               Layered (gameOf (tablesOf owners priorities offsets targets)) (playerOf alpha) V' T own entry (suc (far - 1))
               (nowAt n next after) (stateAt counts n m set this after)
           turn-lays priorities ok =
-              layered-turn (gameOf (tablesOf owners priorities offsets targets)) (playerOf alpha) V' T own (fits owners offsets targets alpha within set before given priorities ok)
+              layered-turn (gameOf (tablesOf owners priorities offsets targets)) (playerOf alpha) V' T own
+              (fits owners offsets targets alpha within set before given priorities ok)
               (omega (arith, given .edges .few-vertices)) (owned owners offsets targets alpha (given .side) priorities ok)
               entry (far - 1) now state (c .stands) (c .run priorities ok .1) (layer-done z) (stateAt counts n m set this after)
               refl refl refl (layer-done z)
@@ -370,7 +371,9 @@ module _ (owners offsets targets : List ℕ) (alpha within set : ℕ) (before : 
           finished v p = and-intro p (neither (now v) (state .next v) (done v) (next-done v))
 
           members-are : (v : ℕ) → state .members v ≡ attractor g a V' T v
-          members-are = steps-members g a V' T starts (fits owners offsets targets alpha within set before given priorities ok) (c .run priorities ok .0) finished
+          members-are =
+              steps-members g a V' T starts (fits owners offsets targets alpha within set before given priorities ok)
+              (c .run priorities ok .0) finished
 
 -- two work areas in which V, the target, the entries and all that stays are the same
 pub record Same (n m within set : ℕ) (x y : List ℕ) : Type 0 where

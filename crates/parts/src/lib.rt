@@ -1,6 +1,7 @@
 // Strongly connected parts in two passes, over one lent work area: the vertices that lie on a cycle of chosen edges
 // among vertices of a priority at most a bound that meets the bound exactly. One routine for solitaire and for the
-// checker's kind 24, linear in vertices and edges. These functions are on plain tables; the view in `subgame` calls them.
+// checker's kind 24, linear in vertices and edges. These functions are on plain tables; the view in `subgame` calls
+// them.
 mod collect;
 
 pub use collect::clear;

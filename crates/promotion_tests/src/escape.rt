@@ -35,7 +35,8 @@ fn best_of(
 ) -> usize
     requires { ⌜ Looks (now offsets) (now targets) s levels k v best (now work) ⌝ }
     ensures { λ r.
-        ⌜ HighestOf (now (offsets .entry)) (now (targets .entry)) (setsFrom s s levels (now (work .entry))) k v best r ⌝ }
+        ⌜ HighestOf (now (offsets .entry)) (now (targets .entry)) (setsFrom s s levels (now (work .entry))) k v best
+        r ⌝ }
 {
     let base = levels + k * s;
     let mut highest = best;

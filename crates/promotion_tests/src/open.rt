@@ -5,8 +5,8 @@ ghost use mathlib.Core.Path.{_≡_};
 ghost use Rattle.promotion_tests.specs.Opening.{isOpenIn};
 ghost use Rattle.promotion_tests.specs.Escapes.{Openable};
 
-// An opponent's head of R, of those at `heads`, has an edge into the last level, at `below`, or an own one has none into
-// R, at `held`. No other vertex of R opens it.
+// An opponent's head of R, of those at `heads`, has an edge into the last level, at `below`, or an own one has none
+// into R, at `held`. No other vertex of R opens it.
 pub fn is_open(
     owners: &[u8],
     offsets: &[u16],

@@ -101,7 +101,8 @@ collect-requires c κs =
     collectable (graph-of s) (s .args .work .now) (s .args .base) (s .pre .0) (d1 .clear .last .0) (cleared d1)
     (d2 .first-pass .last .1 .1 .1 .1 .1 .0) (d2 .first-pass .result) (d2 .first-pass .ensures) (d3 .second-pass .last .1 .1 .1 .1 .1 .0)
     (d3 .second-pass .ensures)
-    (d4 .note .last .1 .1 .1 .0) (noted-as (d4 .before .hits .ensures) (d4 .note .ensures)) (d5 .note2 .last .1 .1 .1 .0) (noted-as (d5 .before .pairs .ensures) (d5 .note2 .ensures))
+    (d4 .note .last .1 .1 .1 .0) (noted-as (d4 .before .hits .ensures) (d4 .note .ensures))
+    (d5 .note2 .last .1 .1 .1 .0) (noted-as (d5 .before .pairs .ensures) (d5 .note2 .ensures))
 
 same-length : tie.Need-same-length
 same-length c =
@@ -115,7 +116,8 @@ same-length c =
     marked-parts (graph-of s) (s .args .work .now) (s .args .base) (s .pre .0) (d1 .clear .last .0) (cleared d1)
     (d2 .first-pass .last .1 .1 .1 .1 .1 .0) (d2 .first-pass .result) (d2 .first-pass .ensures) (d3 .second-pass .last .1 .1 .1 .1 .1 .0)
     (d3 .second-pass .ensures)
-    (d4 .note .last .1 .1 .1 .0) (noted-as (d4 .before .hits .ensures) (d4 .note .ensures)) (d5 .note2 .last .1 .1 .1 .0) (noted-as (d5 .before .pairs .ensures) (d5 .note2 .ensures)) (d6 .collect .last .1 .1 .1 .1 .1 .0)
+    (d4 .note .last .1 .1 .1 .0) (noted-as (d4 .before .hits .ensures) (d4 .note .ensures))
+    (d5 .note2 .last .1 .1 .1 .0) (noted-as (d5 .before .pairs .ensures) (d5 .note2 .ensures)) (d6 .collect .last .1 .1 .1 .1 .1 .0)
     (d6 .collect .ensures) .long
 
 returns : tie.Need-returns
@@ -130,7 +132,8 @@ returns c =
     marked-parts (graph-of s) (s .args .work .now) (s .args .base) (s .pre .0) (d1 .clear .last .0) (cleared d1)
     (d2 .first-pass .last .1 .1 .1 .1 .1 .0) (d2 .first-pass .result) (d2 .first-pass .ensures) (d3 .second-pass .last .1 .1 .1 .1 .1 .0)
     (d3 .second-pass .ensures)
-    (d4 .note .last .1 .1 .1 .0) (noted-as (d4 .before .hits .ensures) (d4 .note .ensures)) (d5 .note2 .last .1 .1 .1 .0) (noted-as (d5 .before .pairs .ensures) (d5 .note2 .ensures)) (d6 .collect .last .1 .1 .1 .1 .1 .0)
+    (d4 .note .last .1 .1 .1 .0) (noted-as (d4 .before .hits .ensures) (d4 .note .ensures))
+    (d5 .note2 .last .1 .1 .1 .0) (noted-as (d5 .before .pairs .ensures) (d5 .note2 .ensures)) (d6 .collect .last .1 .1 .1 .1 .1 .0)
     (d6 .collect .ensures)
 
 pub mark-within-spec : {M : Type 1} → statement M

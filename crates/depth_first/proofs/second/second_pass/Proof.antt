@@ -89,7 +89,9 @@ mul-if1 : tie.Need-mul-if1 Inv-loop μ-loop
 mul-if1 c = rw (order-of (c .before .before) .order .ensures) (omega (arith, labels-fit (c .before .before) (c .before .loop-test .taken)))
 
 slice-read-if1 : tie.Need-slice-read-if1 Inv-loop μ-loop
-slice-read-if1 c = rw (order-of (c .before .before .before) .order .ensures) (omega (arith, labels-fit (c .before .before .before) (c .before .before .loop-test .taken)))
+slice-read-if1 c =
+    rw (order-of (c .before .before .before) .order .ensures)
+    (omega (arith, labels-fit (c .before .before .before) (c .before .before .loop-test .taken)))
 
 find-part-requires : tie.Need-find-part-requires Inv-loop μ-loop
 find-part-requires c κs =

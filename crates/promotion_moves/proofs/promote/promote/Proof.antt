@@ -18,7 +18,11 @@ add-difference-with c = search needs
 difference-with-requires : tie.Need-difference-with-requires
 difference-with-requires c κs =
     let given = c .before .before .pre in
-    record { into-fits = given .high; from-fits = omega (arith, given .held-low, given .depth-low, given .high); apart = inr (omega (arith, given .held-low, given .depth-low)) }
+    record {
+      into-fits = given .high;
+      from-fits = omega (arith, given .held-low, given .depth-low, given .high);
+      apart = inr (omega (arith, given .held-low, given .depth-low));
+    }
 
 mul-work : tie.Need-mul-work
 mul-work c = search needs

@@ -73,7 +73,8 @@ long d =
 room :
     (d : tie.After-attract) →
     let g = begun d in
-    row-of (marked (placed d)) .behind .result + length (g .args .owners .now) + 2 + length (g .args .set .now) + length (g .args .set .now) ≤ length (d .attract .last .1 .1 .1 .1 .0)
+    row-of (marked (placed d)) .behind .result + length (g .args .owners .now) + 2 + length (g .args .set .now)
+    + length (g .args .set .now) ≤ length (d .attract .last .1 .1 .1 .1 .0)
 room d =
     let p = placed d in
     let m = marked p in
