@@ -10,9 +10,9 @@ use lib.ListN.{length, getD, take, drop, length-take}
 use Rattle.rules.specs.Counting.{count}
 use Rattle.rules.specs.Game.{Even, Game}
 use Rattle.rules.specs.Tables.{gameOf, words, Accepted, tablesOf}
-use Rattle.rules.specs.Words.{setOf}
 use Rattle.rules.specs.Promotion.{Regions, unsolved, regionSet, isOpen, roundOf, afterRounds}
 use Rattle.basics.specs.Basics.{and-left, count-some}
+use Rattle.sets.specs.Size.{size}
 use Rattle.accepted.specs.Tables.{accepted-sound, accepted-few}
 use Rattle.theory.specs.PromotionAccepted.{accepted-invariant}
 use Rattle.theory.specs.PromotionEntries.{mover, remaining, RoundEntries, AttractedEntries, Fills}
@@ -20,10 +20,9 @@ use Rattle.theory.specs.PromotionInside.{Entered}
 use Rattle.theory.specs.PromotionRounds.{attractedRegion}
 use Rattle.theory.specs.PromotionTable.{attracts-table}
 use Rattle.promotion_heads.specs.Heads.{entry-but-heads}
-use Rattle.walk.specs.MemberLaws.{length-members}
 use Rattle.area.specs.Area.{entries, free, setAt, wordsAt}
 use Rattle.area.specs.Lent.{words-few}
-use Rattle.area.specs.Sizes.{members-count}
+use Rattle.area.specs.Sizes.{size-at}
 use Rattle.area.specs.Walking.{lent-part}
 use Rattle.priority_sets.specs.Sorting.{Placeable}
 use Rattle.promotion_levels.specs.Layout.{heldAt, wonAt, depthAt, topsAt, levelsAt, levelAt, endAt, deep, depthIn, topIn, levelIn}
@@ -73,16 +72,12 @@ module _ {n : ℕ} {priorities offsets targets : List ℕ} {s levels : ℕ} {wor
 
     pub left-counted :
         {many : ℕ} →
-        many ≡
-        count (64 * length (take ((levels + s) - levels) (drop levels work)))
-        (setOf (take ((levels + s) - levels) (drop levels work))) →
+        many ≡ size (take ((levels + s) - levels) (drop levels work)) →
         many ≡ count n (levelIn n (length targets) s work 0)
     left-counted is =
         is ∙
-        ap (λ (xs : List ℕ). count (64 * length xs) (setOf xs)) lent-is ∙
-        sym (length-members (wordsAt n levels work)) ∙
-        members-count n levels work (omega (arith, first-room, ready .size))
-        (λ v i. ready .nests .below v (sym (first-in v) ∙ i)) ∙
+        ap size lent-is ∙
+        size-at n levels work (λ v i. ready .nests .below v (sym (first-in v) ∙ i)) ∙
         ap (λ (x : ℕ). count n (setAt n x work)) first-is
 
 -- what a round begins with: R, the levels and the number of the current one as the code has them, room for two levels more, and
