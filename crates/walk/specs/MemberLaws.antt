@@ -1,4 +1,4 @@
--- Laws of the members of a set lent as words: each once, in rising order, as many as the set has, for any number of words.
+-- Laws of the members of a set lent as words: each once, in rising order, for any number of words.
 use mathlib.Core.Bool.{Bool, true, false, _&&_, cond}
 use mathlib.Core.List.{List, [], _∷_, _++_}
 use mathlib.Core.Path.{_≡_, refl, sym, ap, ap₂, _∙_}
@@ -8,10 +8,9 @@ use native.Mathlib.Nat.{add-assoc, add-zero, zero-add, le-of-suc-le-suc, le-tran
 use native.Mathlib.Omega.{arith}
 use borrow.Author.Tests.{eq-eqb, ne-eqb}
 use lib.Dec.{eqb}
-use lib.ListN.{length, getD, length-append}
-use Rattle.rules.specs.Counting.{every, count, times, everyOf}
-use Rattle.rules.specs.Words.{digit, bit, setOf}
-use Rattle.basics.specs.Basics.{count-cong, count-on, count-first}
+use lib.ListN.{length, getD}
+use Rattle.rules.specs.Counting.{every, times, everyOf}
+use Rattle.rules.specs.Words.{digit, bit}
 use Rattle.sets.specs.Digits.{digit-lt, digit-zero}
 use Rattle.walk.specs.Walk.{ofWord, ofWords, members}
 use Rattle.sets.specs.Whole.{flag-of-digit}
@@ -110,53 +109,6 @@ everyOf-entries : (l : List ℕ) (test : ℕ → Bool) → ((k : ℕ) → k < le
 unfolding everyOf
 everyOf-entries [] test h = refl
 everyOf-entries (x ∷ l) test h = ap₂ _&&_ (h 0 (omega arith)) (everyOf-entries l test (λ k m. h (suc k) (suc-le-suc m)))
-
-length-where : (t : Bool) (x : ℕ) (l : List ℕ) → length (cond t (x ∷ l) l) ≡ cond t 1 0 + length l
-length-where true x l = omega arith
-length-where false x l = omega arith
-
-length-ofWord : (base w k d : ℕ) → length (ofWord base w k d) ≡ count d (λ j. eqb (digit w (k + j)) 1)
-unfolding ofWord count
-length-ofWord base w k zero = refl
-length-ofWord base w k (suc d) =
-    length-where (eqb (digit w k) 1) (base + k) (ofWord base w (suc k) d)
-    ∙ ap₂ (λ (x n : ℕ). cond (eqb (digit w x) 1) 1 0 + n) (sym (add-zero k))
-    (length-ofWord base w (suc k) d
-    ∙ count-cong d (λ j. eqb (digit w (suc k + j)) 1) (λ j. eqb (digit w (k + suc j)) 1) (λ j l. ap (λ (x : ℕ). eqb (digit w x) 1) (shift j)))
-    ∙ sym (count-first d (λ j. eqb (digit w (k + j)) 1))
-  where
-    shift : (j : ℕ) → suc k + j ≡ k + suc j
-    shift j = omega arith
-
-length-ofWords : (i : ℕ) (xs : List ℕ) → length (ofWords i xs) ≡ count (64 * length xs) (setOf xs)
-unfolding ofWords setOf bit count
-length-ofWords i [] = refl
-length-ofWords i (x ∷ xs) =
-    length-append (ofWord (64 * i) x 0 64) (ofWords (suc i) xs)
-    ∙ ap₂ _+_
-    (length-ofWord (64 * i) x 0 64 ∙ count-cong 64 (λ j. eqb (digit x (0 + j)) 1) (setOf (x ∷ xs)) first)
-    (length-ofWords (suc i) xs ∙ count-cong (64 * length xs) (setOf xs) (λ v. setOf (x ∷ xs) (64 + v)) (λ v l. rest v))
-    ∙ sym (count-on 64 (64 * length xs) (setOf (x ∷ xs)))
-    ∙ ap (λ (n : ℕ). count n (setOf (x ∷ xs))) more
-  where
-    more : 64 + 64 * length xs ≡ 64 * suc (length xs)
-    more = omega arith
-
-    first : (v : ℕ) → v < 64 → eqb (digit x (0 + v)) 1 ≡ setOf (x ∷ xs) v
-    first v l =
-        let word : 0 ≡ v / 64 = omega arith in
-        let place : 0 + v ≡ v % 64 = omega arith in
-        ap₂ (λ (a b : ℕ). eqb (digit (getD (x ∷ xs) a 0) b) 1) word place
-
-    rest : (v : ℕ) → setOf xs v ≡ setOf (x ∷ xs) (64 + v)
-    rest v =
-        let word : suc (v / 64) ≡ (64 + v) / 64 = omega arith in
-        let place : v % 64 ≡ (64 + v) % 64 = omega arith in
-        ap₂ (λ (a b : ℕ). eqb (digit (getD (x ∷ xs) a 0) b) 1) word place
-
--- there are as many members as `size` counts
-pub length-members : (xs : List ℕ) → length (members xs) ≡ count (64 * length xs) (setOf xs)
-length-members xs = length-ofWords 0 xs
 
 -- every entry is at least lo, and each above the one before it
 abbrev pub Rising : ℕ → List ℕ → Type 0
