@@ -20,7 +20,7 @@ use Rattle.basics.specs.Sums.{countOf}
 use Rattle.parity_game.specs.Laws.{never-falls}
 use Rattle.predecessors.specs.Table.{SoundEdges}
 use Rattle.sets.specs.After.{Put}
-use Rattle.area.specs.Area.{counters, distances, layers, metAt, free, setAt}
+use Rattle.area.specs.Area.{counters, distances, metAt, free, setAt}
 use Rattle.area.specs.Lent.{back, part-is, part-set, part-length, words-enough, bit-fits}
 use Rattle.area.specs.Lent.{inserted-long, inserted-rest, inserted-set, inserted-other}
 use Rattle.area.specs.SetsAt.{set-kept}
@@ -178,6 +178,7 @@ pub record CountedDown (first : ℕ → ℕ) (n m v : ℕ) (before after : List 
       (u : ℕ) → counterAt first n m after u ≡ cond (eqb u v) (counterAt first n m before v - 1) (counterAt first n m before u)
 
 module _ {offsets targets : List ℕ} {n s within : ℕ} {work : List ℕ} {v : ℕ} (given : Countable offsets targets n s within work v)
+    {met base : ℕ} (place : met ≡ metAt n (length targets)) (here : base ≡ counters n (length targets))
   where
     abbrev m : ℕ
     m = length targets
@@ -188,15 +189,8 @@ module _ {offsets targets : List ℕ} {n s within : ℕ} {work : List ℕ} {v : 
     abbrev at : ℕ
     at = counters n m + v
 
-    -- where the set of those met begins, as the code has it
-    abbrev met : ℕ
-    met = layers n m + 2 * (s + 1)
-
-    place : met ≡ metAt n m
-    place = omega (arith, given .size)
-
     met-fits : met + words n ≤ length work
-    met-fits = omega (arith, given .low, given .high, given .size)
+    met-fits = omega (arith, place, given .low, given .high)
 
     pub met-bit : v < 64 * length (take ((met + s) - met) (drop met work))
     met-bit = bit-fits n s met v work (given .size) met-fits (given .small)
@@ -207,15 +201,16 @@ module _ {offsets targets : List ℕ} {n s within : ℕ} {work : List ℕ} {v : 
 
     -- v was met before
     module _ (before : setAt n (metAt n m) work v ≡ true) where
-      pub met-some : 0 < getD work (counters n (length targets) + v) 0
-      met-some = omega (arith, given .some, counter-met counts n m work v (given .small) before)
+      pub met-some : 0 < getD work (base + v) 0
+      met-some = rw here (omega (arith, given .some, counter-met counts n m work v (given .small) before))
 
       pub met-down :
           CountedDown (insideCount offsets targets (setAt n within work)) n (length targets) v work
-          (set work (counters n (length targets) + v) (getD work (counters n (length targets) + v) 0 - 1))
-          (getD work (counters n (length targets) + v) 0 - 1)
+          (set work (base + v) (getD work (base + v) 0 - 1))
+          (getD work (base + v) 0 - 1)
       met-down =
-          record {
+          rw here
+          (record {
             long = length-set work at x;
             rest = λ i o. getD-set-other work at i x 0 (λ e. ⊎-elim (λ l. omega arith) (λ l. let h = l .0 in omega arith) o);
             less = is;
@@ -223,7 +218,7 @@ module _ {offsets targets : List ℕ} {n s within : ℕ} {work : List ℕ} {v : 
                 counter-put counts n m work (set work at x) v (counterAt counts n m work v - 1) (given .small) same-met
                 (getD-set-same work at x 0 (omega (arith, given .low, given .high, given .small)) ∙ is)
                 (λ u l d. getD-set-other work at (counters n m + u) x 0 (λ e. d (omega arith)));
-          }
+          })
         where
           x : ℕ
           x = getD work at 0 - 1
@@ -252,7 +247,7 @@ module _ {offsets targets : List ℕ} {n s within : ℕ} {work : List ℕ} {v : 
 
       inside-same : setAt n within mid ≡ setAt n within work
       inside-same =
-          inserted-other n s met v work ys (given .size) met-fits new within (inr (omega (arith, given .low, given .size)))
+          inserted-other n s met v work ys (given .size) met-fits new within (inr (omega (arith, place, given .low)))
 
       pub inside-ready : EdgesOf offsets targets v (take ((within + s) - within) (drop within mid))
       inside-ready =
@@ -272,9 +267,10 @@ module _ {offsets targets : List ℕ} {n s within : ℕ} {work : List ℕ} {v : 
 
           pub new-down :
               CountedDown (insideCount offsets targets (setAt n within work)) n (length targets) v work
-              (set mid (counters n (length targets) + v) (k - 1)) (k - 1)
+              (set mid (base + v) (k - 1)) (k - 1)
           new-down =
-              record {
+              rw here
+              (record {
                 long = length-set mid at (k - 1) ∙ mid-long;
                 rest =
                     λ i o.
@@ -287,7 +283,7 @@ module _ {offsets targets : List ℕ} {n s within : ℕ} {work : List ℕ} {v : 
                     (λ u l d.
                     getD-set-other mid at (counters n m + u) (k - 1) 0 (λ e. d (omega arith)) ∙
                     outside (counters n m + u) (inl (omega arith)));
-              }
+              })
             where
               outside : (i : ℕ) → Beside (words n) (metAt n m) i → getD mid i 0 ≡ getD work i 0
               outside i o =

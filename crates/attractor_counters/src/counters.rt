@@ -1,5 +1,6 @@
 // Counters: how many of a vertex's edges end inside V, parallel edges counted, less those that were met. A counter is
 // made when its vertex is first met: most vertices never are.
+use area::Area;
 ghost use mathlib.Core.Path.{_≡_};
 ghost use lib.ListN.{length};
 ghost use Rattle.rules.specs.Tables.{targetsOf};
@@ -39,14 +40,16 @@ pub fn count_down(
         (length (now (targets .entry))) v (now (work .entry)) (now (work .exit)) r ⌝ }
 {
     let m = targets.len();
-    let met = n + 1 + m + n + n + n + 2 * (s + 1);
+    let area = Area { n, m, s };
+    let met = area.met();
+    let at = area.counters() + v;
     if sets::contains(&work[met..met + s], v) {
-        let left = work[n + 1 + m + v] - 1;
-        work[n + 1 + m + v] = left;
+        let left = work[at] - 1;
+        work[at] = left;
         return left;
     }
     sets::insert(&mut work[met..met + s], v);
     let left = inside_edges(offsets, targets, v, &work[within..within + s]) - 1;
-    work[n + 1 + m + v] = left;
+    work[at] = left;
     left
 }

@@ -1,6 +1,8 @@
 -- `count_down` meets its contract: a vertex that was met has its counter in the table, and one that was not gets it now.
 use mathlib.Core.Bool.{true, false}
 use mathlib.Core.Path.{_≡_, sym, _∙_}
+use Prim.Native.Nat.{_<_, _^_}
+use native.Mathlib.Omega.{arith}
 use borrow.Author.Needs.{needs}
 use lib.ListN.{length}
 use Rattle.area.specs.Area.{metAt, setAt}
@@ -8,46 +10,42 @@ use Rattle.attractor_counters.specs.Counters.{met-bit, met-asked, met-so
 use Rattle.attractor_counters.proofs.counters.count_down.Statement.{statement}
 use Rattle.attractor_counters.proofs.counters.count_down.Tie as tie
 
--- where the function begins
-abbrev start-of : tie.After-contains → tie.Start
-start-of c = c .before .before .before .before .before .before
+-- where the function begins, and where the places are known
+abbrev start-of : tie.After-counters → tie.Start
+start-of c = c .before .before .before .before .before
+
+abbrev placed : tie.After-contains → tie.After-counters
+placed c = c .before .before .before
 
 -- whether v was met
 was-met :
     (c : tie.Then1) →
-    let a = start-of (c .before) .args in
+    let a = start-of (placed (c .before)) .args in
     setAt (a .n) (metAt (a .n) (length (a .targets .now))) (a .work .now) (a .v) ≡ true
-was-met c = sym (met-asked (start-of (c .before) .pre)) ∙ sym (c .before .contains .ensures) ∙ c .if1 .taken
+was-met c =
+    let k = placed (c .before) in
+    sym (met-asked (start-of k .pre) (k .before .met .ensures) (k .counters .ensures)) ∙ sym (c .before .contains .ensures) ∙ c .if1 .taken
 
 was-new :
     (c : tie.Else1) →
-    let a = start-of (c .before) .args in
+    let a = start-of (placed (c .before)) .args in
     setAt (a .n) (metAt (a .n) (length (a .targets .now))) (a .work .now) (a .v) ≡ false
-was-new c = sym (met-asked (start-of (c .before) .pre)) ∙ sym (c .before .contains .ensures) ∙ c .if1 .left
+was-new c =
+    let k = placed (c .before) in
+    sym (met-asked (start-of k .pre) (k .before .met .ensures) (k .counters .ensures)) ∙ sym (c .before .contains .ensures) ∙ c .if1 .left
 
-add-met : tie.Need-add-met
-add-met c = search needs
+met-requires : tie.Need-met-requires
+met-requires c κs =
+    let g = c .before .before .before in
+    let a = g .args in
+    let small : metAt (a .n) (length (a .targets .now)) < 2 ^ 64 = omega (arith, g .pre .low, g .pre .high, g .good) in
+    (g .pre .size, small)
 
-add-met-2 : tie.Need-add-met-2
-add-met-2 c = search needs
+counters-requires : tie.Need-counters-requires
+counters-requires c κs = search needs
 
-add-met-3 : tie.Need-add-met-3
-add-met-3 c = search needs
-
-add-met-4 : tie.Need-add-met-4
-add-met-4 c = search needs
-
-add-met-5 : tie.Need-add-met-5
-add-met-5 c = search needs
-
-add-met-6 : tie.Need-add-met-6
-add-met-6 c = search needs
-
-mul-met : tie.Need-mul-met
-mul-met c = search needs
-
-add-met-7 : tie.Need-add-met-7
-add-met-7 c = search needs
+add-at : tie.Need-add-at
+add-at c = search needs
 
 add-contains : tie.Need-add-contains
 add-contains c = search needs
@@ -65,16 +63,7 @@ part-contains-end : tie.Need-part-contains-end
 part-contains-end c = search needs
 
 contains-requires : tie.Need-contains-requires
-contains-requires c κs = met-bit (c .before .before .before .before .before .pre)
-
-add-left : tie.Need-add-left
-add-left c = search needs
-
-add-left-2 : tie.Need-add-left-2
-add-left-2 c = search needs
-
-add-left-3 : tie.Need-add-left-3
-add-left-3 c = search needs
+contains-requires c κs = let k = c .before .before in met-bit (start-of k .pre) (k .before .met .ensures) (k .counters .ensures)
 
 mul-left : tie.Need-mul-left
 mul-left c = search needs
@@ -83,16 +72,9 @@ slice-read-left : tie.Need-slice-read-left
 slice-read-left c = search needs
 
 sub-left : tie.Need-sub-left
-sub-left c = met-some (start-of (c .before .before) .pre) (was-met (c .before))
-
-add-work : tie.Need-add-work
-add-work c = search needs
-
-add-work-2 : tie.Need-add-work-2
-add-work-2 c = search needs
-
-add-work-3 : tie.Need-add-work-3
-add-work-3 c = search needs
+sub-left c =
+    let k = placed (c .before .before) in
+    met-some (start-of k .pre) (k .before .met .ensures) (k .counters .ensures) (was-met (c .before))
 
 mul-work : tie.Need-mul-work
 mul-work c = search needs
@@ -104,7 +86,9 @@ same-length : tie.Need-same-length
 same-length c = search needs
 
 returns : tie.Need-returns
-returns c = met-down (start-of (c .before .before) .pre) (was-met (c .before))
+returns c =
+    let k = placed (c .before .before) in
+    met-down (start-of k .pre) (k .before .met .ensures) (k .counters .ensures) (was-met (c .before))
 
 add-insert : tie.Need-add-insert
 add-insert c = search needs
@@ -122,7 +106,8 @@ part-insert-end : tie.Need-part-insert-end
 part-insert-end c = search needs
 
 insert-requires : tie.Need-insert-requires
-insert-requires c κs = met-bit (start-of (c .before .before) .pre)
+insert-requires c κs =
+    let k = placed (c .before .before) in met-bit (start-of k .pre) (k .before .met .ensures) (k .counters .ensures)
 
 add-inside-edges : tie.Need-add-inside-edges
 add-inside-edges c = search needs
@@ -143,23 +128,16 @@ inside-edges-requires : tie.Need-inside-edges-requires
 inside-edges-requires c κs =
     let i = c .before .before .before .before in
     let e = i .before .before in
-    inside-ready (start-of (e .before) .pre) (was-new e) (i .insert .last .0) (i .insert .ensures)
+    let k = placed (e .before) in
+    inside-ready (start-of k .pre) (k .before .met .ensures) (k .counters .ensures) (was-new e) (i .insert .last .0) (i .insert .ensures)
 
 sub-left-2 : tie.Need-sub-left-2
 sub-left-2 c =
     let i = c .before .before .before .before .before in
     let e = i .before .before in
-    new-some (start-of (e .before) .pre) (was-new e) (i .insert .last .0) (i .insert .ensures) (c .inside-edges .result)
-    (c .inside-edges .ensures)
-
-add-work-4 : tie.Need-add-work-4
-add-work-4 c = search needs
-
-add-work-5 : tie.Need-add-work-5
-add-work-5 c = search needs
-
-add-work-6 : tie.Need-add-work-6
-add-work-6 c = search needs
+    let k = placed (e .before) in
+    new-some (start-of k .pre) (k .before .met .ensures) (k .counters .ensures) (was-new e) (i .insert .last .0) (i .insert .ensures)
+    (c .inside-edges .result) (c .inside-edges .ensures)
 
 mul-work-2 : tie.Need-mul-work-2
 mul-work-2 c = search needs
@@ -174,36 +152,26 @@ returns-2 : tie.Need-returns-2
 returns-2 c =
     let i = c .before .before .before .before .before in
     let e = i .before .before in
-    new-down (start-of (e .before) .pre) (was-new e) (i .insert .last .0) (i .insert .ensures) (c .inside-edges .result)
-    (c .inside-edges .ensures)
+    let k = placed (e .before) in
+    new-down (start-of k .pre) (k .before .met .ensures) (k .counters .ensures) (was-new e) (i .insert .last .0) (i .insert .ensures)
+    (c .inside-edges .result) (c .inside-edges .ensures)
 
 pub count-down-spec : {M : Type 1} → statement M
 count-down-spec =
     tie.close
     (tie.spec
-    add-met
-    add-met-2
-    add-met-3
-    add-met-4
-    add-met-5
-    add-met-6
-    mul-met
-    add-met-7
+    met-requires
+    counters-requires
+    add-at
     add-contains
     mul-contains
     sub-contains
     part-contains-start
     part-contains-end
     contains-requires
-    add-left
-    add-left-2
-    add-left-3
     mul-left
     slice-read-left
     sub-left
-    add-work
-    add-work-2
-    add-work-3
     mul-work
     slice-write-work
     same-length
@@ -221,9 +189,6 @@ count-down-spec =
     part-inside-edges-end
     inside-edges-requires
     sub-left-2
-    add-work-4
-    add-work-5
-    add-work-6
     mul-work-2
     slice-write-work-2
     same-length-2
