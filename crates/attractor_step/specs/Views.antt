@@ -268,6 +268,8 @@ layer-long n base work high = part-length base (layerWords n) work high
 -- the set comes back with v in it, v gets its distance, and the next layer comes back with v in it
 module _ (n m base next : ℕ) (work : List ℕ) (room : Room n m base next work) (s v far : ℕ) (ys : List ℕ)
     (size : s ≡ words n)
+    {row : ℕ}
+    (place : row ≡ distances n m)
     (small : v < n)
     (new : Put v 1 (take ((base + s) - base) (drop base work)) ys)
   where
@@ -275,7 +277,7 @@ module _ (n m base next : ℕ) (work : List ℕ) (room : Room n m base next work
     wider = back base s work ys
 
     abbrev stored : List ℕ
-    stored = set wider (distances n m + v) far
+    stored = set wider (row + v) far
 
     fits : base + s ≤ length work
     fits = omega (arith, room .high)
@@ -284,8 +286,8 @@ module _ (n m base next : ℕ) (work : List ℕ) (room : Room n m base next work
     wider-changes =
         back-changes base s work ys fits (new .long ∙ ap length (part-is base s work) ∙ part-length base s work fits)
 
-    stored-changes : Changes (distances n m + v) 1 wider stored
-    stored-changes = store-changes (distances n m + v) far wider
+    stored-changes : Changes (row + v) 1 wider stored
+    stored-changes = store-changes (row + v) far wider
 
     pub stored-long : length stored ≡ length work
     stored-long = stored-changes .long ∙ wider-changes .long
@@ -353,7 +355,7 @@ module _ (n m base next : ℕ) (work : List ℕ) (room : Room n m base next work
           fun-ext (inserted-set n s base v work ys size (room .high) new)
 
       cells-same :
-          (b : ℕ) → b + n ≤ layers n m → (b + n ≤ distances n m + v) ⊎ (distances n m + v + 1 ≤ b) →
+          (b : ℕ) → b + n ≤ layers n m → (b + n ≤ row + v) ⊎ (row + v + 1 ≤ b) →
           cells n b joining ≡ cells n b work
       cells-same b h apart =
           changes-cells joining-changes n b (inl (omega (arith, room .next-low))) ∙
@@ -363,7 +365,8 @@ module _ (n m base next : ℕ) (work : List ℕ) (room : Room n m base next work
       distances-more : cells n (distances n m) joining ≡ put v far (cells n (distances n m) work)
       distances-more =
           changes-cells joining-changes n (distances n m) (inl (omega (arith, room .next-low))) ∙
-          cells-put n (distances n m) v far wider small (omega (arith, room .low, room .high, wider-changes .long)) ∙
+          subst (λ (k : ℕ). cells n (distances n m) (set wider (k + v) far) ≡ put v far (cells n (distances n m) wider)) (sym place)
+          (cells-put n (distances n m) v far wider small (omega (arith, room .low, room .high, wider-changes .long))) ∙
           ap (put v far) (changes-cells wider-changes n (distances n m) (inl (omega (arith, room .low))))
 
       counter-same : (first : ℕ → ℕ) → counterAt first n m joining ≡ counterAt first n m work

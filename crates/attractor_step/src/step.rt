@@ -1,4 +1,5 @@
 // One step: a member is taken, and each of its predecessor entries is looked at once, those outside V included.
+use area::Area;
 use attractor_counters::counters::count_down;
 use layer::marked::add;
 ghost use Prim.Native.Nat.{ℕ};
@@ -15,8 +16,9 @@ fn join(n: usize, m: usize, s: usize, work: &mut [u64], set: usize, next: usize,
     ensures { λ _.
         ⌜ ((first : ℕ → ℕ) → Becomes first n m set next (joined far v) (now (work .entry)) (now (work .exit))) ⌝ }
 {
+    let distances = Area { n, m, s }.distances();
     sets::insert(&mut work[set..set + s], v);
-    work[n + 1 + m + n + v] = far;
+    work[distances + v] = far;
     add(&mut work[next..next + s + 1], v);
 }
 
@@ -51,7 +53,8 @@ fn touch(
         return;
     }
     if owners[v] == alpha {
-        work[n + 1 + m + n + n + v] = w as u64;
+        let entries = Area { n, m, s }.entries();
+        work[entries + v] = w as u64;
         join(n, m, s, work, set, next, v, far);
         return;
     }

@@ -8,9 +8,15 @@ use Rattle.attractor_step.specs.Views.{stored-long, add-ready, state-joi
 use Rattle.attractor_step.proofs.step.join.Statement.{statement}
 use Rattle.attractor_step.proofs.step.join.Tie as tie
 
--- where the function begins
-abbrev start-of : tie.After-slice-known2 → tie.Start
-start-of c = c .before .before .before .before .before
+-- where the function begins, and where the distances' place is known
+abbrev start-of : tie.After-distances → tie.Start
+start-of c = c .before .before
+
+abbrev placed : tie.After-slice-known2 → tie.After-distances
+placed c = c .before .before .before .before
+
+distances-requires : tie.Need-distances-requires
+distances-requires c κs = search needs
 
 add-insert : tie.Need-add-insert
 add-insert c = search needs
@@ -29,21 +35,12 @@ part-insert-end c = search needs
 
 insert-requires : tie.Need-insert-requires
 insert-requires c κs =
-    let given = c .before .before in
+    let given = start-of (c .before) in
     let a = given .args in
     bit-fits (a .n) (a .s) (a .set) (a .v) (a .work .now) (given .pre .size) (given .pre .room .high) (given .pre .small)
 
 add-work : tie.Need-add-work
 add-work c = search needs
-
-add-work-2 : tie.Need-add-work-2
-add-work-2 c = search needs
-
-add-work-3 : tie.Need-add-work-3
-add-work-3 c = search needs
-
-add-work-4 : tie.Need-add-work-4
-add-work-4 c = search needs
 
 mul-work : tie.Need-mul-work
 mul-work c = search needs
@@ -68,7 +65,7 @@ part-add-start c = search needs
 
 part-add-end : tie.Need-part-add-end
 part-add-end c =
-    let g = start-of c in
+    let g = start-of (placed c) in
     let a = g .args in
     let i = c .before .before .insert in
     omega (
@@ -78,39 +75,40 @@ part-add-end c =
       g .pre .room .low,
       g .pre .room .high,
       stored-long (a .n) (a .m) (a .set) (a .next) (a .work .now) (g .pre .room) (a .s) (a .v) (a .far) (i .last .0)
-          (g .pre .size) (g .pre .small) (i .ensures),
+          (g .pre .size) (placed c .distances .ensures) (g .pre .small) (i .ensures),
     )
 
 add-requires : tie.Need-add-requires
 add-requires c κs =
-    let g = start-of (c .before) in
+    let g = start-of (placed (c .before)) in
     let a = g .args in
     let i = c .before .before .before .insert in
     add-ready (a .n) (a .m) (a .set) (a .next) (a .work .now) (g .pre .room) (a .s) (a .v) (a .far) (i .last .0)
-    (g .pre .size) (g .pre .small) (i .ensures) (g .pre .layer)
+    (g .pre .size) (placed (c .before) .distances .ensures) (g .pre .small) (i .ensures) (g .pre .layer)
 
 same-length : tie.Need-same-length
 same-length c =
     let d = c .before .before in
-    let g = start-of (d .before .before) in
+    let g = start-of (placed (d .before .before)) in
     let a = g .args in
     let i = d .before .before .before .before .insert in
     state-joined (a .n) (a .m) (a .set) (a .next) (a .work .now) (g .pre .room) (a .s) (a .v) (a .far) (i .last .0)
-    (g .pre .size) (g .pre .small) (i .ensures) (d .add .last .0) (d .add .ensures) (λ u. 0) .kept .long
+    (g .pre .size) (placed (d .before .before) .distances .ensures) (g .pre .small) (i .ensures) (d .add .last .0) (d .add .ensures) (λ u. 0) .kept .long
 
 returns : tie.Need-returns
 returns c =
     let d = c .before .before in
-    let g = start-of (d .before .before) in
+    let g = start-of (placed (d .before .before)) in
     let a = g .args in
     let i = d .before .before .before .before .insert in
     state-joined (a .n) (a .m) (a .set) (a .next) (a .work .now) (g .pre .room) (a .s) (a .v) (a .far) (i .last .0)
-    (g .pre .size) (g .pre .small) (i .ensures) (d .add .last .0) (d .add .ensures)
+    (g .pre .size) (placed (d .before .before) .distances .ensures) (g .pre .small) (i .ensures) (d .add .last .0) (d .add .ensures)
 
 pub join-spec : {M : Type 1} → statement M
 join-spec =
     tie.close
     (tie.spec
+    distances-requires
     add-insert
     mul-insert
     sub-insert
@@ -118,9 +116,6 @@ join-spec =
     part-insert-end
     insert-requires
     add-work
-    add-work-2
-    add-work-3
-    add-work-4
     mul-work
     slice-write-work
     add-add

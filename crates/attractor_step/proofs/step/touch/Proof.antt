@@ -7,7 +7,7 @@ use borrow.Author.Tests.{not-true, not-false, eq-eqb, ne-eqb}
 use lib.ListN.{length, set}
 use Rattle.rules.specs.Counting.{Set}
 use Rattle.basics.specs.Basics.{and-left, and-right}
-use Rattle.area.specs.Area.{entries, setAt}
+use Rattle.area.specs.Area.{setAt}
 use Rattle.attractor_step.specs.State.{State, entered, counted, touched}
 use Rattle.attractor_step.specs.State.{touched-passed, touched-entry, touched-last, touched-count}
 use Rattle.attractor_step.specs.View.{stateAt, Becomes}
@@ -74,14 +74,15 @@ theirs c = ne-eqb _ _ (c .if2 .left)
 
 -- the entry is given
 entry-given :
-    (c : tie.Then2) →
-    let g = at2 (c .before) in
+    (c : tie.After-entries) →
+    let g = at2 (c .before .before) in
     Becomes (counts g) (n g) (m g) (g .args .set) (g .args .next) (entered (g .args .w) (g .args .v)) (g .args .work .now)
-    (set (g .args .work .now) (entries (n g) (m g) + g .args .v) (g .args .w))
+    (set (g .args .work .now) (c .entries .result + g .args .v) (g .args .w))
 entry-given c =
-    let g = at2 (c .before) in
-    store-entry (counts g) (n g) (m g) (g .args .set) (g .args .next) (g .args .work .now) (g .pre .room)
-    (g .args .v) (g .args .w) (g .pre .safe .below)
+    let g = at2 (c .before .before) in
+    rw (c .entries .ensures)
+    (store-entry (counts g) (n g) (m g) (g .args .set) (g .args .next) (g .args .work .now) (g .pre .room)
+    (g .args .v) (g .args .w) (g .pre .safe .below))
 
 -- the counter falls
 count-given :
@@ -147,20 +148,11 @@ returns c =
 shared-slice-read-if2 : tie.Need-shared-slice-read-if2
 shared-slice-read-if2 c = search needs
 
+entries-requires : tie.Need-entries-requires
+entries-requires c κs = search needs
+
 add-work : tie.Need-add-work
 add-work c = search needs
-
-add-work-2 : tie.Need-add-work-2
-add-work-2 c = search needs
-
-add-work-3 : tie.Need-add-work-3
-add-work-3 c = search needs
-
-add-work-4 : tie.Need-add-work-4
-add-work-4 c = search needs
-
-add-work-5 : tie.Need-add-work-5
-add-work-5 c = search needs
 
 mul-work : tie.Need-mul-work
 mul-work c = search needs
@@ -170,7 +162,7 @@ slice-write-work c = search needs
 
 join-requires : tie.Need-join-requires
 join-requires c κs =
-    let g = at2 (c .before .before) in
+    let g = at2 (c .before .before .before) in
     record {
       size = g .pre .size;
       room = kept-room (entry-given (c .before) .kept) (g .pre .room);
@@ -185,12 +177,13 @@ same-length-2 c =
 returns-2 : tie.Need-returns-2
 returns-2 c =
     let d = c .before .before .before .before in
-    let g = at2 (d .before) in
+    let g = at2 (d .before .before) in
     becomes-as
     (touched (inside g) (own g) (g .args .w) (g .args .far) (g .args .v))
     (becomes-then (entry-given d) (c .before .before .join .ensures (counts g)))
-    (touched-entry (inside g) (own g) (g .args .w) (g .args .far) (g .args .v) (state g) (in2 (d .before)) (out2 (d .before))
-    (mine d))
+    (touched-entry (inside g) (own g) (g .args .w) (g .args .far) (g .args .v) (state g) (in2 (d .before .before))
+    (out2 (d .before .before))
+    (mine (d .before)))
 
 count-down-requires : tie.Need-count-down-requires
 count-down-requires c κs =
@@ -265,11 +258,8 @@ touch-spec =
     same-length
     returns
     shared-slice-read-if2
+    entries-requires
     add-work
-    add-work-2
-    add-work-3
-    add-work-4
-    add-work-5
     mul-work
     slice-write-work
     join-requires
