@@ -31,6 +31,7 @@ use Rattle.attractor.specs.Running.{Running, Same}
 
 module _ (owners offsets targets : List ℕ) (alpha within set s : ℕ) (work : List ℕ)
     (given : Attractable owners offsets targets alpha within set work) (size : s ≡ words (length owners))
+    {first : ℕ} (place : first ≡ layers (length owners) (length targets))
   where
     abbrev n : ℕ
     n = length owners
@@ -41,17 +42,19 @@ module _ (owners offsets targets : List ℕ) (alpha within set s : ℕ) (work : 
     abbrev own : Set
     own = ownBy owners alpha
 
-    pub begin-ready : Beginnable (layers n m) set s work
+    pub begin-ready : Beginnable first set s work
     begin-ready =
         record {
           few = rw size (words-few n (given .edges .few-vertices));
-          before-set = omega (arith, size, given .placed .set-low);
-          high = omega (arith, size, given .placed .set-high);
+          before-set = omega (arith, size, place, given .placed .set-low);
+          high = omega (arith, size, place, given .placed .set-high);
         }
 
-    module _ (after : List ℕ) (begun' : Begun (layers n m) set s work after) where
+    module _ (after : List ℕ) (begun' : Begun first set s work after) where
       begun : Begun (layers n m) set (words n) work after
-      begun = subst (λ (k : ℕ). Begun (layers n m) set k work after) size begun'
+      begun =
+          subst (λ (k : ℕ). Begun (layers n m) set k work after) size
+          (subst (λ (k : ℕ). Begun k set s work after) place begun')
 
       abbrev second : ℕ
       second = layers n m + words n + 1
@@ -211,7 +214,8 @@ module _ (owners offsets targets : List ℕ) (alpha within set s : ℕ) (work : 
           second-is = omega arith
 
       -- **the loop begins**
-      pub started : Running owners offsets targets alpha within set after (layers n m) (layers n m + s + 1) 1 0 after
+      pub started : Running owners offsets targets alpha within set after first (first + s + 1) 1 0 after
       started =
-          subst (λ (k : ℕ). Running owners offsets targets alpha within set after (layers n m) (layers n m + k + 1) 1 0 after)
-          (sym size) begins
+          subst (λ (k : ℕ). Running owners offsets targets alpha within set after k (k + s + 1) 1 0 after) (sym place)
+          (subst (λ (k : ℕ). Running owners offsets targets alpha within set after (layers n m) (layers n m + k + 1) 1 0 after)
+          (sym size) begins)

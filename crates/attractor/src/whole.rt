@@ -2,6 +2,7 @@
 // looks.
 use crate::begin::begin_layers;
 use crate::word::take_word;
+use area::Area;
 use layer::marked::pop_word;
 ghost use mathlib.Core.List.{List};
 ghost use Prim.Native.Nat.{ℕ};
@@ -28,7 +29,7 @@ pub fn attract(
     let n = owners.len();
     let m = targets.len();
     let s = parity_game::set_words(n);
-    let first = n + 1 + m + n + n + n;
+    let first = Area { n, m, s }.layers();
     begin_layers(work, first, set, s);
     let mut this = first;
     let mut next = first + s + 1;

@@ -32,8 +32,12 @@ abbrev μ-loop : tie.MeasureT-loop
 abbrev at1 : tie.After-set-words Inv-loop μ-loop → tie.Start Inv-loop μ-loop
 at1 c = c .before .before .before .before .before
 
+-- where the layers' place is known, and the size of a set
+abbrev placed : tie.After-begin-layers Inv-loop μ-loop → tie.After-layers Inv-loop μ-loop
+placed c = c .before .before
+
 abbrev sized : tie.After-begin-layers Inv-loop μ-loop → tie.After-set-words Inv-loop μ-loop
-sized c = c .before .before
+sized c = placed c .before
 
 abbrev start-of : tie.After-begin-layers Inv-loop μ-loop → tie.Start Inv-loop μ-loop
 start-of c = at1 (sized c)
@@ -49,7 +53,7 @@ given c =
     let a = g .args in
     started-given (a .owners .now) (a .offsets .now) (a .targets .now) (a .alpha) (a .within) (a .set) (w .set-words .result)
     (a .work .now)
-    (g .pre) (w .set-words .ensures) _ (c .begin-layers .ensures)
+    (g .pre) (w .set-words .ensures) (placed c .layers .ensures) _ (c .begin-layers .ensures)
 
 same :
     (c : tie.After-begin-layers Inv-loop μ-loop) →
@@ -61,7 +65,7 @@ same c =
     let a = g .args in
     started-same (a .owners .now) (a .offsets .now) (a .targets .now) (a .alpha) (a .within) (a .set) (w .set-words .result)
     (a .work .now)
-    (g .pre) (w .set-words .ensures) _ (c .begin-layers .ensures)
+    (g .pre) (w .set-words .ensures) (placed c .layers .ensures) _ (c .begin-layers .ensures)
 
 abbrev begun : tie.At-loop Inv-loop μ-loop → tie.After-begin-layers Inv-loop μ-loop
 begun c = c .before .before .before
@@ -146,29 +150,18 @@ few c =
 set-words-requires : tie.Need-set-words-requires Inv-loop μ-loop
 set-words-requires c κs = search needs
 
-add-first : tie.Need-add-first Inv-loop μ-loop
-add-first c = search needs
-
-add-first-2 : tie.Need-add-first-2 Inv-loop μ-loop
-add-first-2 c = search needs
-
-add-first-3 : tie.Need-add-first-3 Inv-loop μ-loop
-add-first-3 c = search needs
-
-add-first-4 : tie.Need-add-first-4 Inv-loop μ-loop
-add-first-4 c = search needs
-
-add-first-5 : tie.Need-add-first-5 Inv-loop μ-loop
-add-first-5 c = search needs
+layers-requires : tie.Need-layers-requires Inv-loop μ-loop
+layers-requires c κs = search needs
 
 begin-layers-requires : tie.Need-begin-layers-requires Inv-loop μ-loop
 begin-layers-requires c κs =
-    let w = c .before in
+    let l = c .before in
+    let w = l .before in
     let g = at1 w in
     let a = g .args in
     begin-ready (a .owners .now) (a .offsets .now) (a .targets .now) (a .alpha) (a .within) (a .set) (w .set-words .result)
     (a .work .now)
-    (g .pre) (w .set-words .ensures)
+    (g .pre) (w .set-words .ensures) (l .layers .ensures)
 
 add-next : tie.Need-add-next Inv-loop μ-loop
 add-next c =
@@ -176,6 +169,7 @@ add-next c =
     omega (
       arith,
       sized b .set-words .ensures,
+      placed b .layers .ensures,
       given b .placed .set-low,
       given b .placed .set-high,
       same b .long,
@@ -188,6 +182,7 @@ add-next-2 c =
     omega (
       arith,
       sized b .set-words .ensures,
+      placed b .layers .ensures,
       given b .placed .set-low,
       given b .placed .set-high,
       same b .long,
@@ -202,7 +197,7 @@ loop-holds c =
     let a = g .args in
     started (a .owners .now) (a .offsets .now) (a .targets .now) (a .alpha) (a .within) (a .set) (w .set-words .result)
     (a .work .now)
-    (g .pre) (w .set-words .ensures) _ (b .begin-layers .ensures)
+    (g .pre) (w .set-words .ensures) (placed b .layers .ensures) _ (b .begin-layers .ensures)
 
 add-if1 : tie.Need-add-if1 Inv-loop μ-loop
 add-if1 c = omega (arith, fits (c), size (c), long (c), start-of (begun (c)) .good)
@@ -410,11 +405,7 @@ attract-spec =
     Inv-loop
     μ-loop
     set-words-requires
-    add-first
-    add-first-2
-    add-first-3
-    add-first-4
-    add-first-5
+    layers-requires
     begin-layers-requires
     add-next
     add-next-2
