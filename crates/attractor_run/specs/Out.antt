@@ -35,41 +35,47 @@ module _ (owners : List ℕ) (m alpha : ℕ) (target work : List ℕ) (set : ℕ
       seen : (base v : ℕ) → v < n → base + v < length work → Seen target out work base v
       seen base v l h = record { high = h; target-bits = given .bits v l; result-bits = rw out-long (given .bits v l) }
 
-      pub enter-ready : Enterable owners alpha target out work (entries n m) strategy
-      enter-ready =
+      pub enter-ready : {row : ℕ} → row ≡ entries n m → Enterable owners alpha target out work row strategy
+      enter-ready {row} at =
           record {
             each = given .strategy-size;
             entered =
                 λ v l.
                 record {
                   small = l;
-                  seen = seen (entries n m) v l (omega (arith, given .low));
+                  seen = seen row v l (omega (arith, at, given .low));
                   narrow =
-                      λ p. given .entries-narrow v l (subst (λ (x : List ℕ). drawnIn owners alpha target x v ≡ true) out-is p);
+                      λ p.
+                      rw at
+                      (given .entries-narrow v l (subst (λ (x : List ℕ). drawnIn owners alpha target x v ≡ true) out-is p));
                 };
           }
 
-      pub measure-ready : Measurable (length far) target out work (distances n m)
-      measure-ready v h =
+      pub measure-ready : {row : ℕ} → row ≡ distances n m → Measurable (length far) target out work row
+      measure-ready {row} at v h =
           let l : v < n = omega (arith, given .distances-size) in
           record {
-            seen = seen (distances n m) v l (omega (arith, given .low));
-            narrow = λ p q. given .distances-narrow v l (subst (λ (x : List ℕ). setOf x v ≡ true) out-is p) q;
+            seen = seen row v l (omega (arith, at, given .low));
+            narrow = λ p q. rw at (given .distances-narrow v l (subst (λ (x : List ℕ). setOf x v ≡ true) out-is p) q);
           }
 
       pub handed :
+          {row row' : ℕ} → row ≡ entries n m → row' ≡ distances n m →
           (strategy' far' : List ℕ) →
           Narrow out →
-          strategy' ≡ listed n (chosen owners alpha target out (wordOf work (entries n m))) →
-          far' ≡ listed (length far) (measure target out (wordOf work (distances n m))) →
+          strategy' ≡ listed n (chosen owners alpha target out (wordOf work row)) →
+          far' ≡ listed (length far) (measure target out (wordOf work row')) →
           Handed owners m alpha target work set out strategy' far'
-      handed strategy' far' narrow is-strategy is-far =
+      handed at at' strategy' far' narrow is-strategy is-far =
           record {
             result-is = out-is;
             strategy-is =
-                is-strategy ∙ ap (λ (x : List ℕ). listed n (chosen owners alpha target x (wordOf work (entries n m)))) out-is;
+                is-strategy ∙
+                ap (λ (k : ℕ). listed n (chosen owners alpha target out (wordOf work k))) at ∙
+                ap (λ (x : List ℕ). listed n (chosen owners alpha target x (wordOf work (entries n m)))) out-is;
             distances-is =
                 is-far ∙
+                ap (λ (k : ℕ). listed (length far) (measure target out (wordOf work k))) at' ∙
                 ap (λ (k : ℕ). listed k (measure target out (wordOf work (distances n m)))) (given .distances-size) ∙
                 ap (λ (x : List ℕ). listed n (measure target x (wordOf work (distances n m)))) out-is;
             narrow = narrow;

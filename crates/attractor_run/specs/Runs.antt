@@ -20,7 +20,7 @@ use Rattle.basics.specs.Basics.{length-listed, getD-listed, listed-is}
 use Rattle.theory.specs.Bits.{Bits, narrow-holds}
 use Rattle.theory.specs.Distance.{distance-target, distance-outside, distance-low, entry-nearest, entry-none, nearest-sinks}
 use Rattle.predecessors.specs.Table.{SoundEdges}
-use Rattle.area.specs.Area.{layers, setAt, wordsAt, entryAt, distanceAt}
+use Rattle.area.specs.Area.{free, setAt, wordsAt, entryAt, distanceAt}
 use Rattle.area.specs.Lent.{words-enough}
 use Rattle.attractor.specs.Attracted.{Attractable, Attracted, edges-sound, owned}
 use Rattle.attractor_counters.specs.Counters.{ownBy}
@@ -54,6 +54,7 @@ drawn-of t a within set before after looks d =
 
 module _ (owners offsets targets : List ℕ) (alpha : ℕ) (within target result strategy distances work : List ℕ)
     (given : Runnable owners offsets targets alpha within target result strategy distances work)
+    {base : ℕ} (place : base ≡ free (length owners) (length targets))
   where
     abbrev n : ℕ
     n = length owners
@@ -64,15 +65,12 @@ module _ (owners offsets targets : List ℕ) (alpha : ℕ) (within target result
     abbrev s : ℕ
     s = length within
 
-    -- where V and the target go
-    abbrev base : ℕ
-    base = layers n m + 2 * (s + 1) + s
-
+    -- V goes to the base, and the target behind it
     abbrev set : ℕ
     set = base + s
 
     pub fits : base + s + s ≤ length work
-    fits = omega (arith, given .room, given .within-size)
+    fits = omega (arith, place, given .room, given .within-size)
 
     sound-edges : SoundEdges n offsets targets
     sound-edges = edges-sound (tablesOf owners (given .priorities) offsets targets) (given .accepted)

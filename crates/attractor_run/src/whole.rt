@@ -1,4 +1,5 @@
 // The work itself: what goes in, the attractor, and what comes out.
+use area::Area;
 use attractor::attract;
 use attractor_outputs::distances::write_distances;
 use attractor_outputs::strategy::write_strategy;
@@ -50,9 +51,12 @@ fn hand_out(
         (now (result .exit)) (now (strategy .exit)) (now (distances .exit)) ⌝ }
 {
     let n = owners.len();
-    let far = n + 1 + m + n;
-    sets::copy_from(result, &work[set..set + target.len()]);
-    write_strategy(owners, alpha, target, result, work, far + n, strategy);
+    let s = target.len();
+    let area = Area { n, m, s };
+    let entries = area.entries();
+    let far = area.distances();
+    sets::copy_from(result, &work[set..set + s]);
+    write_strategy(owners, alpha, target, result, work, entries, strategy);
     write_distances(target, result, work, far, distances);
 }
 
@@ -83,7 +87,7 @@ pub fn run(
     let n = owners.len();
     let m = targets.len();
     let s = within.len();
-    let base = n + 1 + m + n + n + n + 2 * (s + 1) + s;
+    let base = Area { n, m, s }.free();
     prepare(offsets, targets, n, within, target, work, base);
     let looks = attract(owners, offsets, targets, alpha, work, base, base + s);
     hand_out(

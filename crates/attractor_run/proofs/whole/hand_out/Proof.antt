@@ -6,9 +6,12 @@ use Rattle.attractor_run.specs.Out.{part-long, enter-ready, measure-read
 use Rattle.attractor_run.proofs.whole.hand_out.Statement.{statement}
 use Rattle.attractor_run.proofs.whole.hand_out.Tie as tie
 
--- the calls in order, and where the function begins
+-- the calls in order, where the places are known and where the function begins
+abbrev placed : tie.After-copy-from → tie.After-distances
+placed c = c .before .before .before
+
 abbrev at1 : tie.After-copy-from → tie.Start
-at1 c = c .before .before .before .before .before .before .before .before .before
+at1 c = placed c .before .before .before .before .before .before .before .before
 
 abbrev copied : tie.After-write-strategy → tie.After-copy-from
 copied c = c .before .before .before .before .before
@@ -16,14 +19,11 @@ copied c = c .before .before .before .before .before
 abbrev entered : tie.After-write-distances → tie.After-write-strategy
 entered c = c .before .before .before .before .before
 
-add-far : tie.Need-add-far
-add-far c = search needs
+entries-requires : tie.Need-entries-requires
+entries-requires c κs = search needs
 
-add-far-2 : tie.Need-add-far-2
-add-far-2 c = search needs
-
-add-far-3 : tie.Need-add-far-3
-add-far-3 c = search needs
+distances-requires : tie.Need-distances-requires
+distances-requires c κs = search needs
 
 add-copy-from : tie.Need-add-copy-from
 add-copy-from c = search needs
@@ -43,16 +43,13 @@ part-copy-from-end c = search needs
 copy-from-requires : tie.Need-copy-from-requires
 copy-from-requires c κs = search needs
 
-add-write-strategy : tie.Need-add-write-strategy
-add-write-strategy c = search needs
-
 write-strategy-requires : tie.Need-write-strategy-requires
 write-strategy-requires c κs =
     let d = c .before .before .before .before in
     let g = at1 d in
     let a = g .args in
     enter-ready (a .owners .now) (a .m) (a .alpha) (a .target .now) (a .work .now) (a .set) (a .result .now) (a .strategy .now)
-    (a .distances .now) (g .pre) (d .copy-from .last .0) (d .copy-from .ensures)
+    (a .distances .now) (g .pre) (d .copy-from .last .0) (d .copy-from .ensures) (placed d .before .entries .ensures)
 
 write-distances-requires : tie.Need-write-distances-requires
 write-distances-requires c κs =
@@ -60,7 +57,7 @@ write-distances-requires c κs =
     let g = at1 d in
     let a = g .args in
     measure-ready (a .owners .now) (a .m) (a .alpha) (a .target .now) (a .work .now) (a .set) (a .result .now) (a .strategy .now)
-    (a .distances .now) (g .pre) (d .copy-from .last .0) (d .copy-from .ensures)
+    (a .distances .now) (g .pre) (d .copy-from .last .0) (d .copy-from .ensures) (placed d .distances .ensures)
 
 same-length : tie.Need-same-length
 same-length c = search needs
@@ -79,7 +76,8 @@ returns c =
     let g = at1 d in
     let a = g .args in
     handed (a .owners .now) (a .m) (a .alpha) (a .target .now) (a .work .now) (a .set) (a .result .now) (a .strategy .now)
-    (a .distances .now) (g .pre) (d .copy-from .last .0) (d .copy-from .ensures)
+    (a .distances .now) (g .pre) (d .copy-from .last .0) (d .copy-from .ensures) (placed d .before .entries .ensures)
+    (placed d .distances .ensures)
     (e .write-strategy .last .1 .1 .1 .1 .1 .1 .0) (w .write-distances .last .1 .1 .1 .1 .0)
     (λ i. e .before .before .before .slice-known4 .given i .fits) (e .write-strategy .ensures) (w .write-distances .ensures)
 
@@ -87,16 +85,14 @@ pub hand-out-spec : {M : Type 1} → statement M
 hand-out-spec =
     tie.close
     (tie.spec
-    add-far
-    add-far-2
-    add-far-3
+    entries-requires
+    distances-requires
     add-copy-from
     mul-copy-from
     sub-copy-from
     part-copy-from-start
     part-copy-from-end
     copy-from-requires
-    add-write-strategy
     write-strategy-requires
     write-distances-requires
     same-length

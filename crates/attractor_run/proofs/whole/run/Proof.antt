@@ -1,16 +1,21 @@
 -- `run` meets its contract: each call asks for what the calls before it left.
 use mathlib.Core.Path.{_≡_, _∙_}
+use Prim.Native.Nat.{_<_, _^_}
 use native.Mathlib.Omega.{arith}
 use borrow.Author.Needs.{needs}
 use lib.ListN.{length}
+use Rattle.area.specs.Area.{free}
 use Rattle.sets.specs.Laws.{cleared-all}
 use Rattle.attractor_run.specs.Runs.{prepare-ready, attract-ready, two-long, hand-ready, ran}
 use Rattle.attractor_run.proofs.whole.run.Statement.{statement}
 use Rattle.attractor_run.proofs.whole.run.Tie as tie
 
--- the calls in order, and where the function begins
-abbrev at1 : tie.After-prepare → tie.Start
-at1 c = c .before .before .before .before .before .before .before .before .before .before .before
+-- the calls in order, where the base is known and where the function begins
+abbrev placed : tie.After-prepare → tie.After-free
+placed c = c .before .before
+
+abbrev at1 : tie.After-free → tie.Start
+at1 c = c .before .before .before .before .before .before .before .before .before .before
 
 abbrev readied : tie.After-attract → tie.After-prepare
 readied c = c .before .before .before .before
@@ -22,49 +27,29 @@ abbrev given-out : tie.After-clear → tie.After-hand-out
 given-out c = c .before .before .before .before .before .before .before .before
 
 -- the work area keeps its length
-long : (c : tie.After-attract) → length (c .attract .last .1 .1 .1 .1 .0) ≡ length (at1 (readied c) .args .work .now)
+long : (c : tie.After-attract) → length (c .attract .last .1 .1 .1 .1 .0) ≡ length (at1 (placed (readied c)) .args .work .now)
 long d =
     let p = readied d in
-    let g = at1 p in
+    let g = at1 (placed p) in
     let a = g .args in
     two-long (a .owners .now) (a .offsets .now) (a .targets .now) (a .alpha) (a .within .now) (a .target .now)
-    (a .result .now) (a .strategy .now) (a .distances .now) (a .work .now) (g .pre)
+    (a .result .now) (a .strategy .now) (a .distances .now) (a .work .now) (g .pre) (placed p .free .ensures)
     (p .prepare .last .1 .1 .1 .1 .1 .0) (p .prepare .ensures) (d .attract .last .1 .1 .1 .1 .0) (d .attract .result)
     (d .attract .ensures)
 
-add-base : tie.Need-add-base
-add-base c = search needs
-
-add-base-2 : tie.Need-add-base-2
-add-base-2 c = search needs
-
-add-base-3 : tie.Need-add-base-3
-add-base-3 c = search needs
-
-add-base-4 : tie.Need-add-base-4
-add-base-4 c = search needs
-
-add-base-5 : tie.Need-add-base-5
-add-base-5 c = search needs
-
-add-base-6 : tie.Need-add-base-6
-add-base-6 c = search needs
-
-mul-base : tie.Need-mul-base
-mul-base c = search needs
-
-add-base-7 : tie.Need-add-base-7
-add-base-7 c = search needs
-
-add-base-8 : tie.Need-add-base-8
-add-base-8 c = search needs
+free-requires : tie.Need-free-requires
+free-requires c κs =
+    let g = c .before .before .before .before .before .before .before .before .before in
+    let small : free (length (g .args .owners .now)) (length (g .args .targets .now)) < 2 ^ 64 = omega (arith, g .pre .room, g .good) in
+    (g .pre .within-size, small)
 
 prepare-requires : tie.Need-prepare-requires
 prepare-requires c κs =
-    let g = c .before .before .before .before .before .before .before .before .before .before in
+    let f = c .before in
+    let g = at1 f in
     let a = g .args in
     prepare-ready (a .owners .now) (a .offsets .now) (a .targets .now) (a .alpha) (a .within .now) (a .target .now)
-    (a .result .now) (a .strategy .now) (a .distances .now) (a .work .now) (g .pre)
+    (a .result .now) (a .strategy .now) (a .distances .now) (a .work .now) (g .pre) (f .free .ensures)
 
 add-attract : tie.Need-add-attract
 add-attract c = search needs
@@ -72,23 +57,26 @@ add-attract c = search needs
 attract-requires : tie.Need-attract-requires
 attract-requires c κs =
     let p = c .before .before .before in
-    let g = at1 p in
+    let g = at1 (placed p) in
     let a = g .args in
     attract-ready (a .owners .now) (a .offsets .now) (a .targets .now) (a .alpha) (a .within .now) (a .target .now)
-    (a .result .now) (a .strategy .now) (a .distances .now) (a .work .now) (g .pre)
+    (a .result .now) (a .strategy .now) (a .distances .now) (a .work .now) (g .pre) (placed p .free .ensures)
     (p .prepare .last .1 .1 .1 .1 .1 .0) (p .prepare .ensures)
 
 add-hand-out : tie.Need-add-hand-out
-add-hand-out c = search needs
+add-hand-out c =
+    let f = placed (readied (c .before .before .before)) in
+    let g = at1 f in
+    omega (arith, f .free .ensures, g .pre .room, g .pre .within-size, g .good)
 
 hand-out-requires : tie.Need-hand-out-requires
 hand-out-requires c κs =
     let d = c .before .before .before .before .before .before in
     let p = readied d in
-    let g = at1 p in
+    let g = at1 (placed p) in
     let a = g .args in
     hand-ready (a .owners .now) (a .offsets .now) (a .targets .now) (a .alpha) (a .within .now) (a .target .now)
-    (a .result .now) (a .strategy .now) (a .distances .now) (a .work .now) (g .pre)
+    (a .result .now) (a .strategy .now) (a .distances .now) (a .work .now) (g .pre) (placed p .free .ensures)
     (p .prepare .last .1 .1 .1 .1 .1 .0) (p .prepare .ensures) (d .attract .last .1 .1 .1 .1 .0) (d .attract .result)
     (d .attract .ensures)
 
@@ -113,11 +101,11 @@ returns c =
     let h = given-out e in
     let d = drawn h in
     let p = readied d in
-    let g = at1 p in
+    let g = at1 (placed p) in
     let a = g .args in (
       cleared-all (a .work .now) _ (long d) (e .clear .ensures),
       ran (a .owners .now) (a .offsets .now) (a .targets .now) (a .alpha) (a .within .now) (a .target .now) (a .result .now)
-          (a .strategy .now) (a .distances .now) (a .work .now) (g .pre)
+          (a .strategy .now) (a .distances .now) (a .work .now) (g .pre) (placed p .free .ensures)
           (p .prepare .last .1 .1 .1 .1 .1 .0) (p .prepare .ensures) (d .attract .last .1 .1 .1 .1 .0) (d .attract .result)
           (d .attract .ensures) (h .hand-out .last .1 .1 .1 .1 .1 .1 .0) (h .hand-out .last .1 .1 .1 .1 .1 .1 .1 .0)
           (h .hand-out .last .1 .1 .1 .1 .1 .1 .1 .1 .0) (h .hand-out .ensures),
@@ -127,15 +115,7 @@ pub run-spec : {M : Type 1} → statement M
 run-spec =
     tie.close
     (tie.spec
-    add-base
-    add-base-2
-    add-base-3
-    add-base-4
-    add-base-5
-    add-base-6
-    mul-base
-    add-base-7
-    add-base-8
+    free-requires
     prepare-requires
     add-attract
     attract-requires
