@@ -3,7 +3,7 @@
 use mathlib.Core.Bool.{true}
 use mathlib.Core.List.{List}
 use mathlib.Core.Logic.{inr, ⊎-elim}
-use mathlib.Core.Path.{_≡_, refl, ap, _∙_}
+use mathlib.Core.Path.{_≡_, refl, sym, ap, subst, _∙_}
 use Prim.Native.Nat.{ℕ, _+_, _-_, _*_, _%_, _≤_, _<_}
 use native.Mathlib.Omega.{arith}
 use lib.ListN.{length, getD, take, drop, set}
@@ -132,10 +132,13 @@ module _ {owners offsets targets : List ℕ} {s base : ℕ} {before : List ℕ}
             getD owners v 0 ≡ p % 2 →
             {w : ℕ} →
             w ≡ lowestEnd (length owners) offsets targets v (take ((base + s) - base) (drop base work)) →
-            Extending owners offsets targets p s base before v work (set work (entries (length owners) (length targets) + v) w)
-        extending-one o {w} found =
-            store-turn (entries n m) w (ready .below v member) (omega (arith, kept .long, ready .low, ready .high))
+            {row : ℕ} →
+            row ≡ entries (length owners) (length targets) →
+            Extending owners offsets targets p s base before v work (set work (row + v) w)
+        extending-one {p} o {w} found at =
+            subst (λ (k : ℕ). Extending owners offsets targets p s base before v work (set work (k + v) w)) (sym at)
+            (store-turn (entries n m) w (ready .below v member) (omega (arith, kept .long, ready .low, ready .high))
             (record {
               chosen = λ u. found ∙ ap (lowestEnd n offsets targets v) (lent kept);
               kept = λ d. absurd (d (member, o));
-            })
+            }))

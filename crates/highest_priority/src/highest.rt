@@ -1,4 +1,5 @@
 // The highest priority in V, the vertices that have it, and the lowest-numbered successor inside V of each of them.
+use area::Area;
 use parity_game::Priority;
 use successors::inside::lowest_inside;
 use walk::Members;
@@ -86,6 +87,7 @@ pub fn extend_lowest(
 {
     let n = owners.len();
     let m = targets.len();
+    let entries = Area { n, m, s }.entries();
     let from = base + s;
     let mut walk = Members::new(&work[from..from + s]);
     loop {
@@ -96,7 +98,7 @@ pub fn extend_lowest(
         let v = member.0;
         if owners[v] as usize == p.0 % 2 {
             let w = lowest_inside(n, offsets, targets, v, &work[base..base + s]);
-            work[n + 1 + m + n + n + v] = w;
+            work[entries + v] = w;
         }
         walk = rest;
     }

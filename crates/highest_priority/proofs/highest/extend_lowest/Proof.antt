@@ -8,7 +8,7 @@ use native.Mathlib.Omega.{arith}
 use lib.ListN.{length, take, drop}
 use Rattle.walk.specs.declared.members.Members.{Members}
 use Rattle.walk.specs.Walk.{left, Walks}
-use Rattle.area.specs.Area.{entries, setAt, wordsAt}
+use Rattle.area.specs.Area.{setAt, wordsAt}
 use Rattle.area.specs.Walked.{Walkable, walked-none, walked-few, walked-all, walked-member, walked-shorter, walked-more}
 use Rattle.highest_priority.specs.Extending.{Elsewhere, ExtendingTo, extend-walkable, extending-all, extending-one, extend-edges}
 use Rattle.highest_priority.specs.Extending.{other-owner}
@@ -17,16 +17,19 @@ use Rattle.highest_priority.proofs.highest.extend_lowest.Statement.{sta
 use Rattle.highest_priority.proofs.highest.extend_lowest.Tie as tie
 
 abbrev Inv-loop : tie.InvT-loop
-Inv-loop owners offsets targets p s work₀ base n m from walk₀ work walk =
+Inv-loop owners offsets targets p s work₀ base n m row from walk₀ work walk =
     ExtendingTo owners offsets targets (p .0) s base work₀ walk work
 
 abbrev μ-loop : tie.MeasureT-loop
-μ-loop owners offsets targets p s work₀ base n m from walk₀ work walk =
+μ-loop owners offsets targets p s work₀ base n m row from walk₀ work walk =
     length (left (wordsAt (length owners) (base + s) work₀) walk)
 
--- where the function begins, and the loop's head of a turn
+-- where the entries' place is known, where the function begins, and the loop's head of a turn
+abbrev row-of : tie.At-loop Inv-loop μ-loop → tie.After-entries Inv-loop μ-loop
+row-of c = c .before .before .before .before
+
 abbrev start-of : tie.At-loop Inv-loop μ-loop → tie.Start Inv-loop μ-loop
-start-of c = c .before .before .before .before .before .before .before .before
+start-of c = row-of c .before .before .before .before .before
 
 abbrev turn : tie.After-known-told Inv-loop μ-loop → tie.At-loop Inv-loop μ-loop
 turn c = c .before .before .before .before .before .before
@@ -75,10 +78,13 @@ shorter c = walked-shorter (walkable (start-of (turn c))) (turn c .loop .inv) (a
 -- its entry has a place in the work area
 entry-place :
     (c : tie.After-known-told Inv-loop μ-loop) →
-    let a = start-of (turn c) .args in
-    entries (length (a .owners .now)) (length (a .targets .now)) + vertex c < length (turn c .loop .work)
+    row-of (turn c) .entries .result + vertex c < length (turn c .loop .work)
 entry-place c =
-    let g = start-of (turn c) in omega (arith, small c, turn c .loop .inv .keeps .long, g .pre .low, g .pre .high)
+    let g = start-of (turn c) in
+    omega (arith, row-of (turn c) .entries .ensures, small c, turn c .loop .inv .keeps .long, g .pre .low, g .pre .high)
+
+entries-requires : tie.Need-entries-requires Inv-loop μ-loop
+entries-requires c κs = search needs
 
 add-from : tie.Need-add-from Inv-loop μ-loop
 add-from c = search needs
@@ -103,7 +109,7 @@ new-requires c κs = search needs
 
 loop-holds : tie.Need-loop-holds Inv-loop μ-loop
 loop-holds c =
-    let g = c .before .before .before .before .before .before .before in
+    let g = c .before .before .before .before .before .before .before .before in
     walked-none (walkable g) tt (c .new .result) (c .new .ensures)
 
 add-next : tie.Need-add-next Inv-loop μ-loop
@@ -169,19 +175,7 @@ lowest-inside-requires c κs =
     extend-edges (start-of (turn d) .pre) (member d) (turn d .loop .inv .keeps)
 
 add-work : tie.Need-add-work Inv-loop μ-loop
-add-work c = search needs
-
-add-work-2 : tie.Need-add-work-2 Inv-loop μ-loop
-add-work-2 c = search needs
-
-add-work-3 : tie.Need-add-work-3 Inv-loop μ-loop
-add-work-3 c = search needs
-
-add-work-4 : tie.Need-add-work-4 Inv-loop μ-loop
-add-work-4 c = search needs
-
-add-work-5 : tie.Need-add-work-5 Inv-loop μ-loop
-add-work-5 c =
+add-work c =
     let d = c .before .before .before .before .before .before in
     omega (arith, entry-place d, turn d .loop .inv .keeps .long, start-of (turn d) .good)
 
@@ -202,7 +196,7 @@ loop-again c =
     let g = start-of (turn d) in
     walked-more (walkable g) (turn d .loop .inv) (after d) (moved d)
     (extending-one (g .pre) (member d) (turn d .loop .inv .keeps) (c .before .before .before .if1 .taken)
-    (c .lowest-inside .ensures))
+    (c .lowest-inside .ensures) (row-of (turn d) .entries .ensures))
 
 loop-less-2 : tie.Need-loop-less-2 Inv-loop μ-loop
 loop-less-2 c = shorter (c .before .before .before)
@@ -220,6 +214,7 @@ extend-lowest-spec =
     (tie.spec
     Inv-loop
     μ-loop
+    entries-requires
     add-from
     add-new
     mul-new
@@ -247,10 +242,6 @@ extend-lowest-spec =
     part-lowest-inside-end
     lowest-inside-requires
     add-work
-    add-work-2
-    add-work-3
-    add-work-4
-    add-work-5
     mul-work
     slice-write-work
     loop-less
