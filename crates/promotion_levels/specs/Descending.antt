@@ -74,8 +74,8 @@ pub record Descended (priorities : List ℕ) (m s k p : ℕ) (before after : Lis
       getD after i 0 ≡ getD before i 0
 
 -- the two words that say which level is the current one, and what its priority is
-abbrev pub marked : ℕ → ℕ → ℕ → ℕ → List ℕ → List ℕ
-marked s held k p work = set (set work (held + 3 * s + 1 + k) p) (held + 3 * s) k
+abbrev pub marked : ℕ → ℕ → ℕ → List ℕ → List ℕ
+marked depth k p work = set (set work (depth + 1 + k) p) depth k
 
 -- a level ends before a later one begins
 levels-apart : (s at i j : ℕ) → i < j → at + i * s + s ≤ at + j * s
@@ -112,8 +112,8 @@ module _ {priorities : List ℕ} {m s held levels k bound : ℕ} {work : List �
     descend-marks = omega (arith, given .held-is, given .levels-is, given .depth)
 
     -- also once the first is written
-    pub descend-second : (p : ℕ) → held + 3 * s < length (set work (held + 3 * s + 1 + k) p)
-    descend-second p = omega (arith, length-set work (held + 3 * s + 1 + k) p, descend-marks, descend-room)
+    pub descend-second : {depth : ℕ} → depth ≡ held + 3 * s → (p : ℕ) → depth < length (set work (depth + 1 + k) p)
+    descend-second {depth} at p = omega (arith, at, length-set work (depth + 1 + k) p, descend-marks, descend-room)
 
     -- the words of level k, as the code lends them
     level-lent :
@@ -156,7 +156,7 @@ module _ {priorities : List ℕ} {m s held levels k bound : ℕ} {work : List �
             )
 
         abbrev now : List ℕ
-        now = marked s (heldAt n m s) k p work
+        now = marked (depthAt n m s) k p work
 
         marked-long : length now ≡ length work
         marked-long =
@@ -187,82 +187,85 @@ module _ {priorities : List ℕ} {m s held levels k bound : ℕ} {work : List �
               below = λ v h. given .below v (sym (marked-level k v) ∙ h);
             }
 
-        pub descend-beginnable : Beginnable n m p s held (levels + k * s) (entries n m) (marked s held k p work)
-        descend-beginnable =
-            subst₂ (λ (h l : ℕ). Beginnable n m p s h (l + k * s) (entries n m) (marked s h k p work))
-            (sym (given .held-is))
-            (sym (given .levels-is))
-            beginnable
+        module _ {depth row : ℕ} (at : depth ≡ held + 3 * s) (here : row ≡ entries (length priorities) m) where
+          pub descend-beginnable : Beginnable n m p s held (levels + k * s) row (marked depth k p work)
+          descend-beginnable =
+              subst₂ (λ (d e : ℕ). Beginnable n m p s held (levels + k * s) e (marked d k p work)) (sym at) (sym here)
+              (subst₂ (λ (h l : ℕ). Beginnable n m p s h (l + k * s) (entries n m) (marked (h + 3 * s) k p work))
+              (sym (given .held-is))
+              (sym (given .levels-is))
+              beginnable)
 
-        -- **Level k is the current one.**
-        pub descended :
-            {after : List ℕ} →
-            ((xs : List ℕ) →
-            SetsOf n xs n (free n m) (marked s held k p work) →
-            Begun n xs p s held (levels + k * s) (entries n m) (marked s held k p work) after) →
-            Descended priorities m s k p work after
-        descended {after} gives =
-            record {
-              long = began .long ∙ marked-long;
-              highest = is-highest;
-              top =
-                  stays (topsAt n m s + k) (inr (omega arith)) (inr (omega arith)) (inl (omega (arith, given .depth))) ∙
-                  getD-set-other (set work (topsAt n m s + k) p) (depthAt n m s) (topsAt n m s + k) k 0 (λ e. omega arith) ∙
-                  getD-set-same work (topsAt n m s + k) p 0 (omega (arith, level-room, given .depth));
-              depth =
-                  stays (depthAt n m s) (inr (omega arith)) (inr (omega arith)) (inl (omega arith)) ∙
-                  getD-set-same (set work (topsAt n m s + k) p) (depthAt n m s) k 0
-                  (omega (arith, length-set work (topsAt n m s + k) p, level-room));
-              tops =
-                  λ j l.
-                  stays (topsAt n m s + j) (inr (omega arith)) (inr (omega arith)) (inl (omega (arith, given .depth))) ∙
-                  marked-rest (topsAt n m s + j) (λ e. omega arith) (λ e. omega arith);
-              levels = λ j v l. level-stays j v l ∙ marked-level j v;
-              last =
-                  λ v.
-                  ap (λ (at : ℕ). setAt n at after v) (next-place s (levelsAt n m s) k) ∙
-                  began .last v ∙
-                  ap (λ (b : Bool). b && not (eqb (getD priorities v 0) p)) (marked-level k v);
-              region = λ v. began .region v ∙ ap (λ (b : Bool). b && eqb (getD priorities v 0) p) (marked-level k v);
-              forgotten = began .forgotten;
-              others =
-                  λ v l h.
-                  began .others v l h ∙ marked-rest (entries n m + v) (λ e. omega arith) (λ e. omega arith);
-              rest =
-                  λ i e h d t b.
-                  began .rest i e h (rw (next-place s (levelsAt n m s) k) at b) ∙ marked-rest i d t;
-            }
-          where
-            sets : SetsOf n priorities n (free n m) (marked s held k p work)
-            sets =
-                sets-stay n priorities n (free n m) work (marked s held k p work)
-                (λ i low high.
-                getD-set-other (set work (held + 3 * s + 1 + k) p) (held + 3 * s) i k 0
-                (λ e. omega (arith, given .held-is, given .size)) ∙
-                getD-set-other work (held + 3 * s + 1 + k) i p 0 (λ e. omega (arith, given .held-is, given .size)))
-                (given .sorted)
+          -- **Level k is the current one.**
+          pub descended :
+              {after : List ℕ} →
+              ((xs : List ℕ) →
+              SetsOf n xs n (free n m) (marked depth k p work) →
+              Begun n xs p s held (levels + k * s) row (marked depth k p work) after) →
+              Descended priorities m s k p work after
+          descended {after} gives =
+              record {
+                long = began .long ∙ marked-long;
+                highest = is-highest;
+                top =
+                    stays (topsAt n m s + k) (inr (omega arith)) (inr (omega arith)) (inl (omega (arith, given .depth))) ∙
+                    getD-set-other (set work (topsAt n m s + k) p) (depthAt n m s) (topsAt n m s + k) k 0 (λ e. omega arith) ∙
+                    getD-set-same work (topsAt n m s + k) p 0 (omega (arith, level-room, given .depth));
+                depth =
+                    stays (depthAt n m s) (inr (omega arith)) (inr (omega arith)) (inl (omega arith)) ∙
+                    getD-set-same (set work (topsAt n m s + k) p) (depthAt n m s) k 0
+                    (omega (arith, length-set work (topsAt n m s + k) p, level-room));
+                tops =
+                    λ j l.
+                    stays (topsAt n m s + j) (inr (omega arith)) (inr (omega arith)) (inl (omega (arith, given .depth))) ∙
+                    marked-rest (topsAt n m s + j) (λ e. omega arith) (λ e. omega arith);
+                levels = λ j v l. level-stays j v l ∙ marked-level j v;
+                last =
+                    λ v.
+                    ap (λ (at : ℕ). setAt n at after v) (next-place s (levelsAt n m s) k) ∙
+                    began .last v ∙
+                    ap (λ (b : Bool). b && not (eqb (getD priorities v 0) p)) (marked-level k v);
+                region = λ v. began .region v ∙ ap (λ (b : Bool). b && eqb (getD priorities v 0) p) (marked-level k v);
+                forgotten = began .forgotten;
+                others =
+                    λ v l h.
+                    began .others v l h ∙ marked-rest (entries n m + v) (λ e. omega arith) (λ e. omega arith);
+                rest =
+                    λ i e h d t b.
+                    began .rest i e h (rw (next-place s (levelsAt n m s) k) at b) ∙ marked-rest i d t;
+              }
+            where
+              sets : SetsOf n priorities n (free n m) (marked depth k p work)
+              sets =
+                  sets-stay n priorities n (free n m) work (marked depth k p work)
+                  (λ i low high.
+                  getD-set-other (set work (depth + 1 + k) p) depth i k 0
+                  (λ e. omega (arith, at, given .held-is, given .size)) ∙
+                  getD-set-other work (depth + 1 + k) i p 0 (λ e. omega (arith, at, given .held-is, given .size)))
+                  (given .sorted)
 
-            began : Begun n priorities p s (heldAt n m s) base (entries n m) now after
-            began =
-                subst₂ (λ (h l : ℕ). Begun n priorities p s h (l + k * s) (entries n m) (marked s h k p work) after)
-                (given .held-is)
-                (given .levels-is)
-                (gives priorities sets)
+              began : Begun n priorities p s (heldAt n m s) base (entries n m) now after
+              began =
+                  subst₂ (λ (h l : ℕ). Begun n priorities p s h (l + k * s) (entries n m) (marked (h + 3 * s) k p work) after)
+                  (given .held-is)
+                  (given .levels-is)
+                  (subst₂ (λ (d e : ℕ). Begun n priorities p s held (levels + k * s) e (marked d k p work) after) at here
+                  (gives priorities sets))
 
-            -- words that no part of the beginning touches
-            stays :
-                (i : ℕ) →
-                Beside n (entries n m) i →
-                Beside s (heldAt n m s) i →
-                Beside s (base + s) i →
-                getD after i 0 ≡ getD now i 0
-            stays = began .rest
+              -- words that no part of the beginning touches
+              stays :
+                  (i : ℕ) →
+                  Beside n (entries n m) i →
+                  Beside s (heldAt n m s) i →
+                  Beside s (base + s) i →
+                  getD after i 0 ≡ getD now i 0
+              stays = began .rest
 
-            level-stays : (j v : ℕ) → j ≤ k → levelIn n m s after j v ≡ levelIn n m s now j v
-            level-stays j v l =
-                set-kept n (levelAt n m s j) now after
-                (λ i low high.
-                let apart = levels-apart s (levelsAt n m s) j (k + 1) (omega arith) in
-                stays i (inr (omega arith)) (inr (omega arith))
-                (inl (omega (arith, given .size, next-place s (levelsAt n m s) k))))
-                v
+              level-stays : (j v : ℕ) → j ≤ k → levelIn n m s after j v ≡ levelIn n m s now j v
+              level-stays j v l =
+                  set-kept n (levelAt n m s j) now after
+                  (λ i low high.
+                  let apart = levels-apart s (levelsAt n m s) j (k + 1) (omega arith) in
+                  stays i (inr (omega arith)) (inr (omega arith))
+                  (inl (omega (arith, given .size, next-place s (levelsAt n m s) k))))
+                  v

@@ -1,4 +1,6 @@
 // One set without another, and how a level begins.
+use crate::places::depth_at;
+use area::Area;
 use highest_priority::get_highest_prio;
 use parity_game::Priority;
 use walk::Members;
@@ -86,11 +88,12 @@ pub fn descend(
 {
     let n = priorities.len();
     let base = levels + k * s;
-    let depth = held + 3 * s;
+    let depth = depth_at(held, s);
+    let entries = Area { n, m, s }.entries();
     let top = get_highest_prio(priorities, &work[base..base + s], bound);
     let p = top.0;
     work[depth + 1 + k] = p as u64;
     work[depth] = k as u64;
-    begin_level(n, m, p, s, work, held, base, n + 1 + m + n + n);
+    begin_level(n, m, p, s, work, held, base, entries);
     Priority(p)
 }

@@ -7,5 +7,6 @@ pub use levels::begin_level;
 pub use levels::descend;
 pub use levels::forget;
 pub use levels::without;
+pub use places::depth_at;
 pub use places::held_at;
 pub use places::levels_at;

@@ -1,6 +1,6 @@
-// Where R and the levels stand in the work area.
+// Where R, the number of the current level and the levels stand in the work area.
 ghost use mathlib.Core.Path.{_≡_};
-ghost use Prim.Native.Nat.{_+_, _≤_};
+ghost use Prim.Native.Nat.{_+_, _*_, _≤_, _<_, _^_};
 ghost use Rattle.priority_sets.specs.Sorting.{Placeable};
 ghost use Rattle.promotion_levels.specs.Layout.{heldAt, deep};
 
@@ -11,6 +11,14 @@ pub fn held_at(n: usize, m: usize, s: usize) -> usize
 {
     let last = priority_sets::set_at(n, m, s, 255);
     last + s
+}
+
+// The number of the current level stands behind three sets at `held`: R, and what Even and Odd have won.
+pub fn depth_at(held: usize, s: usize) -> usize
+    requires { ⌜ held + 3 * s < 2 ^ 64 ⌝ }
+    ensures { λ r. ⌜ r ≡ held + 3 * s ⌝ }
+{
+    held + 3 * s
 }
 
 // The levels stand behind the number of the current one, which is at `depth`, and behind their priorities: one for each

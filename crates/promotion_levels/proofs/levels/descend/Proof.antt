@@ -6,9 +6,12 @@ use borrow.Author.Needs.{needs}
 use Rattle.promotion_levels.proofs.levels.descend.Statement.{statement}
 use Rattle.promotion_levels.proofs.levels.descend.Tie as tie
 
--- where the function begins
-abbrev start-of : tie.After-get-highest-prio → tie.Start
-start-of c = c .before .before .before .before .before
+-- where the function begins, and where the places are known
+abbrev start-of : tie.After-entries → tie.Start
+start-of c = c .before .before .before .before
+
+abbrev placed : tie.After-get-highest-prio → tie.After-entries
+placed c = c .before .before .before
 
 mul-base : tie.Need-mul-base
 mul-base c = let g = c .before .before in omega (arith, descend-room (g .pre), g .good)
@@ -16,17 +19,17 @@ mul-base c = let g = c .before .before in omega (arith, descend-room (g .pre), g
 add-base : tie.Need-add-base
 add-base c = let g = c .before .before in omega (arith, descend-room (g .pre), g .good)
 
-mul-depth : tie.Need-mul-depth
-mul-depth c = search needs
+depth-at-requires : tie.Need-depth-at-requires
+depth-at-requires c κs = search needs
 
-add-depth : tie.Need-add-depth
-add-depth c = search needs
+entries-requires : tie.Need-entries-requires
+entries-requires c κs = search needs
 
 add-get-highest-prio : tie.Need-add-get-highest-prio
-add-get-highest-prio c = let g = c .before .before in omega (arith, descend-room (g .pre), g .good)
+add-get-highest-prio c = let g = start-of c in omega (arith, descend-room (g .pre), g .good)
 
 mul-get-highest-prio : tie.Need-mul-get-highest-prio
-mul-get-highest-prio c = let g = c .before .before in omega (arith, descend-room (g .pre), g .good)
+mul-get-highest-prio c = let g = start-of c in omega (arith, descend-room (g .pre), g .good)
 
 sub-get-highest-prio : tie.Need-sub-get-highest-prio
 sub-get-highest-prio c = search needs
@@ -35,10 +38,10 @@ part-get-highest-prio-start : tie.Need-part-get-highest-prio-start
 part-get-highest-prio-start c = search needs
 
 part-get-highest-prio-end : tie.Need-part-get-highest-prio-end
-part-get-highest-prio-end c = omega (arith, descend-room (c .before .before .before .pre))
+part-get-highest-prio-end c = omega (arith, descend-room (start-of (c .before) .pre))
 
 get-highest-prio-requires : tie.Need-get-highest-prio-requires
-get-highest-prio-requires c κs = descend-searchable (c .before .before .before .before .pre)
+get-highest-prio-requires c κs = descend-searchable (start-of (c .before .before) .pre)
 
 add-work : tie.Need-add-work
 add-work c = search needs
@@ -56,29 +59,21 @@ mul-work-2 : tie.Need-mul-work-2
 mul-work-2 c = search needs
 
 slice-write-work-2 : tie.Need-slice-write-work-2
-slice-write-work-2 c = descend-second (start-of c .pre) _
-
-add-begin-level : tie.Need-add-begin-level
-add-begin-level c = search needs
-
-add-begin-level-2 : tie.Need-add-begin-level-2
-add-begin-level-2 c = search needs
-
-add-begin-level-3 : tie.Need-add-begin-level-3
-add-begin-level-3 c = search needs
-
-add-begin-level-4 : tie.Need-add-begin-level-4
-add-begin-level-4 c = search needs
+slice-write-work-2 c = let e = placed c in descend-second (start-of e .pre) (e .before .depth-at .ensures) _
 
 begin-level-requires : tie.Need-begin-level-requires
 begin-level-requires c κs =
-    let found = c .before in descend-beginnable (start-of found .pre) (found .get-highest-prio .ensures)
+    let found = c .before in
+    let e = placed found in
+    descend-beginnable (start-of e .pre) (found .get-highest-prio .ensures) (e .before .depth-at .ensures) (e .entries .ensures)
 
 returns : tie.Need-returns
 returns c =
     let began = c .before .before in
     let found = began .before .before in
-    descended (start-of found .pre) (found .get-highest-prio .ensures) (began .begin-level .ensures)
+    let e = placed found in
+    descended (start-of e .pre) (found .get-highest-prio .ensures) (e .before .depth-at .ensures) (e .entries .ensures)
+    (began .begin-level .ensures)
 
 same-length : tie.Need-same-length
 same-length c = returns c .long
@@ -89,8 +84,8 @@ descend-spec =
     (tie.spec
     mul-base
     add-base
-    mul-depth
-    add-depth
+    depth-at-requires
+    entries-requires
     add-get-highest-prio
     mul-get-highest-prio
     sub-get-highest-prio
@@ -103,10 +98,6 @@ descend-spec =
     slice-write-work
     mul-work-2
     slice-write-work-2
-    add-begin-level
-    add-begin-level-2
-    add-begin-level-3
-    add-begin-level-4
     begin-level-requires
     same-length
     returns)
