@@ -82,8 +82,9 @@ module _ {n : ℕ} {priorities offsets targets : List ℕ} {s levels : ℕ} {wor
 
 -- what a round begins with: R, the levels and the number of the current one as the code has them, room for two levels more, and
 -- entries inside the regions
-pub record Begins (owners priorities offsets targets : List ℕ) (s current held levels k : ℕ) (work : List ℕ) : Type 0 where
+pub record Begins (owners priorities offsets targets : List ℕ) (s current held depth levels k : ℕ) (work : List ℕ) : Type 0 where
   pub held-is : held ≡ heldAt (length owners) (length targets) s
+  pub depth-is : depth ≡ depthAt (length owners) (length targets) s
   pub levels-is : levels ≡ levelsAt (length owners) (length targets) s
   pub k-is : k ≡ depthIn (length owners) (length targets) s work
   pub room : levels + k * s + s + s + s ≤ endAt (length owners) (length targets) s
@@ -109,15 +110,17 @@ module _ {owners priorities offsets targets : List ℕ} {s current left rounds :
         (omega (arith, deeper (length owners) depth0 (levels-below (ready .nests) (ready .proper) v i) (few-levels (ready .nests))))
 
     pub begins-by :
-        {held levels : ℕ} → held ≡ heldAt (length owners) (length targets) s → levels ≡ held + 3 * s + 1 + deep (length owners) →
-        Begins owners priorities offsets targets s current held levels (getD work (held + 3 * s) 0) work
-    begins-by {held} {levels} h l =
+        {held depth levels : ℕ} → held ≡ heldAt (length owners) (length targets) s → depth ≡ held + 3 * s →
+        levels ≡ depth + 1 + deep (length owners) →
+        Begins owners priorities offsets targets s current held depth levels (getD work depth 0) work
+    begins-by {held} {depth} {levels} h d l =
         record {
           held-is = h;
+          depth-is = depth-is;
           levels-is = levels-is;
           k-is = k-is;
           room =
-              let base : levels + getD work (held + 3 * s) 0 * s ≡ levelAt (length owners) (length targets) s depth0 =
+              let base : levels + getD work depth 0 * s ≡ levelAt (length owners) (length targets) s depth0 =
               ap₂ (λ (x y : ℕ). x + y * s) levels-is k-is in
               let after = next-level (length owners) (length targets) s depth0 in
               let behind = next-level (length owners) (length targets) s (suc depth0) in
@@ -133,10 +136,13 @@ module _ {owners priorities offsets targets : List ℕ} {s current left rounds :
         }
       where
         levels-is : levels ≡ levelsAt (length owners) (length targets) s
-        levels-is = omega (arith, h, l)
+        levels-is = omega (arith, h, d, l)
 
-        k-is : getD work (held + 3 * s) 0 ≡ depth0
-        k-is = ap (λ (x : ℕ). getD work (x + 3 * s) 0) h
+        depth-is : depth ≡ depthAt (length owners) (length targets) s
+        depth-is = omega (arith, h, d)
+
+        k-is : getD work depth 0 ≡ depth0
+        k-is = ap (λ (x : ℕ). getD work x 0) depth-is
 
 -- words behind the levels stay where one begins
 descended-rest :
@@ -195,12 +201,13 @@ module _ {owners priorities offsets targets : List ℕ} (ok : Accepted (tablesOf
           small = omega arith;
         }
 
-    pub round-depth : {held : ℕ} → held ≡ heldAt (length owners) (length targets) s → held + 3 * s ≤ 65535
-    round-depth is =
+    pub round-depth :
+        {held depth : ℕ} → held ≡ heldAt (length owners) (length targets) s → depth ≡ held + 3 * s → depth ≤ 65535
+    round-depth is at =
         let few = words-few n (shows .ready .edges .few-vertices) in
-        omega (arith, is, shows .ready .size, shows .ready .edges .few-vertices, shows .ready .edges .few-edges)
+        omega (arith, is, at, shows .ready .size, shows .ready .edges .few-vertices, shows .ready .edges .few-edges)
 
-    module _ {held levels k : ℕ} (at : Begins owners priorities offsets targets s current held levels k w0) where
+    module _ {held depth levels k : ℕ} (at : Begins owners priorities offsets targets s current held depth levels k w0) where
       held-is : held ≡ heldAt n m s
       held-is = at .held-is
 
@@ -427,21 +434,23 @@ module _ {owners priorities offsets targets : List ℕ} (ok : Accepted (tablesOf
                       HighestLevel owners offsets targets (p % 2) (heldIn n m s w2) (levelIn n m s w2) (depthIn n m s w2) x)
                       e high
 
-                  pub top-fits : held + 3 * s + j < levels
-                  top-fits = omega (arith, held-is, levels-is, down, ready2 .depth)
+                  pub top-fits : depth + j < levels
+                  top-fits = omega (arith, at .depth-is, levels-is, down, ready2 .depth)
 
-                  pub round-promotable : Promotable s held (held + 3 * s) (levels + (j - 1) * s) w2
+                  pub round-promotable : Promotable s held depth (levels + (j - 1) * s) w2
                   round-promotable =
-                      subst₂ (λ (h l : ℕ). Promotable s h (h + 3 * s) (l + (j - 1) * s) w2) (sym held-is) (sym levels-is)
-                      (promote-ready ready2 (j - 1) down)
+                      subst₂ (λ (h l : ℕ). Promotable s h depth (l + (j - 1) * s) w2) (sym held-is) (sym levels-is)
+                      (subst (λ (d : ℕ). Promotable s (heldAt n m s) d (levelAt n m s (j - 1)) w2) (sym (at .depth-is))
+                      (promote-ready ready2 (j - 1) down))
 
                   module _ {w3 : List ℕ}
-                      (made3 : PromotedTo (length owners) s held (held + 3 * s) (levels + (j - 1) * s) (j - 1) w2 w3)
+                      (made3 : PromotedTo (length owners) s held depth (levels + (j - 1) * s) (j - 1) w2 w3)
                     where
                       c3 : PromotedTo n s (heldAt n m s) (depthAt n m s) (levelAt n m s (j - 1)) (j - 1) w2 w3
                       c3 =
-                          subst₂ (λ (h l : ℕ). PromotedTo n s h (h + 3 * s) (l + (j - 1) * s) (j - 1) w2 w3) held-is
-                          levels-is made3
+                          subst₂ (λ (h l : ℕ). PromotedTo n s h (depthAt n m s) (l + (j - 1) * s) (j - 1) w2 w3) held-is
+                          levels-is
+                          (subst (λ (d : ℕ). PromotedTo n s held d (levels + (j - 1) * s) (j - 1) w2 w3) (at .depth-is) made3)
 
                       pub promoted-same :
                           (length w3 ≡ length w0) ×
@@ -458,12 +467,12 @@ module _ {owners priorities offsets targets : List ℕ} (ok : Accepted (tablesOf
                           Shows owners priorities offsets targets s
                           (roundOf (gameOf (tablesOf owners priorities offsets targets))
                           (afterRounds (gameOf (tablesOf owners priorities offsets targets)) made))
-                          (getD w2 (held + 3 * s + j) 0) left w3 ×
+                          (getD w2 (depth + j) 0) left w3 ×
                           RoundEntries (gameOf (tablesOf owners priorities offsets targets))
                           (afterRounds (gameOf (tablesOf owners priorities offsets targets)) made)
                           (entryIn (length owners) (length targets) s w0) (entryIn (length owners) (length targets) s w3)
                       round-promotes =
-                          let e : topsAt n m s + (j - 1) ≡ held + 3 * s + j = omega (arith, held-is) in
+                          let e : topsAt n m s + (j - 1) ≡ depth + j = omega (arith, at .depth-is) in
                           subst
                           (λ (x : ℕ).
                           Shows owners priorities offsets targets s (roundOf g r) (getD w2 x 0) left w3 ×

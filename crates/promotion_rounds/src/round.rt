@@ -1,6 +1,8 @@
 // One round on plain slices, with the small state by value.
+use area::Area;
 use highest_priority::one_less;
 use parity_game::Priority;
+use promotion_levels::depth_at;
 use promotion_levels::descend;
 use promotion_levels::held_at;
 use promotion_levels::levels_at;
@@ -39,7 +41,7 @@ pub fn round(
     let n = owners.len();
     let m = targets.len();
     let held = held_at(n, m, s);
-    let depth = held + 3 * s;
+    let depth = depth_at(held, s);
     let levels = levels_at(n, depth);
     let k = work[depth] as usize;
     let base = levels + k * s;
@@ -58,7 +60,7 @@ pub fn round(
             rounds,
         };
     }
-    let entry = n + 1 + m + n + n;
+    let entry = Area { n, m, s }.entries();
     assign_missing_strategies(owners, offsets, targets, alpha, s, work, heads, held, entry);
     let j = best_escape(owners, offsets, targets, alpha, s, work, held, levels, k);
     if 0 < j {

@@ -1,10 +1,12 @@
 -- `round` meets its contract: each call finds what it asks for, and the three ways out are the three kinds of round.
 use mathlib.Core.Path.{_≡_, refl}
-use Prim.Native.Nat.{ℕ, _+_, _-_, _*_, _≤_, _<_}
+use Prim.Native.Nat.{ℕ, _+_, _-_, _*_, _%_, _≤_, _<_, _^_}
 use native.Mathlib.Omega.{arith}
 use lib.ListN.{length, getD}
+use Rattle.area.specs.Area.{entries}
 use Rattle.promotion_levels.specs.Layout.{endAt, Ready}
 use Rattle.promotion_region.specs.Query.{Queried}
+use Rattle.promotion_moves.specs.Filling.{FilledAll}
 use Rattle.promotion_moves.specs.Promotion.{Promotable}
 use Rattle.promotion_rounds.specs.Round.{Begins, begins-by, round-places, round-depth, base-room, round-query}
 use Rattle.promotion_rounds.specs.Round.{round-openable, round-descend, opened-same, round-opens, round-fill}
@@ -19,25 +21,28 @@ use Rattle.promotion_rounds.proofs.round.round.Tie as tie
 abbrev first : tie.After-held-at → tie.Start
 first h = h .before .before .before .before .before .before
 
+abbrev begun : tie.After-levels-at → tie.Start
+begun l = first (l .before .before)
+
 abbrev placed : tie.After-query → tie.After-levels-at
 placed q = q .before .before .before .before
 
 -- R, the levels and the current level's number are where they should be, with what else a round begins with
 at :
     (l : tie.After-levels-at) →
-    let a = first (l .before) .args in
-    let h = l .before .held-at .result in
-    Begins (a .owners .now) (a .priorities .now) (a .offsets .now) (a .targets .now) (a .s) (a .state .current .0) h
-    (l .levels-at .result) (getD (a .work .now) (h + 3 * a .s) 0) (a .work .now)
-at l = begins-by (first (l .before) .pre) (l .before .held-at .ensures) (l .levels-at .ensures)
+    let a = begun l .args in
+    let d = l .before .depth-at .result in
+    Begins (a .owners .now) (a .priorities .now) (a .offsets .now) (a .targets .now) (a .s) (a .state .current .0)
+    (l .before .before .held-at .result) d (l .levels-at .result) (getD (a .work .now) d 0) (a .work .now)
+at l = begins-by (begun l .pre) (l .before .before .held-at .ensures) (l .before .depth-at .ensures) (l .levels-at .ensures)
 
 -- the two levels after the current one have room
 room :
     (l : tie.After-levels-at) →
-    let a = first (l .before) .args in
-    let k = getD (a .work .now) (l .before .held-at .result + 3 * a .s) 0 in
+    let a = begun l .args in
+    let k = getD (a .work .now) (l .before .depth-at .result) 0 in
     l .levels-at .result + k * a .s + a .s + a .s + a .s ≤ length (a .work .now)
-room l = let g = first (l .before) in base-room (g .pre .accepted) (g .pre .made) (g .pre .shows) (at l)
+room l = let g = begun l in base-room (g .pre .accepted) (g .pre .made) (g .pre .shows) (at l)
 
 -- the query, where it is known whether R is open
 abbrev asked : tie.After-is-open → tie.After-query
@@ -45,7 +50,7 @@ asked o = o .before .before .before .before
 
 -- the same where the entries are filled, where the escape is known, and where the first level has begun again
 abbrev told : tie.After-assign-missing-strategies → tie.After-is-open
-told f = f .before .before .before
+told f = f .before .before .before .before
 
 abbrev filled : tie.After-best-escape → tie.After-assign-missing-strategies
 filled b = b .before .before .before .before
@@ -56,29 +61,27 @@ solved t = t .before .before .before .before
 -- what the query did
 queried :
     (q : tie.After-query) →
-    let a = first (placed q .before) .args in
+    let a = begun (placed q) .args in
     Queried (a .owners .now) (a .priorities .now) (a .offsets .now) (a .targets .now) (a .s) (a .state .current .0) (a .work .now)
     (q .query .last .1 .1 .1 .1 .1 .0)
 queried q =
-    let g = first (placed q .before) in q .query .ensures (g .args .priorities .now) (g .pre .accepted) (g .pre .shows .ready)
+    let g = begun (placed q) in q .query .ensures (g .args .priorities .now) (g .pre .accepted) (g .pre .shows .ready)
 
 held-at-requires : tie.Need-held-at-requires
 held-at-requires c κs =
     let g = c .before .before .before .before .before in round-places (g .pre .accepted) (g .pre .made) (g .pre .shows)
 
-mul-depth : tie.Need-mul-depth
-mul-depth c =
+depth-at-requires : tie.Need-depth-at-requires
+depth-at-requires c κs =
     let g = first c in
-    let low = round-depth (g .pre .accepted) (g .pre .made) (g .pre .shows) (c .held-at .ensures) in omega (arith, low)
-
-add-depth : tie.Need-add-depth
-add-depth c =
-    let g = first c in
-    let low = round-depth (g .pre .accepted) (g .pre .made) (g .pre .shows) (c .held-at .ensures) in omega (arith, low)
+    let low = round-depth (g .pre .accepted) (g .pre .made) (g .pre .shows) (c .held-at .ensures) refl in
+    let small : c .held-at .result + 3 * g .args .s < 2 ^ 64 = omega (arith, low) in
+    small
 
 levels-at-requires : tie.Need-levels-at-requires
 levels-at-requires c κs =
-    let g = first c in round-depth (g .pre .accepted) (g .pre .made) (g .pre .shows) (c .held-at .ensures)
+    let g = first (c .before) in
+    round-depth (g .pre .accepted) (g .pre .made) (g .pre .shows) (c .before .held-at .ensures) (c .depth-at .ensures)
 
 mul-k : tie.Need-mul-k
 mul-k c = search needs
@@ -89,12 +92,12 @@ slice-read-k c = search needs
 mul-base : tie.Need-mul-base
 mul-base c =
     let l = c .before in
-    omega (arith, room l, first (l .before) .good)
+    omega (arith, room l, begun l .good)
 
 add-base : tie.Need-add-base
 add-base c =
     let l = c .before in
-    omega (arith, room l, first (l .before) .good)
+    omega (arith, room l, begun l .good)
 
 cast-alpha : tie.Need-cast-alpha
 cast-alpha c = search needs
@@ -105,24 +108,24 @@ add-rounds c = search needs
 add-below : tie.Need-add-below
 add-below c =
     let l = c .before .before in
-    omega (arith, room l, first (l .before) .good)
+    omega (arith, room l, begun l .good)
 
 add-heads : tie.Need-add-heads
 add-heads c =
     let l = c .before .before in
-    omega (arith, room l, first (l .before) .good)
+    omega (arith, room l, begun l .good)
 
 query-requires : tie.Need-query-requires
 query-requires c κs =
     let l = c .before .before .before in
-    let g = first (l .before) in
+    let g = begun l in
     round-query (g .pre .accepted) (g .pre .made) (g .pre .shows) (at l)
 
 is-open-requires : tie.Need-is-open-requires
 is-open-requires c κs =
     let q = c .before .before .before in
     let l = placed q in
-    let g = first (l .before) in
+    let g = begun l in
     round-openable (g .pre .accepted) (g .pre .made) (g .pre .shows) (at l) (queried q)
 
 one-less-requires : tie.Need-one-less-requires
@@ -134,7 +137,7 @@ add-descend c =
     let o = i .before in
     let q = asked o in
     let l = placed q in
-    let g = first (l .before) in
+    let g = begun l in
     let down =
     round-descend (g .pre .accepted) (g .pre .made) (g .pre .shows) (at l) (queried q) (o .is-open .ensures) (i .if1 .taken)
     refl in
@@ -146,7 +149,7 @@ descend-requires c κs =
     let o = i .before in
     let q = asked o in
     let l = placed q in
-    let g = first (l .before) in
+    let g = begun l in
     round-descend (g .pre .accepted) (g .pre .made) (g .pre .shows) (at l) (queried q) (o .is-open .ensures) (i .if1 .taken)
     (c .before .one-less .ensures)
 
@@ -160,7 +163,7 @@ returns c =
     let o = i .before in
     let q = asked o in
     let l = placed q in
-    let g = first (l .before) in
+    let g = begun l in
     let same =
     opened-same (g .pre .accepted) (g .pre .made) (g .pre .shows) (at l) (queried q) (o .is-open .ensures) (i .if1 .taken)
     (d .descend .ensures) in
@@ -173,66 +176,69 @@ returns c =
       rest = same .1;
     }
 
-add-entry : tie.Need-add-entry
-add-entry c = search needs
-
-add-entry-2 : tie.Need-add-entry-2
-add-entry-2 c = search needs
-
-add-entry-3 : tie.Need-add-entry-3
-add-entry-3 c = search needs
-
-add-entry-4 : tie.Need-add-entry-4
-add-entry-4 c = search needs
+entries-requires : tie.Need-entries-requires
+entries-requires c κs = search needs
 
 assign-missing-strategies-requires : tie.Need-assign-missing-strategies-requires
 assign-missing-strategies-requires c κs =
-    let q = asked (c .before .before) in
+    let q = asked (c .before .before .before) in
     let l = placed q in
-    let g = first (l .before) in
-    round-fill (g .pre .accepted) (g .pre .made) (g .pre .shows) (at l) (queried q)
+    let g = begun l in
+    rw (c .before .entries .ensures) (round-fill (g .pre .accepted) (g .pre .made) (g .pre .shows) (at l) (queried q))
+
+-- the missing entries are given
+filling :
+    (f : tie.After-assign-missing-strategies) →
+    let q = asked (told f) in
+    let l = placed q in
+    let a = begun l .args in
+    let k = getD (a .work .now) (l .before .depth-at .result) 0 in
+    FilledAll (a .owners .now) (a .offsets .now) (a .targets .now) (a .state .current .0 % 2)
+    (l .levels-at .result + k * a .s + a .s + a .s) (l .before .before .held-at .result)
+    (entries (length (a .owners .now)) (length (a .targets .now)))
+    (q .query .last .1 .1 .1 .1 .1 .0) (f .assign-missing-strategies .last .1 .1 .1 .1 .1 .0)
+filling f = rw (f .before .before .entries .ensures) at (f .assign-missing-strategies .ensures)
 
 best-escape-requires : tie.Need-best-escape-requires
 best-escape-requires c κs =
     let f = c .before .before .before in
     let q = asked (told f) in
     let l = placed q in
-    let g = first (l .before) in
-    round-escapable (g .pre .accepted) (g .pre .made) (g .pre .shows) (at l) (queried q) (f .assign-missing-strategies .ensures)
+    let g = begun l in
+    round-escapable (g .pre .accepted) (g .pre .made) (g .pre .shows) (at l) (queried q) (filling f)
 
 -- the entries are filled: the work area is as long as it was
 long2 :
     (f : tie.After-assign-missing-strategies) →
     length (f .assign-missing-strategies .last .1 .1 .1 .1 .1 .0) ≡
-    length (first (placed (asked (told f)) .before) .args .work .now)
+    length (begun (placed (asked (told f))) .args .work .now)
 long2 f =
     let q = asked (told f) in
     let l = placed q in
-    let g = first (l .before) in
-    filled-long (g .pre .accepted) (g .pre .made) (g .pre .shows) (at l) (queried q) (f .assign-missing-strategies .ensures)
+    let g = begun l in
+    filled-long (g .pre .accepted) (g .pre .made) (g .pre .shows) (at l) (queried q) (filling f)
 
 -- there is a region to promote to: its priority stands before the levels, and `promote` may run
 fits :
     (c : tie.Then2) →
     let l = placed (asked (told (filled (c .before)))) in
-    l .before .held-at .result + 3 * first (l .before) .args .s + c .before .best-escape .result < l .levels-at .result
+    l .before .depth-at .result + c .before .best-escape .result < l .levels-at .result
 fits c =
     let b = c .before in
     let f = filled b in
     let o = told f in
     let q = asked o in
     let l = placed q in
-    let g = first (l .before) in
-    top-fits (g .pre .accepted) (g .pre .made) (g .pre .shows) (at l) (queried q) (f .assign-missing-strategies .ensures)
-    (o .is-open .ensures) (f .before .before .if1 .left) (b .best-escape .ensures) (c .if2 .taken)
+    let g = begun l in
+    top-fits (g .pre .accepted) (g .pre .made) (g .pre .shows) (at l) (queried q) (filling f)
+    (o .is-open .ensures) (f .before .before .before .if1 .left) (b .best-escape .ensures) (c .if2 .taken)
 
 able :
     (c : tie.Then2) →
     let f = filled (c .before) in
     let l = placed (asked (told f)) in
-    let h = l .before .held-at .result in
-    let s = first (l .before) .args .s in
-    Promotable s h (h + 3 * s) (l .levels-at .result + (c .before .best-escape .result - 1) * s)
+    let s = begun l .args .s in
+    Promotable s (l .before .before .held-at .result) (l .before .depth-at .result) (l .levels-at .result + (c .before .best-escape .result - 1) * s)
     (f .assign-missing-strategies .last .1 .1 .1 .1 .1 .0)
 able c =
     let b = c .before in
@@ -240,17 +246,17 @@ able c =
     let o = told f in
     let q = asked o in
     let l = placed q in
-    let g = first (l .before) in
-    round-promotable (g .pre .accepted) (g .pre .made) (g .pre .shows) (at l) (queried q) (f .assign-missing-strategies .ensures)
-    (o .is-open .ensures) (f .before .before .if1 .left) (b .best-escape .ensures) (c .if2 .taken)
+    let g = begun l in
+    round-promotable (g .pre .accepted) (g .pre .made) (g .pre .shows) (at l) (queried q) (filling f)
+    (o .is-open .ensures) (f .before .before .before .if1 .left) (b .best-escape .ensures) (c .if2 .taken)
 
 add-q : tie.Need-add-q
 add-q c =
-    let l = placed (asked (told (filled (c .before)))) in omega (arith, fits c, room l, first (l .before) .good)
+    let l = placed (asked (told (filled (c .before)))) in omega (arith, fits c, room l, begun l .good)
 
 mul-q : tie.Need-mul-q
 mul-q c =
-    let l = placed (asked (told (filled (c .before)))) in omega (arith, fits c, room l, first (l .before) .good)
+    let l = placed (asked (told (filled (c .before)))) in omega (arith, fits c, room l, begun l .good)
 
 slice-read-q : tie.Need-slice-read-q
 slice-read-q c =
@@ -264,14 +270,14 @@ mul-promote c =
     let i = c .before .before in
     let f = filled (i .before) in
     let more = able i in
-    omega (arith, more .high, long2 f, first (placed (asked (told f)) .before) .good)
+    omega (arith, more .high, long2 f, begun (placed (asked (told f))) .good)
 
 add-promote : tie.Need-add-promote
 add-promote c =
     let i = c .before .before in
     let f = filled (i .before) in
     let more = able i in
-    omega (arith, more .high, long2 f, first (placed (asked (told f)) .before) .good)
+    omega (arith, more .high, long2 f, begun (placed (asked (told f))) .good)
 
 sub-promote-2 : tie.Need-sub-promote-2
 sub-promote-2 c = search needs
@@ -291,18 +297,18 @@ returns-2 c =
     let o = told f in
     let q = asked o in
     let l = placed q in
-    let g = first (l .before) in
+    let g = begun l in
     let done = e .promote .ensures (length (g .args .owners .now)) (g .pre .shows .ready .size) in
     let same =
-    promoted-same (g .pre .accepted) (g .pre .made) (g .pre .shows) (at l) (queried q) (f .assign-missing-strategies .ensures)
-    (o .is-open .ensures) (f .before .before .if1 .left) (b .best-escape .ensures) (i .if2 .taken) done in
+    promoted-same (g .pre .accepted) (g .pre .made) (g .pre .shows) (at l) (queried q) (filling f)
+    (o .is-open .ensures) (f .before .before .before .if1 .left) (b .best-escape .ensures) (i .if2 .taken) done in
     record {
       long = same .0;
       counted = refl;
       shown =
           λ k sh.
-          round-promotes (g .pre .accepted) k sh (at l) (queried q) (f .assign-missing-strategies .ensures)
-          (o .is-open .ensures) (f .before .before .if1 .left) (b .best-escape .ensures) (i .if2 .taken) done;
+          round-promotes (g .pre .accepted) k sh (at l) (queried q) (filling f)
+          (o .is-open .ensures) (f .before .before .before .if1 .left) (b .best-escape .ensures) (i .if2 .taken) done;
       rest = same .1;
     }
 
@@ -313,9 +319,9 @@ solve-dominion-requires c κs =
     let o = told f in
     let q = asked o in
     let l = placed q in
-    let g = first (l .before) in
-    round-dominion (g .pre .accepted) (g .pre .made) (g .pre .shows) (at l) (queried q) (f .assign-missing-strategies .ensures)
-    (o .is-open .ensures) (f .before .before .if1 .left) (b .best-escape .ensures)
+    let g = begun l in
+    round-dominion (g .pre .accepted) (g .pre .made) (g .pre .shows) (at l) (queried q) (filling f)
+    (o .is-open .ensures) (f .before .before .before .if1 .left) (b .best-escape .ensures)
 
 descend-requires-2 : tie.Need-descend-requires-2
 descend-requires-2 c κs =
@@ -326,14 +332,14 @@ descend-requires-2 c κs =
     let o = told f in
     let q = asked o in
     let l = placed q in
-    let g = first (l .before) in
-    round-first (g .pre .accepted) (g .pre .made) (g .pre .shows) (at l) (queried q) (f .assign-missing-strategies .ensures)
-    (o .is-open .ensures) (f .before .before .if1 .left) (b .best-escape .ensures) (i .if2 .left)
+    let g = begun l in
+    round-first (g .pre .accepted) (g .pre .made) (g .pre .shows) (at l) (queried q) (filling f)
+    (o .is-open .ensures) (f .before .before .before .if1 .left) (b .best-escape .ensures) (i .if2 .left)
     (e .solve-dominion .ensures (g .args .priorities .now) (g .pre .accepted))
 
 -- where the function began, from where the first level has begun again
 abbrev origin : tie.After-descend2 → tie.Start
-origin t = first (placed (asked (told (filled (solved t .before .before .before)))) .before)
+origin t = begun (placed (asked (told (filled (solved t .before .before .before)))))
 
 -- what the work area is then
 ready4 :
@@ -349,9 +355,9 @@ ready4 t =
     let o = told f in
     let q = asked o in
     let l = placed q in
-    let g = first (l .before) in
-    solved-ready (g .pre .accepted) (g .pre .made) (g .pre .shows) (at l) (queried q) (f .assign-missing-strategies .ensures)
-    (o .is-open .ensures) (f .before .before .if1 .left) (b .best-escape .ensures) (i .if2 .left)
+    let g = begun l in
+    solved-ready (g .pre .accepted) (g .pre .made) (g .pre .shows) (at l) (queried q) (filling f)
+    (o .is-open .ensures) (f .before .before .before .if1 .left) (b .best-escape .ensures) (i .if2 .left)
     (e .solve-dominion .ensures (g .args .priorities .now) (g .pre .accepted)) (t .descend2 .ensures)
 
 same4 :
@@ -368,9 +374,9 @@ same4 t =
     let o = told f in
     let q = asked o in
     let l = placed q in
-    let g = first (l .before) in
-    solved-same (g .pre .accepted) (g .pre .made) (g .pre .shows) (at l) (queried q) (f .assign-missing-strategies .ensures)
-    (o .is-open .ensures) (f .before .before .if1 .left) (b .best-escape .ensures) (i .if2 .left)
+    let g = begun l in
+    solved-same (g .pre .accepted) (g .pre .made) (g .pre .shows) (at l) (queried q) (filling f)
+    (o .is-open .ensures) (f .before .before .before .if1 .left) (b .best-escape .ensures) (i .if2 .left)
     (e .solve-dominion .ensures (g .args .priorities .now) (g .pre .accepted)) (t .descend2 .ensures)
 
 add-size : tie.Need-add-size
@@ -418,14 +424,14 @@ returns-3 c =
     let o = told f in
     let q = asked o in
     let l = placed q in
-    let g = first (l .before) in
+    let g = begun l in
     record {
       long = same4 t .0;
       counted = refl;
       shown =
           λ k sh.
-          round-solves (g .pre .accepted) k sh (at l) (queried q) (f .assign-missing-strategies .ensures)
-          (o .is-open .ensures) (f .before .before .if1 .left) (b .best-escape .ensures) (i .if2 .left)
+          round-solves (g .pre .accepted) k sh (at l) (queried q) (filling f)
+          (o .is-open .ensures) (f .before .before .before .if1 .left) (b .best-escape .ensures) (i .if2 .left)
           (e .solve-dominion .ensures (g .args .priorities .now) (g .pre .accepted)) (t .descend2 .ensures)
           (left-counted (ready4 t) (at l .levels-is) (c .size .ensures));
       rest = same4 t .1;
@@ -436,8 +442,7 @@ round-spec =
     tie.close
     (tie.spec
     held-at-requires
-    mul-depth
-    add-depth
+    depth-at-requires
     levels-at-requires
     mul-k
     slice-read-k
@@ -454,10 +459,7 @@ round-spec =
     descend-requires
     same-length
     returns
-    add-entry
-    add-entry-2
-    add-entry-3
-    add-entry-4
+    entries-requires
     assign-missing-strategies-requires
     best-escape-requires
     add-q
