@@ -1,7 +1,10 @@
 // The solver, on accepted tables and their kept numbers: it checks all that it is lent, works in the first W words of
 // the work area, writes only when it answers, and leaves those words 0.
+use area::Area;
 use parity_game::Answer;
 use promotion_begin::begin;
+use promotion_levels::depth_at;
+use promotion_levels::held_at;
 use promotion_levels::levels_at;
 use promotion_rounds::round::State;
 use promotion_rounds::solve::solve;
@@ -45,9 +48,9 @@ fn run(
     let n = owners.len();
     let m = targets.len();
     let s = parity_game::set_words(n);
-    let entries = n + 1 + m + n + n;
-    let held = entries + n + 2 * (s + 1) + s + 256 * s;
-    let levels = levels_at(n, held + 3 * s);
+    let entries = Area { n, m, s }.entries();
+    let held = held_at(n, m, s);
+    let levels = levels_at(n, depth_at(held, s));
     solver::prepare(offsets, targets, n, s, work, levels);
     let top = kept[257] as usize;
     let highest = begin(priorities, m, s, work, held, levels, top);

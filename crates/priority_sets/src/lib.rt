@@ -2,6 +2,7 @@
 // have priority p are then its words and those of p's set, bit by bit.
 mod sets_of;
 
+pub use sets_of::behind_sets;
 pub use sets_of::meet;
 pub use sets_of::set_at;
 pub use sets_of::sort;

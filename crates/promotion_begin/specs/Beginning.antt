@@ -71,6 +71,7 @@ unfolding deep
 many-deep n l = omega arith
 
 module _ {priorities : List ℕ} {m s held levels top : ℕ} {w0 : List ℕ} (given : Beginnable priorities m s held levels top w0)
+    {sets : ℕ} (sets-at : sets ≡ free (length priorities) m)
   where
     abbrev n : ℕ
     n = length priorities
@@ -79,21 +80,18 @@ module _ {priorities : List ℕ} {m s held levels top : ℕ} {w0 : List ℕ} (gi
     pub begin-low : held + 3 * s ≤ length w0
     begin-low = omega (arith, given .held-is, given .room)
 
-    sets-at : held - 256 * s ≡ free n m
-    sets-at = omega (arith, given .held-is)
-
     module _ {w1 : List ℕ} (cleared : Cleared (held + s) (2 * s) w0 w1) where
       -- what `sort` asks for
-      pub begin-sortable : Sortable priorities s (held - 256 * s) w1
+      pub begin-sortable : Sortable priorities s sets w1
       begin-sortable =
           record {
             size = given .size;
             few = given .few;
             small = λ v l. omega (arith, given .under v l, given .small);
-            room = omega (arith, begin-low, given .held-is, cleared .long);
+            room = omega (arith, sets-at, begin-low, given .held-is, cleared .long);
           }
 
-      module _ {w2 : List ℕ} (sorted : Sorts priorities (held - 256 * s) w1 w2) where
+      module _ {w2 : List ℕ} (sorted : Sorts priorities sets w1 w2) where
         sorts : Sorts priorities (free n m) w1 w2
         sorts = subst (λ (at : ℕ). Sorts priorities at w1 w2) sets-at sorted
 

@@ -1,4 +1,5 @@
 // The state at first.
+use area::Area;
 use parity_game::Priority;
 use promotion_levels::descend;
 ghost use mathlib.Core.List.{List};
@@ -27,7 +28,9 @@ pub fn begin(
         Listed (length (now (priorities .entry))) offsets targets (now (work .entry)) →
         Begun (now (priorities .entry)) offsets targets s (r .0) (now (work .entry)) (now (work .exit))) ⌝ }
 {
+    let n = priorities.len();
+    let first = Area { n, m, s }.free();
     sets::clear(work, held + s, 2 * s);
-    priority_sets::sort(priorities, s, work, held - 256 * s);
+    priority_sets::sort(priorities, s, work, first);
     descend(priorities, m, s, work, held, levels, 0, top)
 }

@@ -16,11 +16,10 @@ use Rattle.rules.specs.Promotion.{unsolved}
 use Rattle.basics.specs.Basics.{bool-cases, clash, lt-or-ge, not-true-is-false}
 use Rattle.theory.specs.PromotionBasics.{atRegion, upTo}
 use Rattle.area.specs.Area.{free, setAt}
-use Rattle.area.specs.Lent.{words-few}
 use Rattle.area.specs.SetsAt.{set-kept}
-use Rattle.priority_sets.specs.Sorting.{SetsOf, Placeable, setOfPriority, set-room}
+use Rattle.priority_sets.specs.Sorting.{SetsOf, setOfPriority, set-room}
 use Rattle.promotion_levels.specs.Nesting.{regionOf, Nesting, inside-all, region-solved, below-is, here-is, up-is, unsolved-is}
-use Rattle.promotion_levels.specs.Layout.{heldAt, levelsAt, levelAt, endAt, deep, topIn, levelIn, depthIn, regionIn}
+use Rattle.promotion_levels.specs.Layout.{levelsAt, levelAt, endAt, deep, topIn, levelIn, depthIn, regionIn}
 
 -- one set more, of those that stand from a place on
 pub more-sets : (s at i j : ℕ) → i < j → at + i * s + s ≤ at + j * s
@@ -114,13 +113,6 @@ module _ (owners priorities offsets targets : List ℕ) {k : ℕ} {L : ℕ → S
             and-no false = refl
 
 -- ---- the places as the code reckons them
-
-pub held-place :
-    (n m s : ℕ) {last : ℕ} → Placeable n m s 255 → last ≡ setOfPriority (words n) (free n m) 255 →
-    (last + s ≡ heldAt n m s) × (heldAt n m s ≤ 60000) × (s ≤ 64)
-held-place n m s given is =
-    let most = words-few n (given .few) in
-    (omega (arith, given .size, is), omega (arith, given .size, given .few, given .few-edges), omega (arith, given .size))
 
 pub few-tops : (n depth : ℕ) → n < 256 → depth + 3 + n ≡ depth + 1 + deep n
 unfolding deep

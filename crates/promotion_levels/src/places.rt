@@ -9,8 +9,7 @@ pub fn held_at(n: usize, m: usize, s: usize) -> usize
     requires { ⌜ Placeable n m s 255 ⌝ }
     ensures { λ r. ⌜ r ≡ heldAt n m s ⌝ }
 {
-    let last = priority_sets::set_at(n, m, s, 255);
-    last + s
+    priority_sets::behind_sets(n, m, s)
 }
 
 // The number of the current level stands behind three sets at `held`: R, and what Even and Odd have won.

@@ -1,7 +1,7 @@
 -- What stands in the work area when a solver has ended, how it is written out, and that this is what the rules ask for.
 use mathlib.Core.Bool.{Bool, true, false, cond}
 use mathlib.Core.List.{List, [], _∷_}
-use mathlib.Core.Path.{_≡_, refl, sym, ap, ap₂, _∙_}
+use mathlib.Core.Path.{_≡_, refl, sym, ap, ap₂, subst, _∙_}
 use Prim.Native.Nat.{ℕ, zero, suc, _+_, _-_, _≤_, _<_}
 use native.Mathlib.Nat.{not-suc-le-zero, le-of-suc-le-suc}
 use native.Mathlib.Omega.{arith}
@@ -199,13 +199,16 @@ module _ {t : Tables} {won : Player → Set} {choice : ℕ → ℕ} {s at : ℕ}
 
   -- what `write_out` asks for
   pub found-writable :
+      {from : ℕ} →
+      from ≡ entries (vertices t) (edgesIn t) →
       {even odd strategy : List ℕ} →
       length even ≡ words (vertices t) →
       length odd ≡ words (vertices t) →
       length strategy ≡ vertices t →
-      Writable (t .owners) s (entries (vertices t) (edgesIn t)) at w even odd strategy
-  found-writable even-size odd-size strategy-size =
-      record {
+      Writable (t .owners) s from at w even odd strategy
+  found-writable place {even} {odd} {strategy} even-size odd-size strategy-size =
+      subst (λ (k : ℕ). Writable (t .owners) s k at w even odd strategy) (sym place)
+      (record {
         even-long = even-size ∙ sym (found .size);
         odd-long = odd-size ∙ sym (found .size);
         entries = omega (arith, found .low, found .high);
@@ -227,11 +230,15 @@ module _ {t : Tables} {won : Player → Set} {choice : ℕ → ℕ} {s at : ℕ}
                         omega (arith, entry-is v l);
                   };
             };
-      }
+      })
 
   module _ {before after : Outputs} (size : length (before .strategy) ≡ vertices t)
-      (wrote : WroteOut (t .owners) s (entries (vertices t) (edgesIn t)) at w before after)
+      {from : ℕ} (place : from ≡ entries (vertices t) (edgesIn t))
+      (written : WroteOut (t .owners) s from at w before after)
     where
+      wrote : WroteOut (t .owners) s E at w before after
+      wrote = subst (λ (k : ℕ). WroteOut (t .owners) s k at w before after) place written
+
       strategy-long : length (after .strategy) ≡ n
       strategy-long = wrote .strategy .long ∙ size
 

@@ -1,6 +1,7 @@
 // The solver, on accepted tables and their kept numbers: it checks all that it is lent, works in the first W words of
 // the work area, writes only when it answers, and leaves those words 0.
 use crate::recursion::zielonka_rec;
+use area::Area;
 use parity_game::Answer;
 use parity_game::Priority;
 use solver::Ran;
@@ -40,10 +41,12 @@ fn run(
         r) ⌝ }
 {
     let n = owners.len();
+    let m = targets.len();
     let s = parity_game::set_words(n);
-    let entries = n + 1 + targets.len() + n + n;
-    let first = entries + n + 2 * (s + 1) + s;
-    let base = first + 256 * s;
+    let area = Area { n, m, s };
+    let entries = area.entries();
+    let first = area.free();
+    let base = priority_sets::behind_sets(n, m, s);
     solver::prepare(offsets, targets, n, s, work, base);
     priority_sets::sort(priorities, s, work, first);
     let calls = zielonka_rec(

@@ -1,7 +1,7 @@
 -- `run` meets its contract: the rounds from the first state are those of the rules, and what they found is written out.
 use mathlib.Core.List.{List}
 use mathlib.Core.Path.{_≡_, refl, sym, subst, _∙_}
-use Prim.Native.Nat.{ℕ, _+_, _*_, _≤_}
+use Prim.Native.Nat.{ℕ, _+_, _*_, _≤_, _<_, _^_}
 use native.Mathlib.Omega.{arith}
 use lib.ListN.{length}
 use Rattle.rules.specs.Tables.{Tables, words, tablesOf}
@@ -11,7 +11,7 @@ use Rattle.sets.specs.Laws.{cleared-all}
 use Rattle.solver.specs.Outputs.{Found, found-writable, found-finished}
 use Rattle.area.specs.Area.{entries}
 use Rattle.kept_numbers.specs.Reading.{kept-long}
-use Rattle.promotion_levels.specs.Layout.{heldAt}
+use Rattle.promotion_levels.specs.Layout.{heldAt, deep}
 use Rattle.promotion_begin.specs.Beginning.{Begun}
 use Rattle.priority_promotion.specs.Running.{wonIn, entriesIn, run-preparable, run-beginnable, run-begun, run-reached}
 use Rattle.priority_promotion.specs.Running.{run-over, run-rounds, run-found}
@@ -32,22 +32,36 @@ few g =
     let f = accepted-sound (tables g) (g .pre .0 .accepted) in
     (f .few-vertices, f .few-edges, words-few (length (g .args .owners .now)) (f .few-vertices))
 
--- where each call stands: first the size of a set, then R's place
+-- where each call stands: first the size of a set, then the places of R, of the levels and of the entries
 abbrev start-at : tie.After-set-words → tie.Start
 start-at c = c .before .before .before .before .before .before .before .before .before .before
 
 abbrev size-at : tie.After-set-words → ℕ
 size-at c = c .set-words .result
 
-abbrev held-in : tie.After-set-words → ℕ
-held-in c =
-    let n = length (start-at c .args .owners .now) in
-    entries n (length (start-at c .args .targets .now)) + n + 2 * (size-at c + 1) + size-at c + 256 * size-at c
+abbrev sized-at : tie.After-levels-at → tie.After-set-words
+sized-at l = l .before .before .before .before
+
+abbrev held-in : tie.After-levels-at → ℕ
+held-in l = l .before .before .held-at .result
 
 held-at :
-    (c : tie.After-set-words) →
-    held-in c ≡ heldAt (length (start-at c .args .owners .now)) (length (start-at c .args .targets .now)) (size-at c)
-held-at c = omega (arith, c .set-words .ensures)
+    (l : tie.After-levels-at) →
+    let c = sized-at l in
+    held-in l ≡ heldAt (length (start-at c .args .owners .now)) (length (start-at c .args .targets .now)) (size-at c)
+held-at l = l .before .before .held-at .ensures
+
+levels-in :
+    (l : tie.After-levels-at) →
+    let c = sized-at l in
+    l .levels-at .result ≡ held-in l + 3 * size-at c + 1 + deep (length (start-at c .args .owners .now))
+levels-in l = omega (arith, l .before .depth-at .ensures, l .levels-at .ensures)
+
+entries-at :
+    (l : tie.After-levels-at) →
+    let a = start-at (sized-at l) .args in
+    l .before .before .before .entries .result ≡ entries (length (a .owners .now)) (length (a .targets .now))
+entries-at l = l .before .before .before .entries .ensures
 
 -- the first level has begun
 abbrev prepared-at : tie.After-begin → tie.After-prepare
@@ -56,18 +70,18 @@ prepared-at b = b .before .before .before .before .before
 first-begun :
     (b : tie.After-begin) →
     let d = prepared-at b in
-    let c = d .before .before .before in
+    let c = sized-at (d .before .before) in
     let a = start-at c .args in
     Begun (a .priorities .now) (a .offsets .now) (a .targets .now) (size-at c) (b .begin .result .0)
     (d .prepare .last .1 .1 .1 .1 .0) (b .begin .last .1 .1 .1 .0)
 first-begun b =
     let d = prepared-at b in
     let l = d .before .before in
-    let c = l .before in
+    let c = sized-at l in
     let g = start-at c in
     let a = g .args in
     run-begun (a .owners .now) (a .priorities .now) (a .offsets .now) (a .targets .now) (g .pre .0 .accepted)
-    (c .set-words .ensures) (a .work .now) (g .pre .0 .room) (held-at c) (l .levels-at .ensures) (d .prepare .ensures)
+    (c .set-words .ensures) (a .work .now) (g .pre .0 .room) (held-at l) (levels-in l) (d .prepare .ensures)
     (b .begin .ensures)
 
 -- the rounds have ended
@@ -80,8 +94,11 @@ begun d = ended d .before .before .before .before
 abbrev prepared : tie.After-struct-known → tie.After-prepare
 prepared d = prepared-at (begun d)
 
+abbrev placed : tie.After-struct-known → tie.After-levels-at
+placed d = prepared d .before .before
+
 abbrev sized : tie.After-struct-known → tie.After-set-words
-sized d = prepared d .before .before .before
+sized d = sized-at (placed d)
 
 abbrev start : tie.After-struct-known → tie.Start
 start d = start-at (sized d)
@@ -105,85 +122,68 @@ found :
     (d : tie.After-struct-known) →
     ended d .solve .result .unsolved ≡ 0 →
     let g = start d in
-    Found (tables g) (wonIn (tables g)) (entriesIn (tables g)) (size-at (sized d)) (held-in (sized d) + size-at (sized d))
+    Found (tables g) (wonIn (tables g)) (entriesIn (tables g)) (size-at (sized d)) (held-in (placed d) + size-at (sized d))
     (left d)
 found d z =
     let g = start d in
     subst
     (λ (h : ℕ).
     Found (tables g) (wonIn (tables g)) (entriesIn (tables g)) (size-at (sized d)) (h + size-at (sized d)) (left d))
-    (sym (held-at (sized d)))
+    (sym (held-at (placed d)))
     (run-found (ended d .solve .ensures) z)
 
 set-words-requires : tie.Need-set-words-requires
 set-words-requires c κs = search needs
 
-add-entries : tie.Need-add-entries
-add-entries c = search needs
+entries-requires : tie.Need-entries-requires
+entries-requires c κs =
+    let a = start-at c .args in
+    let small : entries (length (a .owners .now)) (length (a .targets .now)) < 2 ^ 64 = omega (arith, few (start-at c)) in
+    small
 
-add-entries-2 : tie.Need-add-entries-2
-add-entries-2 c = search needs
+held-at-requires : tie.Need-held-at-requires
+held-at-requires c κs =
+    let z = c .before in
+    let (few-vertices, few-edges, _) = few (start-at z) in
+    record { size = z .set-words .ensures; few = few-vertices; few-edges = few-edges; small = omega arith }
 
-add-entries-3 : tie.Need-add-entries-3
-add-entries-3 c = search needs
-
-add-entries-4 : tie.Need-add-entries-4
-add-entries-4 c = search needs
-
-add-held : tie.Need-add-held
-add-held c = omega (arith, few (start-at c), c .set-words .ensures)
-
-add-held-2 : tie.Need-add-held-2
-add-held-2 c = omega (arith, few (start-at c), c .set-words .ensures)
-
-mul-held : tie.Need-mul-held
-mul-held c = omega (arith, few (start-at c), c .set-words .ensures)
-
-add-held-3 : tie.Need-add-held-3
-add-held-3 c = omega (arith, few (start-at c), c .set-words .ensures)
-
-add-held-4 : tie.Need-add-held-4
-add-held-4 c = omega (arith, few (start-at c), c .set-words .ensures)
-
-mul-held-2 : tie.Need-mul-held-2
-mul-held-2 c = omega (arith, few (start-at c), c .set-words .ensures)
-
-add-held-5 : tie.Need-add-held-5
-add-held-5 c = omega (arith, few (start-at c), c .set-words .ensures)
-
-mul-levels-at : tie.Need-mul-levels-at
-mul-levels-at c = omega (arith, few (start-at c), c .set-words .ensures)
-
-add-levels-at : tie.Need-add-levels-at
-add-levels-at c = omega (arith, few (start-at c), c .set-words .ensures)
+depth-at-requires : tie.Need-depth-at-requires
+depth-at-requires c κs =
+    let z = c .before .before in
+    let small : c .held-at .result + 3 * size-at z < 2 ^ 64 =
+    omega (arith, few (start-at z), z .set-words .ensures, c .held-at .ensures) in
+    small
 
 levels-at-requires : tie.Need-levels-at-requires
-levels-at-requires c κs = omega (arith, few (start-at c), c .set-words .ensures)
+levels-at-requires c κs =
+    let h = c .before in
+    let z = h .before .before in
+    omega (arith, few (start-at z), z .set-words .ensures, h .held-at .ensures, c .depth-at .ensures)
 
 prepare-requires : tie.Need-prepare-requires
 prepare-requires p κs =
     let l = p .before in
-    let c = l .before in
+    let c = sized-at l in
     let g = start-at c in
     let a = g .args in
     run-preparable (a .owners .now) (a .priorities .now) (a .offsets .now) (a .targets .now) (g .pre .0 .accepted)
-    (c .set-words .ensures) (a .work .now) (g .pre .0 .room) (held-at c) (l .levels-at .ensures)
+    (c .set-words .ensures) (a .work .now) (g .pre .0 .room) (held-at l) (levels-in l)
 
 shared-slice-read-top : tie.Need-shared-slice-read-top
 shared-slice-read-top k =
     let d = k .before .before .before in
-    let g = start-at (d .before .before .before) in
+    let g = start-at (sized-at (d .before .before)) in
     omega (arith, kept-long (g .pre .1))
 
 begin-requires : tie.Need-begin-requires
 begin-requires k κs =
     let d = k .before .before .before .before in
     let l = d .before .before in
-    let c = l .before in
+    let c = sized-at l in
     let g = start-at c in
     let a = g .args in
     run-beginnable (a .owners .now) (a .priorities .now) (a .offsets .now) (a .targets .now) (g .pre .0 .accepted)
-    (c .set-words .ensures) (a .work .now) (g .pre .0 .room) (held-at c) (l .levels-at .ensures) (d .prepare .ensures)
+    (c .set-words .ensures) (a .work .now) (g .pre .0 .room) (held-at l) (levels-in l) (d .prepare .ensures)
     (g .pre .1)
 
 solve-requires : tie.Need-solve-requires
@@ -191,11 +191,11 @@ solve-requires k κs =
     let b = k .before .before .before in
     let d = prepared-at b in
     let l = d .before .before in
-    let c = l .before in
+    let c = sized-at l in
     let g = start-at c in
     let a = g .args in (
       run-reached (a .owners .now) (a .priorities .now) (a .offsets .now) (a .targets .now) (g .pre .0 .accepted)
-          (c .set-words .ensures) (a .work .now) (g .pre .0 .room) (held-at c) (l .levels-at .ensures) (d .prepare .ensures)
+          (c .set-words .ensures) (a .work .now) (g .pre .0 .room) (held-at l) (levels-in l) (d .prepare .ensures)
           (first-begun b),
       omega arith,
     )
@@ -219,14 +219,14 @@ returns c =
     )
 
 add-write-out : tie.Need-add-write-out
-add-write-out c = let d = c .before in omega (arith, few (start d), sized d .set-words .ensures)
+add-write-out c = let d = c .before in omega (arith, few (start d), sized d .set-words .ensures, held-at (placed d))
 
 write-out-requires : tie.Need-write-out-requires
 write-out-requires c κs =
     let d = c .before .before .before .before .before in
     let g = start d in
     let none : ended d .solve .result .unsolved ≡ 0 = omega (arith, c .before .before .before .before .if1 .left) in
-    found-writable (found d none) (g .pre .0 .even-size) (g .pre .0 .odd-size) (g .pre .0 .strategy-size)
+    found-writable (found d none) (entries-at (placed d)) (g .pre .0 .even-size) (g .pre .0 .odd-size) (g .pre .0 .strategy-size)
 
 clear-requires-2 : tie.Need-clear-requires-2
 clear-requires-2 c κs = search needs
@@ -251,7 +251,7 @@ returns-2 c =
     let a = g .args in
     let none : ended d .solve .result .unsolved ≡ 0 = omega (arith, w .before .before .before .before .before .if1 .left) in (
       cleared-all (a .work .now) (left d) (same-long d) (c .before .before .clear2 .ensures),
-      found-finished (found d none) (g .pre .0 .strategy-size) (w .write-out .ensures)
+      found-finished (found d none) (g .pre .0 .strategy-size) (entries-at (placed d)) (w .write-out .ensures)
           (run-rounds (ended d .solve .ensures) none)
           (ended d .solve .ensures .within),
     )
@@ -261,19 +261,9 @@ run-spec =
     tie.close
     (tie.spec
     set-words-requires
-    add-entries
-    add-entries-2
-    add-entries-3
-    add-entries-4
-    add-held
-    add-held-2
-    mul-held
-    add-held-3
-    add-held-4
-    mul-held-2
-    add-held-5
-    mul-levels-at
-    add-levels-at
+    entries-requires
+    held-at-requires
+    depth-at-requires
     levels-at-requires
     prepare-requires
     shared-slice-read-top

@@ -1,6 +1,8 @@
 -- `begin` meets its contract: nothing is won, the sets of the priorities are made, and the first level begins.
 use mathlib.Core.Logic.{inl, inr, ⊎-elim}
-use Prim.Native.Nat.{_+_, _*_}
+use Prim.Native.Nat.{_+_, _*_, _<_, _^_}
+use lib.ListN.{length}
+use Rattle.area.specs.Area.{free}
 use native.Mathlib.Omega.{arith}
 use Rattle.sets.specs.After.{Cleared}
 use Rattle.promotion_begin.specs.Beginning.{begin-sortable, begin-descends, begun}
@@ -10,7 +12,11 @@ use Rattle.promotion_begin.proofs.start.begin.Tie as tie
 
 -- where the function begins, and where the sets of what is won were cleared
 abbrev first : tie.After-clear → tie.Start
-first c = c .before .before .before .before
+first c = c .before .before .before .before .before
+
+-- the place of the sets of the priorities
+abbrev placed : tie.After-clear → tie.After-free
+placed c = c .before .before
 
 -- nobody has won anything
 won-cleared :
@@ -28,6 +34,12 @@ won-cleared c =
 abbrev cleared : tie.After-sort → tie.After-clear
 cleared c = c .before .before .before .before
 
+free-requires : tie.Need-free-requires
+free-requires c κs =
+    let g = c .before .before in
+    let small : free (length (g .args .priorities .now)) (g .args .m) < 2 ^ 64 = omega (arith, g .pre .room, g .good) in
+    (g .pre .size, small)
+
 add-clear : tie.Need-add-clear
 add-clear c = search needs
 
@@ -37,20 +49,14 @@ mul-clear c = search needs
 clear-requires : tie.Need-clear-requires
 clear-requires c κs = search needs
 
-mul-sort : tie.Need-mul-sort
-mul-sort c = search needs
-
-sub-sort : tie.Need-sub-sort
-sub-sort c = search needs
-
 sort-requires : tie.Need-sort-requires
-sort-requires c κs = let d = c .before .before .before in begin-sortable (first d .pre) (won-cleared d)
+sort-requires c κs = let d = c .before .before .before in begin-sortable (first d .pre) (placed d .free .ensures) (won-cleared d)
 
 descend-requires : tie.Need-descend-requires
 descend-requires c κs =
     let o = c .before .before .before in
     let d = cleared o in
-    begin-descends (first d .pre) (won-cleared d) (o .sort .ensures)
+    begin-descends (first d .pre) (placed d .free .ensures) (won-cleared d) (o .sort .ensures)
 
 same-length : tie.Need-same-length
 same-length c = search needs
@@ -60,17 +66,16 @@ returns c =
     let e = c .before .before in
     let o = e .before .before .before .before in
     let d = cleared o in
-    begun (first d .pre) (won-cleared d) (o .sort .ensures) (e .descend .ensures)
+    begun (first d .pre) (placed d .free .ensures) (won-cleared d) (o .sort .ensures) (e .descend .ensures)
 
 pub begin-spec : {M : Type 1} → statement M
 begin-spec =
     tie.close
     (tie.spec
+    free-requires
     add-clear
     mul-clear
     clear-requires
-    mul-sort
-    sub-sort
     sort-requires
     descend-requires
     same-length

@@ -1,13 +1,13 @@
 -- `run` meets its contract: the recursion on all vertices is what the rules ask for, and what it found is written out.
 use mathlib.Core.List.{List}
 use mathlib.Core.Path.{_≡_, refl, _∙_}
-use Prim.Native.Nat.{ℕ, _+_, _*_, _≤_}
+use Prim.Native.Nat.{ℕ, _+_, _*_, _≤_, _<_, _^_}
 use native.Mathlib.Omega.{arith}
 use lib.ListN.{length}
 use Rattle.rules.specs.Tables.{Tables, words, gameOf, tablesOf}
 use Rattle.rules.specs.Zielonka.{zielonka}
 use Rattle.accepted.specs.Tables.{accepted-sound}
-use Rattle.area.specs.Area.{layers, free}
+use Rattle.area.specs.Area.{entries, free}
 use Rattle.area.specs.Lent.{words-few}
 use Rattle.zielonka_level.specs.Level.{Done}
 use Rattle.zielonka.specs.Solving.{run-preparable, run-sortable, run-called, run-over-budget, run-calls, run-found}
@@ -20,26 +20,34 @@ use Rattle.zielonka.proofs.door.run.Tie as tie
 abbrev tables : tie.Start → Tables
 tables g = tablesOf (g .args .owners .now) (g .args .priorities .now) (g .args .offsets .now) (g .args .targets .now)
 
--- the words of a set are known: where the function began, and where the sets of the priorities and the first level stand
+-- the words of a set are known: where the function began; then where the sets of the priorities, the first level and the
+-- entries stand
 abbrev began : tie.After-set-words → tie.Start
 began z = z .before .before .before .before .before .before .before .before .before
 
-abbrev sets-at : tie.After-set-words → ℕ
-sets-at z =
-    let a = began z .args in
-    layers (length (a .owners .now)) (length (a .targets .now)) + 2 * (z .set-words .result + 1) + z .set-words .result
+abbrev sized-at : tie.After-behind-sets → tie.After-set-words
+sized-at b = b .before .before .before
 
-abbrev base : tie.After-set-words → ℕ
-base z = sets-at z + 256 * z .set-words .result
+abbrev base : tie.After-behind-sets → ℕ
+base b = b .behind-sets .result
 
-here : (z : tie.After-set-words) → let a = began z .args in sets-at z ≡ free (length (a .owners .now)) (length (a .targets .now))
-here z = omega (arith, z .set-words .ensures)
+here :
+    (b : tie.After-behind-sets) →
+    let a = began (sized-at b) .args in
+    b .before .free .result ≡ free (length (a .owners .now)) (length (a .targets .now))
+here b = b .before .free .ensures
 
 first :
-    (z : tie.After-set-words) →
-    let n = length (began z .args .owners .now) in
-    base z ≡ free n (length (began z .args .targets .now)) + 256 * words n
-first z = omega (arith, z .set-words .ensures)
+    (b : tie.After-behind-sets) →
+    let n = length (began (sized-at b) .args .owners .now) in
+    base b ≡ free n (length (began (sized-at b) .args .targets .now)) + 256 * words n
+first b = b .behind-sets .ensures
+
+entries-at :
+    (b : tie.After-behind-sets) →
+    let a = began (sized-at b) .args in
+    b .before .before .entries .result ≡ entries (length (a .owners .now)) (length (a .targets .now))
+entries-at b = b .before .before .entries .ensures
 
 -- there are few vertices, edges and words
 few :
@@ -57,8 +65,11 @@ sorted r = r .before .before .before .before
 abbrev prepared : tie.After-zielonka-rec → tie.After-prepare
 prepared r = sorted r .before .before .before .before
 
+abbrev placed : tie.After-zielonka-rec → tie.After-behind-sets
+placed r = prepared r .before .before
+
 abbrev sized : tie.After-zielonka-rec → tie.After-set-words
-sized r = prepared r .before .before
+sized r = sized-at (placed r)
 
 abbrev start : tie.After-zielonka-rec → tie.Start
 start r = began (sized r)
@@ -77,7 +88,7 @@ done :
     (d : tie.Else1) →
     let r = ended d in
     let g = start r in
-    Done (tables g) (base (sized r)) 0 (g .args .budget) (r .zielonka-rec .result) (sorted r .sort .last .1 .1 .0) (left r)
+    Done (tables g) (base (placed r)) 0 (g .args .budget) (r .zielonka-rec .result) (sorted r .sort .last .1 .1 .0) (left r)
 done d = ended d .zielonka-rec .ensures .done (omega (arith, d .if1 .left))
 
 found :
@@ -85,12 +96,12 @@ found :
     let g = start (ended d) in
     let s = sized (ended d) .set-words .result in
     Found (tables g) (zielonka (gameOf (tables g)) .won) (zielonka (gameOf (tables g)) .entries) s
-    (base (sized (ended d)) + 2 * s)
+    (base (placed (ended d)) + 2 * s)
     (left (ended d))
 found d =
     let r = ended d in
     let g = start r in
-    run-found (tables g) (g .pre .0 .accepted) (g .args .work .now) (g .pre .0 .room) (here (sized r)) (first (sized r))
+    run-found (tables g) (g .pre .0 .accepted) (g .args .work .now) (g .pre .0 .room) (here (placed r)) (first (placed r))
     (prepared r .prepare .ensures)
     (sorted r .sort .ensures)
     (done d)
@@ -99,52 +110,40 @@ found d =
 set-words-requires : tie.Need-set-words-requires
 set-words-requires c κs = search needs
 
-add-entries : tie.Need-add-entries
-add-entries c = search needs
+entries-requires : tie.Need-entries-requires
+entries-requires c κs =
+    let a = began c .args in
+    let small : entries (length (a .owners .now)) (length (a .targets .now)) < 2 ^ 64 = omega (arith, few (began c)) in
+    small
 
-add-entries-2 : tie.Need-add-entries-2
-add-entries-2 c = search needs
+free-requires : tie.Need-free-requires
+free-requires c κs =
+    let z = c .before in
+    let a = began z .args in
+    let small : free (length (a .owners .now)) (length (a .targets .now)) < 2 ^ 64 = omega (arith, few (began z)) in
+    (z .set-words .ensures, small)
 
-add-entries-3 : tie.Need-add-entries-3
-add-entries-3 c = search needs
-
-add-entries-4 : tie.Need-add-entries-4
-add-entries-4 c = search needs
-
-add-first : tie.Need-add-first
-add-first c = omega (arith, few (began c))
-
-add-first-2 : tie.Need-add-first-2
-add-first-2 c = omega (arith, few (began c), c .set-words .ensures)
-
-mul-first : tie.Need-mul-first
-mul-first c = omega (arith, few (began c), c .set-words .ensures)
-
-add-first-3 : tie.Need-add-first-3
-add-first-3 c = omega (arith, few (began c), c .set-words .ensures)
-
-add-first-4 : tie.Need-add-first-4
-add-first-4 c = omega (arith, few (began c), c .set-words .ensures)
-
-mul-base : tie.Need-mul-base
-mul-base c = omega (arith, few (began c), c .set-words .ensures)
-
-add-base : tie.Need-add-base
-add-base c = omega (arith, few (began c), c .set-words .ensures)
+behind-sets-requires : tie.Need-behind-sets-requires
+behind-sets-requires c κs =
+    let z = c .before .before in
+    let (few-vertices, few-edges, _) = few (began z) in
+    record { size = z .set-words .ensures; few = few-vertices; few-edges = few-edges; small = omega arith }
 
 prepare-requires : tie.Need-prepare-requires
 prepare-requires c κs =
-    let z = c .before in
+    let b = c .before in
+    let z = sized-at b in
     let g = began z in
-    run-preparable (tables g) (g .pre .0 .accepted) (g .args .work .now) (g .pre .0 .room) (here z) (first z)
+    run-preparable (tables g) (g .pre .0 .accepted) (g .args .work .now) (g .pre .0 .room) (here b) (first b)
     (z .set-words .ensures)
 
 sort-requires : tie.Need-sort-requires
 sort-requires c κs =
     let d = c .before .before .before in
-    let z = d .before .before in
+    let b = d .before .before in
+    let z = sized-at b in
     let g = began z in
-    run-sortable (tables g) (g .pre .0 .accepted) (g .args .work .now) (g .pre .0 .room) (here z) (first z)
+    run-sortable (tables g) (g .pre .0 .accepted) (g .args .work .now) (g .pre .0 .room) (here b) (first b)
     (z .set-words .ensures)
     (d .prepare .ensures)
 
@@ -152,9 +151,10 @@ zielonka-rec-requires : tie.Need-zielonka-rec-requires
 zielonka-rec-requires c κs =
     let e = c .before .before .before in
     let d = e .before .before .before .before in
-    let z = d .before .before in
+    let b = d .before .before in
+    let z = sized-at b in
     let g = began z in
-    run-called (tables g) (g .pre .0 .accepted) (g .args .work .now) (g .pre .0 .room) (here z) (first z) (d .prepare .ensures)
+    run-called (tables g) (g .pre .0 .accepted) (g .args .work .now) (g .pre .0 .room) (here b) (first b) (d .prepare .ensures)
     (e .sort .ensures)
     (g .pre .1)
 
@@ -171,8 +171,8 @@ returns c =
       cleared-all (g .args .work .now) (left r) (kept-long r) (c .before .before .clear .ensures),
       record {
         over =
-            run-over-budget (tables g) (g .pre .0 .accepted) (g .args .work .now) (g .pre .0 .room) (here (sized r))
-            (first (sized r))
+            run-over-budget (tables g) (g .pre .0 .accepted) (g .args .work .now) (g .pre .0 .room) (here (placed r))
+            (first (placed r))
             (prepared r .prepare .ensures) (sorted r .sort .ensures)
             (r .zielonka-rec .ensures .over (c .before .before .before .before .if1 .taken));
         same = refl;
@@ -180,16 +180,16 @@ returns c =
     )
 
 mul-write-out : tie.Need-mul-write-out
-mul-write-out c = let r = ended c in omega (arith, few (start r), sized r .set-words .ensures)
+mul-write-out c = let r = ended c in omega (arith, few (start r), sized r .set-words .ensures, first (placed r))
 
 add-write-out : tie.Need-add-write-out
-add-write-out c = let r = ended c in omega (arith, few (start r), sized r .set-words .ensures)
+add-write-out c = let r = ended c in omega (arith, few (start r), sized r .set-words .ensures, first (placed r))
 
 write-out-requires : tie.Need-write-out-requires
 write-out-requires c κs =
     let d = c .before .before .before .before in
     let g = start (ended d) in
-    found-writable (found d) (g .pre .0 .even-size) (g .pre .0 .odd-size) (g .pre .0 .strategy-size)
+    found-writable (found d) (entries-at (placed (ended d))) (g .pre .0 .even-size) (g .pre .0 .odd-size) (g .pre .0 .strategy-size)
 
 clear-requires-2 : tie.Need-clear-requires-2
 clear-requires-2 c κs = search needs
@@ -213,8 +213,8 @@ returns-2 c =
     let r = ended d in
     let g = start r in (
       cleared-all (g .args .work .now) (left r) (kept-long r) (c .before .before .clear2 .ensures),
-      found-finished (found d) (g .pre .0 .strategy-size) (written .write-out .ensures)
-          (run-calls (tables g) (g .pre .0 .accepted) (g .args .work .now) (g .pre .0 .room) (here (sized r)) (first (sized r))
+      found-finished (found d) (g .pre .0 .strategy-size) (entries-at (placed r)) (written .write-out .ensures)
+          (run-calls (tables g) (g .pre .0 .accepted) (g .args .work .now) (g .pre .0 .room) (here (placed r)) (first (placed r))
           (prepared r .prepare .ensures) (sorted r .sort .ensures)
           (done d))
           (done d .within),
@@ -225,17 +225,9 @@ run-spec =
     tie.close
     (tie.spec
     set-words-requires
-    add-entries
-    add-entries-2
-    add-entries-3
-    add-entries-4
-    add-first
-    add-first-2
-    mul-first
-    add-first-3
-    add-first-4
-    mul-base
-    add-base
+    entries-requires
+    free-requires
+    behind-sets-requires
     prepare-requires
     sort-requires
     zielonka-rec-requires
