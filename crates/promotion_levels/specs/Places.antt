@@ -15,7 +15,7 @@ use Rattle.rules.specs.Tables.{words, gameOf, tablesOf}
 use Rattle.rules.specs.Promotion.{unsolved}
 use Rattle.basics.specs.Basics.{bool-cases, clash, lt-or-ge, not-true-is-false}
 use Rattle.theory.specs.PromotionBasics.{atRegion, upTo}
-use Rattle.area.specs.Area.{free, setAt}
+use Rattle.area.specs.Area.{setAt}
 use Rattle.area.specs.SetsAt.{set-kept}
 use Rattle.priority_sets.specs.Sorting.{SetsOf, setOfPriority, set-room}
 use Rattle.promotion_levels.specs.Nesting.{regionOf, Nesting, inside-all, region-solved, below-is, here-is, up-is, unsolved-is}

@@ -24,7 +24,7 @@ use Rattle.theory.specs.Zielonka.{everywhere-below, everywhere-total}
 use Rattle.kept_numbers.specs.Reading.{Counted, kept-bounds, kept-small}
 use Rattle.sets.specs.After.{Combined, other}
 use Rattle.sets.specs.Laws.{other-bit}
-use Rattle.area.specs.Area.{layers, free, setAt, wordsAt}
+use Rattle.area.specs.Area.{free, setAt, wordsAt}
 use Rattle.area.specs.Lent.{part-is, part-length}
 use Rattle.area.specs.SetsAt.{set-kept, set-copied-here, set-reduced}
 use Rattle.solver.specs.Preparing.{Preparable, Prepared}
@@ -61,160 +61,158 @@ pub record Opinion (t : Tables) (evens odds : List ℕ) : Type 0 where
   pub even : Holds (vertices t) (won Even) evens
   pub odd : Holds (vertices t) (won Odd) odds
 
--- where the set of all vertices stands, by the words of a set: the first free place
-abbrev pub allAt : Tables → ℕ → ℕ
-allAt t s = layers (vertices t) (edgesIn t) + 2 * (s + 1) + s
-
 -- W words have room for the two sets and a level for each height
 levels-fit : (n m : ℕ) → free n m + words n + 2064 * words n ≤ opinionWords n m
 unfolding opinionWords workWords
 levels-fit n m =
     let wide : 4 * words n ≤ 8 * (n + 2) * words n = mul-le-mul-right (words n) (omega arith) in omega arith
 
-module _ {t : Tables} {high : ℕ} {even odd w₀ : List ℕ} (given : Runnable t high even odd w₀) where
-  abbrev n : ℕ
-  n = vertices t
+module _ {t : Tables} {high : ℕ} {even odd w₀ : List ℕ} (given : Runnable t high even odd w₀)
+    {first : ℕ} (place : first ≡ free (vertices t) (edgesIn t))
+  where
+    abbrev n : ℕ
+    n = vertices t
 
-  fits : allAt t (length even) + length even + 2064 * length even ≤ length w₀
-  fits = omega (arith, levels-fit (vertices t) (edgesIn t), given .room, given .even-size)
+    fits : first + length even + 2064 * length even ≤ length w₀
+    fits = omega (arith, place, levels-fit (vertices t) (edgesIn t), given .room, given .even-size)
 
-  -- both sets stand in the work area
-  pub run-fits : allAt t (length even) + length even + length even ≤ length w₀
-  run-fits = omega (arith, fits)
+    -- both sets stand in the work area
+    pub run-fits : first + length even + length even ≤ length w₀
+    run-fits = omega (arith, fits)
 
-  -- what `prepare` asks for
-  pub run-preparable : Preparable (vertices t) (t .offsets) (t .targets) (length even) (allAt t (length even)) w₀
-  run-preparable =
-      record {
-        edges = sound-edges t (given .accepted);
-        size = given .even-size;
-        low = omega (arith, given .even-size);
-        high = omega (arith, fits);
-      }
+    -- what `prepare` asks for
+    pub run-preparable : Preparable (vertices t) (t .offsets) (t .targets) (length even) first w₀
+    run-preparable =
+        record {
+          edges = sound-edges t (given .accepted);
+          size = given .even-size;
+          low = omega (arith, given .even-size);
+          high = omega (arith, fits);
+        }
 
-  module _ {w₁ w₂ : List ℕ}
-      (prepared : Prepared (vertices t) (t .offsets) (t .targets) (allAt t (length even)) w₀ w₁)
-      (copied : Combined other (allAt t (length even) + length even) (allAt t (length even)) (length even) w₁ w₂)
-    where
-      size : length even ≡ words (vertices t)
-      size = given .even-size
+    module _ {w₁ w₂ : List ℕ}
+        (prepared : Prepared (vertices t) (t .offsets) (t .targets) first w₀ w₁)
+        (copied : Combined other (first + length even) first (length even) w₁ w₂)
+      where
+        size : length even ≡ words (vertices t)
+        size = given .even-size
 
-      copied′ : Combined other (allAt t (length even) + words (vertices t)) (allAt t (length even)) (words (vertices t)) w₁ w₂
-      copied′ = subst (λ (k : ℕ). Combined other (allAt t (length even) + k) (allAt t (length even)) k w₁ w₂) size copied
+        copied′ : Combined other (first + words (vertices t)) first (words (vertices t)) w₁ w₂
+        copied′ = subst (λ (k : ℕ). Combined other (first + k) first k w₁ w₂) size copied
 
-      -- all vertices stand in both sets
-      all : (v : ℕ) → onLevel t (allAt t (length even)) w₂ v ≡ everywhere (gameOf t) v
-      unfolding gameOf
-      all v =
-          set-kept (vertices t) (allAt t (length even)) w₁ w₂ (λ i l h. copied′ .rest i (inl (omega arith))) v ∙ prepared .full v
+        -- all vertices stand in both sets
+        all : (v : ℕ) → onLevel t first w₂ v ≡ everywhere (gameOf t) v
+        unfolding gameOf
+        all v =
+            set-kept (vertices t) first w₁ w₂ (λ i l h. copied′ .rest i (inl (omega arith))) v ∙ prepared .full v
 
-      narrowed : (v : ℕ) → onLevel t (allAt t (length even) + length even) w₂ v ≡ everywhere (gameOf t) v
-      unfolding gameOf
-      narrowed v =
-          ap (λ (k : ℕ). onLevel t (allAt t (length even) + k) w₂ v) size ∙
-          set-copied-here (vertices t) (allAt t (length even) + words (vertices t)) (allAt t (length even)) w₁ w₂ copied′ v ∙
-          prepared .full v
+        narrowed : (v : ℕ) → onLevel t (first + length even) w₂ v ≡ everywhere (gameOf t) v
+        unfolding gameOf
+        narrowed v =
+            ap (λ (k : ℕ). onLevel t (first + k) w₂ v) size ∙
+            set-copied-here (vertices t) (first + words (vertices t)) first w₁ w₂ copied′ v ∙
+            prepared .full v
 
-      -- what the solver for Even asks for
-      pub run-called : Called t Even (allAt t (length even) + length even) high w₂
-      unfolding gameOf
-      run-called =
-          record {
-            accepted = given .accepted;
-            table =
-                listed-kept (vertices t) (t .offsets) (t .targets) w₁ w₂ (copied .long)
-                (λ i l. copied .rest i (inl (omega arith)))
-                (prepared .listed);
-            low = omega (arith, size);
-            room =
-                let most = given .most in
-                let levels : words (vertices t) * (high + 1) ≤ words (vertices t) * 258 = mul-le-mul-left (words (vertices t)) (omega arith) in
-                omega (arith, fits, copied .long, prepared .long, size);
-            below = λ v p. everywhere-below (gameOf t) v (sym (narrowed v) ∙ p);
-            total =
-                subst (λ (S : Set). TotalIn (gameOf t) S) (sym (fun-ext narrowed))
-                (everywhere-total (gameOf t) (accepted-total t (given .accepted)));
-            under = λ v p. given .under v (everywhere-below (gameOf t) v (sym (narrowed v) ∙ p));
-            turn = ap playerOf (given .turn);
-          }
+        -- what the solver for Even asks for
+        pub run-called : Called t Even (first + length even) high w₂
+        unfolding gameOf
+        run-called =
+            record {
+              accepted = given .accepted;
+              table =
+                  listed-kept (vertices t) (t .offsets) (t .targets) w₁ w₂ (copied .long)
+                  (λ i l. copied .rest i (inl (omega arith)))
+                  (prepared .listed);
+              low = omega (arith, size);
+              room =
+                  let most = given .most in
+                  let levels : words (vertices t) * (high + 1) ≤ words (vertices t) * 258 = mul-le-mul-left (words (vertices t)) (omega arith) in
+                  omega (arith, fits, copied .long, prepared .long, size);
+              below = λ v p. everywhere-below (gameOf t) v (sym (narrowed v) ∙ p);
+              total =
+                  subst (λ (S : Set). TotalIn (gameOf t) S) (sym (fun-ext narrowed))
+                  (everywhere-total (gameOf t) (accepted-total t (given .accepted)));
+              under = λ v p. given .under v (everywhere-below (gameOf t) v (sym (narrowed v) ∙ p));
+              turn = ap playerOf (given .turn);
+            }
 
-      module _ {w₃ w₄ : List ℕ} {r : Sharp}
-          (solved : Solved t Even (allAt t (length even) + length even) (vertices t) (vertices t) w₂ w₃ r)
-          (reduced : Combined _-_ (allAt t (length even)) (allAt t (length even) + length even) (length even) w₃ w₄)
-        where
-          reduced′ : Combined _-_ (allAt t (length even)) (allAt t (length even) + words (vertices t)) (words (vertices t)) w₃ w₄
-          reduced′ = subst (λ (k : ℕ). Combined _-_ (allAt t (length even)) (allAt t (length even) + k) k w₃ w₄) size reduced
+        module _ {w₃ w₄ : List ℕ} {r : Sharp}
+            (solved : Solved t Even (first + length even) (vertices t) (vertices t) w₂ w₃ r)
+            (reduced : Combined _-_ first (first + length even) (length even) w₃ w₄)
+          where
+            reduced′ : Combined _-_ first (first + words (vertices t)) (words (vertices t)) w₃ w₄
+            reduced′ = subst (λ (k : ℕ). Combined _-_ first (first + k) k w₃ w₄) size reduced
 
-          pub run-long : length w₄ ≡ length w₀
-          run-long = reduced .long ∙ solved .stays .long ∙ copied .long ∙ prepared .long
+            pub run-long : length w₄ ≡ length w₀
+            run-long = reduced .long ∙ solved .stays .long ∙ copied .long ∙ prepared .long
 
-          -- Even's set, and what is left of all vertices without it
-          abbrev R : Set
-          R = onLevel t (allAt t (length even) + length even) w₃
+            -- Even's set, and what is left of all vertices without it
+            abbrev R : Set
+            R = onLevel t (first + length even) w₃
 
-          parts : Separates (gameOf t) Even (everywhere (gameOf t)) (gameOf t .size) (gameOf t .size) R
-          unfolding gameOf
-          parts = separates-over narrowed (λ v. refl) (separates-asked (r .keeps) (r .drops) (solved .parts))
+            parts : Separates (gameOf t) Even (everywhere (gameOf t)) (gameOf t .size) (gameOf t .size) R
+            unfolding gameOf
+            parts = separates-over narrowed (λ v. refl) (separates-asked (r .keeps) (r .drops) (solved .parts))
 
-          evens : (v : ℕ) → setAt (vertices t) (allAt t (length even) + length even) w₄ v ≡ R v
-          evens v =
-              set-kept (vertices t) (allAt t (length even) + length even) w₃ w₄
-              (λ i l h. reduced .rest i (inr (omega (arith, size)))) v
+            evens : (v : ℕ) → setAt (vertices t) (first + length even) w₄ v ≡ R v
+            evens v =
+                set-kept (vertices t) (first + length even) w₃ w₄
+                (λ i l h. reduced .rest i (inr (omega (arith, size)))) v
 
-          odds : (v : ℕ) → setAt (vertices t) (allAt t (length even)) w₄ v ≡ without (everywhere (gameOf t)) R v
-          odds v =
-              set-reduced (vertices t) (allAt t (length even)) (allAt t (length even) + words (vertices t)) w₃ w₄ reduced′ v ∙
-              ap₂ (λ (x y : Bool). x && not y)
-              (set-kept (vertices t) (allAt t (length even)) w₂ w₃ (λ i l h. solved .stays .lower i (omega (arith, size)) (omega (arith, size))) v ∙ all v)
-              (ap (λ (k : ℕ). onLevel t (allAt t (length even) + k) w₃ v) (sym size))
+            odds : (v : ℕ) → setAt (vertices t) first w₄ v ≡ without (everywhere (gameOf t)) R v
+            odds v =
+                set-reduced (vertices t) first (first + words (vertices t)) w₃ w₄ reduced′ v ∙
+                ap₂ (λ (x y : Bool). x && not y)
+                (set-kept (vertices t) first w₂ w₃ (λ i l h. solved .stays .lower i (omega (arith, size)) (omega (arith, size))) v ∙ all v)
+                (ap (λ (k : ℕ). onLevel t (first + k) w₃ v) (sym size))
 
-          -- a set of the work area that has no vertex at n or above, copied out
-          holds :
-              (at : ℕ) (S : Set) (set : List ℕ) →
-              at + length even ≤ length w₄ →
-              ((v : ℕ) → setAt (vertices t) at w₄ v ≡ S v) →
-              ((v : ℕ) → S v ≡ true → v < vertices t) →
-              set ≡ take ((at + length even) - at) (drop at w₄) →
-              Narrow set →
-              Holds (vertices t) S set
-          unfolding setOf
-          holds at S set room same below is narrow =
-              narrow-holds narrow (rw (is, part-is at (length even) w₄, size) as-bits)
-            where
-              bare : (v : ℕ) → setAt (vertices t) at w₄ v ≡ false → bit (wordsAt (vertices t) at w₄) v ≡ 0
-              bare v e = other-bit (wordsAt (vertices t) at w₄) v e
+            -- a set of the work area that has no vertex at n or above, copied out
+            holds :
+                (at : ℕ) (S : Set) (set : List ℕ) →
+                at + length even ≤ length w₄ →
+                ((v : ℕ) → setAt (vertices t) at w₄ v ≡ S v) →
+                ((v : ℕ) → S v ≡ true → v < vertices t) →
+                set ≡ take ((at + length even) - at) (drop at w₄) →
+                Narrow set →
+                Holds (vertices t) S set
+            unfolding setOf
+            holds at S set room same below is narrow =
+                narrow-holds narrow (rw (is, part-is at (length even) w₄, size) as-bits)
+              where
+                bare : (v : ℕ) → setAt (vertices t) at w₄ v ≡ false → bit (wordsAt (vertices t) at w₄) v ≡ 0
+                bare v e = other-bit (wordsAt (vertices t) at w₄) v e
 
-              as-bits : Bits (vertices t) S (wordsAt (vertices t) at w₄)
-              as-bits =
-                  record {
-                    long = part-length at (words (vertices t)) w₄ (omega (arith, size));
-                    bits = λ v l. same v;
-                    clear = λ v l. bare v (same v ∙ not-true-is-false (S v) (λ p. let less = below v p in omega arith));
-                  }
+                as-bits : Bits (vertices t) S (wordsAt (vertices t) at w₄)
+                as-bits =
+                    record {
+                      long = part-length at (words (vertices t)) w₄ (omega (arith, size));
+                      bits = λ v l. same v;
+                      clear = λ v l. bare v (same v ∙ not-true-is-false (S v) (λ p. let less = below v p in omega arith));
+                    }
 
-          -- **What is copied out are the winning sets.**
-          pub run-opinion :
-              (even′ odd′ : List ℕ) →
-              even′ ≡ take ((allAt t (length even) + length even + length even) - (allAt t (length even) + length even))
-              (drop (allAt t (length even) + length even) w₄) →
-              odd′ ≡ take ((allAt t (length even) + length even) - allAt t (length even)) (drop (allAt t (length even)) w₄) →
-              Narrow even′ →
-              Narrow odd′ →
-              Opinion t even′ odd′
-          unfolding gameOf
-          run-opinion even′ odd′ e o even-narrow odd-narrow =
-              record {
-                won = wonBy Even R (without (everywhere (gameOf t)) R);
-                wins = opinion-wins (gameOf t) (accepted-total t (given .accepted)) R parts;
-                even =
-                    holds (allAt t (length even) + length even) R even′ (omega (arith, fits, run-long)) evens
-                    (λ v p. everywhere-below (gameOf t) v (parts .inside v p))
-                    e even-narrow;
-                odd =
-                    holds (allAt t (length even)) (without (everywhere (gameOf t)) R) odd′ (omega (arith, fits, run-long)) odds
-                    (λ v p. everywhere-below (gameOf t) v (and-left (everywhere (gameOf t) v) _ p))
-                    o odd-narrow;
-              }
+            -- **What is copied out are the winning sets.**
+            pub run-opinion :
+                (even′ odd′ : List ℕ) →
+                even′ ≡ take ((first + length even + length even) - (first + length even))
+                (drop (first + length even) w₄) →
+                odd′ ≡ take ((first + length even) - first) (drop first w₄) →
+                Narrow even′ →
+                Narrow odd′ →
+                Opinion t even′ odd′
+            unfolding gameOf
+            run-opinion even′ odd′ e o even-narrow odd-narrow =
+                record {
+                  won = wonBy Even R (without (everywhere (gameOf t)) R);
+                  wins = opinion-wins (gameOf t) (accepted-total t (given .accepted)) R parts;
+                  even =
+                      holds (first + length even) R even′ (omega (arith, fits, run-long)) evens
+                      (λ v p. everywhere-below (gameOf t) v (parts .inside v p))
+                      e even-narrow;
+                  odd =
+                      holds first (without (everywhere (gameOf t)) R) odd′ (omega (arith, fits, run-long)) odds
+                      (λ v p. everywhere-below (gameOf t) v (and-left (everywhere (gameOf t) v) _ p))
+                      o odd-narrow;
+                }
 
 -- ---- the public solver
 

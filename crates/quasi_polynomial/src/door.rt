@@ -2,6 +2,7 @@
 // the work area, writes only when it answers, and leaves those words 0.
 use crate::checks::check_lent;
 use crate::checks::opinion_words;
+use area::Area;
 use parity_game::Answer;
 use quasi_solvers::solve_even;
 ghost use mathlib.Core.Path.{_≡_};
@@ -43,8 +44,9 @@ fn run(
         (now (even .exit)) (now (odd .exit)) ⌝ }
 {
     let n = owners.len();
+    let m = targets.len();
     let s = even.len();
-    let all = n + 1 + targets.len() + n + n + n + 2 * (s + 1) + s;
+    let all = Area { n, m, s }.free();
     let base = all + s;
     solver::prepare(offsets, targets, n, s, work, all);
     sets::copy_with(work, base, all, s);

@@ -1,15 +1,16 @@
 -- `run` meets its contract: each call asks for what the calls before it left, and what is copied out are the winning sets.
 use mathlib.Core.Logic.{inl, inr}
 use mathlib.Core.Path.{_≡_, sym, ap, _∙_}
-use Prim.Native.Nat.{ℕ, _+_, _≤_}
+use Prim.Native.Nat.{ℕ, _+_, _≤_, _<_, _^_}
 use native.Mathlib.Omega.{arith}
 use borrow.Author.Needs.{needs}
 use lib.ListN.{length}
 use Rattle.rules.specs.Tables.{Tables, words, tablesOf}
 use Rattle.accepted.specs.Tables.{accepted-sound}
+use Rattle.area.specs.Area.{free}
 use Rattle.area.specs.Lent.{part-is, part-length, words-few}
 use Rattle.sets.specs.Laws.{cleared-all}
-use Rattle.quasi_polynomial.specs.Running.{allAt, run-fits, run-preparable, run-called, run-long, run-opinion}
+use Rattle.quasi_polynomial.specs.Running.{run-fits, run-preparable, run-called, run-long, run-opinion}
 use Rattle.quasi_polynomial.proofs.door.run.Statement.{statement}
 use Rattle.quasi_polynomial.proofs.door.run.Tie as tie
 
@@ -21,8 +22,12 @@ tables g = tablesOf (g .args .owners .now) (g .args .priorities .now) (g .args .
 abbrev start : tie.After-slice-known3 → tie.Start
 start c = c .before .before .before .before .before .before .before
 
+-- where the place of the set of all vertices is known
+abbrev placed : tie.After-prepare → tie.After-free
+placed c = c .before .before
+
 abbrev begun : tie.After-prepare → tie.Start
-begun c = start (c .before .before)
+begun c = start (placed c .before)
 
 abbrev prepared : tie.After-copy-with → tie.After-prepare
 prepared c = c .before .before .before .before
@@ -42,6 +47,9 @@ first c = c .before .before .before .before .before .before
 abbrev whole : tie.After-difference-with → tie.Start
 whole c = begun (prepared (copied (solved c)))
 
+abbrev place : tie.After-difference-with → tie.After-free
+place c = placed (prepared (copied (solved c)))
+
 -- the numbers are small
 few :
     (g : tie.Start) →
@@ -53,56 +61,36 @@ few g =
 
 -- both sets stand in the work area
 fits :
-    (g : tie.Start) →
-    allAt (tables g) (length (g .args .even .now)) + length (g .args .even .now) + length (g .args .even .now) ≤ length (g .args .work .now)
-fits g = run-fits (g .pre)
+    (f : tie.After-free) →
+    let a = start (f .before) .args in
+    f .free .result + length (a .even .now) + length (a .even .now) ≤ length (a .work .now)
+fits f = run-fits (start (f .before) .pre) (f .free .ensures)
 
 -- the work area stays as long
 long : (d : tie.After-difference-with) → length (d .difference-with .last .0) ≡ length (whole d .args .work .now)
 long d =
     let e = solved d in
     let k = copied e in
-    run-long (whole d .pre) (prepared k .prepare .ensures) (k .copy-with .ensures) (e .solve-even .ensures)
+    run-long (whole d .pre) (place d .free .ensures) (prepared k .prepare .ensures) (k .copy-with .ensures) (e .solve-even .ensures)
     (d .difference-with .ensures)
 
-add-all : tie.Need-add-all
-add-all c = search needs
-
-add-all-2 : tie.Need-add-all-2
-add-all-2 c = search needs
-
-add-all-3 : tie.Need-add-all-3
-add-all-3 c = omega (arith, few (start c))
-
-add-all-4 : tie.Need-add-all-4
-add-all-4 c = omega (arith, few (start c))
-
-add-all-5 : tie.Need-add-all-5
-add-all-5 c = omega (arith, few (start c))
-
-add-all-6 : tie.Need-add-all-6
-add-all-6 c = omega (arith, few (start c))
-
-mul-all : tie.Need-mul-all
-mul-all c = omega (arith, few (start c))
-
-add-all-7 : tie.Need-add-all-7
-add-all-7 c = omega (arith, few (start c))
-
-add-all-8 : tie.Need-add-all-8
-add-all-8 c = omega (arith, few (start c))
+free-requires : tie.Need-free-requires
+free-requires c κs =
+    let g = start c in
+    let small : free (length (g .args .owners .now)) (length (g .args .targets .now)) < 2 ^ 64 =
+    omega (arith, few g, g .pre .even-size) in
+    (g .pre .even-size, small)
 
 add-base : tie.Need-add-base
-add-base c = omega (arith, few (start c))
+add-base c = omega (arith, fits c, start (c .before) .good)
 
 prepare-requires : tie.Need-prepare-requires
-prepare-requires c κs = run-preparable (start (c .before) .pre)
+prepare-requires c κs = let f = c .before in run-preparable (start (f .before) .pre) (f .free .ensures)
 
 copy-with-requires : tie.Need-copy-with-requires
 copy-with-requires c κs =
     let p = c .before .before .before in
-    let g = begun p in
-    let room = fits g in
+    let room = fits (placed p) in
     let same-size = p .prepare .ensures .long in
     record { into-fits = omega arith; from-fits = omega arith; apart = inr (omega arith) }
 
@@ -110,24 +98,24 @@ solve-even-requires : tie.Need-solve-even-requires
 solve-even-requires c κs =
     let k = c .before .before .before in
     let p = prepared k in
-    run-called (begun p .pre) (p .prepare .ensures) (k .copy-with .ensures)
+    run-called (begun p .pre) (placed p .free .ensures) (p .prepare .ensures) (k .copy-with .ensures)
 
 difference-with-requires : tie.Need-difference-with-requires
 difference-with-requires c κs =
     let e = c .before .before .before in
     let k = copied e in
     let p = prepared k in
-    let room = fits (begun p) in
+    let room = fits (placed p) in
     let long₁ = p .prepare .ensures .long in
     let long₂ = k .copy-with .ensures .long in
     let long₃ = e .solve-even .ensures .stays .long in
     record { into-fits = omega arith; from-fits = omega arith; apart = inl (omega arith) }
 
 add-copy-from : tie.Need-add-copy-from
-add-copy-from c = omega (arith, few (whole (c .before .before .before)))
+add-copy-from c = let d = c .before .before .before in omega (arith, fits (place d), whole d .good)
 
 mul-copy-from : tie.Need-mul-copy-from
-mul-copy-from c = omega (arith, few (whole (c .before .before .before)))
+mul-copy-from c = let d = c .before .before .before in omega (arith, fits (place d), whole d .good)
 
 sub-copy-from : tie.Need-sub-copy-from
 sub-copy-from c = search needs
@@ -136,23 +124,23 @@ part-copy-from-start : tie.Need-part-copy-from-start
 part-copy-from-start c = search needs
 
 part-copy-from-end : tie.Need-part-copy-from-end
-part-copy-from-end c = let d = c .before .before .before .before in omega (arith, fits (whole d), long d)
+part-copy-from-end c = let d = c .before .before .before .before in omega (arith, fits (place d), long d)
 
 copy-from-requires : tie.Need-copy-from-requires
 copy-from-requires c κs =
     let d = c .before .before .before .before .before in
     let g = whole d in
     let s = length (g .args .even .now) in
-    let base = allAt (tables g) s + s in
+    let base = place d .free .result + s in
     sym
     (ap length (part-is base s (d .difference-with .last .0)) ∙
-    part-length base s (d .difference-with .last .0) (omega (arith, fits g, long d)))
+    part-length base s (d .difference-with .last .0) (omega (arith, fits (place d), long d)))
 
 add-copy-from-2 : tie.Need-add-copy-from-2
-add-copy-from-2 c = omega (arith, few (whole (reduced (c .before .before .before))))
+add-copy-from-2 c = let d = reduced (c .before .before .before) in omega (arith, fits (place d), whole d .good)
 
 mul-copy-from-2 : tie.Need-mul-copy-from-2
-mul-copy-from-2 c = omega (arith, few (whole (reduced (c .before .before .before))))
+mul-copy-from-2 c = let d = reduced (c .before .before .before) in omega (arith, fits (place d), whole d .good)
 
 sub-copy-from-2 : tie.Need-sub-copy-from-2
 sub-copy-from-2 c = search needs
@@ -161,7 +149,7 @@ part-copy-from-start-2 : tie.Need-part-copy-from-start-2
 part-copy-from-start-2 c = search needs
 
 part-copy-from-end-2 : tie.Need-part-copy-from-end-2
-part-copy-from-end-2 c = let d = reduced (c .before .before .before .before) in omega (arith, fits (whole d), long d)
+part-copy-from-end-2 c = let d = reduced (c .before .before .before .before) in omega (arith, fits (place d), long d)
 
 copy-from-requires-2 : tie.Need-copy-from-requires-2
 copy-from-requires-2 c κs =
@@ -170,8 +158,8 @@ copy-from-requires-2 c κs =
     let s = length (g .args .even .now) in
     g .pre .odd-size ∙
     sym
-    (ap length (part-is (allAt (tables g) s) s (d .difference-with .last .0)) ∙
-    part-length (allAt (tables g) s) s (d .difference-with .last .0) (omega (arith, fits g, long d)) ∙
+    (ap length (part-is (place d .free .result) s (d .difference-with .last .0)) ∙
+    part-length (place d .free .result) s (d .difference-with .last .0) (omega (arith, fits (place d), long d)) ∙
     g .pre .even-size)
 
 clear-requires : tie.Need-clear-requires
@@ -195,7 +183,7 @@ returns c =
     let k = copied v in
     let g = whole d in (
       cleared-all (g .args .work .now) (d .difference-with .last .0) (long d) (c .before .before .clear .ensures),
-      run-opinion (g .pre) (prepared k .prepare .ensures) (k .copy-with .ensures) (v .solve-even .ensures)
+      run-opinion (g .pre) (place d .free .ensures) (prepared k .prepare .ensures) (k .copy-with .ensures) (v .solve-even .ensures)
           (d .difference-with .ensures)
           (e .copy-from .last .0)
           (o .copy-from2 .last .0)
@@ -209,15 +197,7 @@ pub run-spec : {M : Type 1} → statement M
 run-spec =
     tie.close
     (tie.spec
-    add-all
-    add-all-2
-    add-all-3
-    add-all-4
-    add-all-5
-    add-all-6
-    mul-all
-    add-all-7
-    add-all-8
+    free-requires
     add-base
     prepare-requires
     copy-with-requires
