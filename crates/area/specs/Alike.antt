@@ -5,6 +5,6 @@ use Prim.Native.Nat.{ℕ}
 use lib.ListN.{length}
 use Rattle.rules.specs.Words.{entry}
 
-pub record Alike (free : ℕ → Type 0) (strategy strategy′ : List ℕ) : Type 0 where
+pub record AlikeAreas (free : ℕ → Type 0) (strategy strategy′ : List ℕ) : Type 0 where
   pub long : length strategy ≡ length strategy′
   pub fixed : (v : ℕ) → (free v → ⊥) → entry strategy v ≡ entry strategy′ v

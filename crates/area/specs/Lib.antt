@@ -1,8 +1,11 @@
 -- Where things stand in the work area, and the laws of parts, sets and walks in it.
+-- contracts: what the functions ask for and leave
 pub mod Area
+-- laws: what other crates cite
 pub mod Lent
 pub mod SetsAt
 pub mod Walking
 pub mod Walked
-pub mod Alike
 pub mod Sizes
+-- lemmas: steps of the proofs here
+pub mod Alike

@@ -6,6 +6,9 @@ ghost use Prim.Native.Nat.{_<_, _^_};
 ghost use Rattle.rules.specs.Tables.{words};
 ghost use Rattle.area.specs.Area.{counters, distances, entries, layers, metAt, free};
 
+// No entry, as a word among the entries.
+pub const NO_ENTRY: u64 = 65535;
+
 // The regions for n vertices and m edges, where a set has s words.
 pub struct Area {
     pub n: usize,

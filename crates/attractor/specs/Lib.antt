@@ -1,7 +1,5 @@
--- What the attractor promises, and why.
-pub mod Attracted
-pub mod Begun
-pub mod Going
-pub mod OneWord
+-- Why the attractor keeps its promise, which stands in `attractor_word` and is passed on.
+pub use Rattle.attractor_word.specs.Attracted
+-- lemmas: steps of the proofs here
 pub mod Running
-pub mod Started
+pub mod LoopBegins

@@ -12,7 +12,8 @@ use lib.Seq.{getD-take, getD-drop}
 use Rattle.rules.specs.Counting.{Set, count}
 use Rattle.rules.specs.Game.{Player, Game, Edge, playerOf, same}
 use Rattle.rules.specs.Tables.{Tables, gameOf, vertices, edgesIn, words, targetsOf, Accepted, tablesOf}
-use Rattle.rules.specs.Attractor.{attractor, looksOf, atFirst, Takes, Finished}
+use Rattle.rules.specs.Attractor.{attractor, looksOf}
+use Rattle.theory.specs.Steps.{atFirst, Takes, Finished}
 use Rattle.rules.specs.Distance.{distance, attractorEntry}
 use Rattle.basics.specs.Basics.{clash, not-true-is-false, count-le, and-intro}
 use Rattle.basics.specs.Sums.{countOf}
@@ -27,16 +28,16 @@ use Rattle.area.specs.Lent.{back, back-part, part-length}
 use Rattle.layer.specs.Layer.{Layer, Poppable, Popped, inLayer, room, marks}
 use Rattle.layer.specs.Laws.{unmarked-empty}
 use Rattle.attractor_counters.specs.Counters.{ownBy, insideCount}
-use Rattle.attractor_step.specs.State.{State}
-use Rattle.attractor_step.specs.Growth.{Mark}
+use Rattle.attractor_look.specs.State.{State}
+use Rattle.attractor_look.specs.Growth.{Mark}
 use Rattle.attractor_step.specs.Taking.{Standing, growing}
-use Rattle.attractor_step.specs.Layers.{takenOf, neither, Parts, Layered, layered-turn}
-use Rattle.attractor_step.specs.View.{cells, layerAt, stateAt}
-use Rattle.attractor_step.specs.Views.{cells-at, Changes, back-changes, changes-cells}
-use Rattle.attractor_step.specs.Views.{changes-set, changes-layer, changes-counter, state-alike, layer-part, layer-long}
-use Rattle.attractor.specs.Attracted.{Attractable, Attracted, owned}
-use Rattle.attractor.specs.Going.{Going, nowAt, takenIn, takenAt, fits, this-low, this-high, layers-apart}
-use Rattle.attractor.specs.OneWord.{From, Stands, Wordable, TookWord, withWord, left-none}
+use Rattle.attractor_step.specs.Layers.{takenOf, neither, LayersApart, Layered, layered-turn}
+use Rattle.attractor_look.specs.InArea.{cells, layerAt, stateAt}
+use Rattle.attractor_look.specs.InAreaLaws.{cells-at, Changes, back-changes, changes-cells}
+use Rattle.attractor_look.specs.InAreaLaws.{changes-set, changes-layer, changes-counter, state-alike, layer-part, layer-long}
+use Rattle.attractor_word.specs.Attracted.{Attractable, Attracted, owned}
+use Rattle.attractor_word.specs.Going.{Going, nowAt, takenIn, takenAt, fits, this-low, this-high, layers-apart}
+use Rattle.attractor_word.specs.OneWord.{From, Stands, Wordable, TookWord, withWord, left-none}
 
 -- before each word is popped, with what stands in this layer left of it: where it is empty, so is the next
 pub record Running (owners offsets targets : List ℕ) (alpha within set : ℕ) (before : List ℕ) (this next far looks : ℕ)
@@ -169,7 +170,7 @@ module _ (owners offsets targets : List ℕ) (alpha within set : ℕ) (before : 
               sides = c .sides;
               layer = subst Layer (sym mid-layer) (popped .layer);
               next-layer = subst Layer (sym mid-next) (c .next-layer);
-              parts = moved (λ (N : Set) (x : State). Parts N x) (c .parts);
+              parts = moved (λ (N : Set) (x : State). LayersApart N x) (c .parts);
               stands =
                   moved
                   (λ (N : Set) (x : State). Standing n (targetsOf offsets targets) V' T own (takenOf N x) x) (c .stands);
@@ -376,7 +377,7 @@ module _ (owners offsets targets : List ℕ) (alpha within set : ℕ) (before : 
               (c .run priorities ok .0) finished
 
 -- two work areas in which V, the target, the entries and all that stays are the same
-pub record Same (n m within set : ℕ) (x y : List ℕ) : Type 0 where
+pub record SameAreas (n m within set : ℕ) (x y : List ℕ) : Type 0 where
   pub long : length y ≡ length x
   pub inside : setAt n within y ≡ setAt n within x
   pub target : setAt n set y ≡ setAt n set x
@@ -387,7 +388,7 @@ pub record Same (n m within set : ℕ) (x y : List ℕ) : Type 0 where
 -- what an attractor leaves of the one it leaves of the other
 pub attracted-moved :
     {t : Tables} {a : Player} {within set : ℕ} {x y after : List ℕ} {looks : ℕ} →
-    Same (vertices t) (edgesIn t) within set x y →
+    SameAreas (vertices t) (edgesIn t) within set x y →
     Attracted t a within set y after looks →
     Attracted t a within set x after looks
 attracted-moved {t} {a} {within} {set} {x} {y} {after} {looks} same c =

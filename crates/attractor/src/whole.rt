@@ -1,14 +1,14 @@
 // The whole attractor: the set at `set` grows from the target to the attractor in the set at `within`. Gives the
 // looks.
-use crate::begin::begin_layers;
-use crate::word::take_word;
 use area::Area;
+use attractor_begin::begin_layers;
+use attractor_word::take_word;
 use layer::marked::pop_word;
 ghost use mathlib.Core.List.{List};
 ghost use Prim.Native.Nat.{ℕ};
 ghost use Rattle.rules.specs.Game.{playerOf};
 ghost use Rattle.rules.specs.Tables.{Accepted, tablesOf};
-ghost use Rattle.attractor.specs.Attracted.{Attractable, Attracted};
+ghost use Rattle.attractor_word.specs.Attracted.{Attractable, Attracted};
 
 pub fn attract(
     owners: &[u8],

@@ -160,7 +160,7 @@ counter-put first n m work work' v x small met here there u = go (ℕ-discrete u
 -- ---- one is taken off
 
 -- what `count_down` asks for
-pub record Countable (offsets targets : List ℕ) (n s within : ℕ) (work : List ℕ) (v : ℕ) : Type 0 where
+pub record CountsDown (offsets targets : List ℕ) (n s within : ℕ) (work : List ℕ) (v : ℕ) : Type 0 where
   pub size : s ≡ words n
   pub edges : SoundEdges n offsets targets
   pub low : free n (length targets) ≤ within
@@ -177,7 +177,7 @@ pub record CountedDown (first : ℕ → ℕ) (n m v : ℕ) (before after : List 
   pub counter :
       (u : ℕ) → counterAt first n m after u ≡ cond (eqb u v) (counterAt first n m before v - 1) (counterAt first n m before u)
 
-module _ {offsets targets : List ℕ} {n s within : ℕ} {work : List ℕ} {v : ℕ} (given : Countable offsets targets n s within work v)
+module _ {offsets targets : List ℕ} {n s within : ℕ} {work : List ℕ} {v : ℕ} (given : CountsDown offsets targets n s within work v)
     {met base : ℕ} (place : met ≡ metAt n (length targets)) (here : base ≡ counters n (length targets))
   where
     abbrev m : ℕ

@@ -7,7 +7,7 @@ ghost use Rattle.rules.specs.Tables.{targetsOf};
 ghost use Rattle.rules.specs.Words.{setOf};
 ghost use Rattle.basics.specs.Sums.{countOf};
 ghost use Rattle.area.specs.Area.{setAt};
-ghost use Rattle.attractor_counters.specs.Counters.{EdgesOf, insideCount, Countable, CountedDown};
+ghost use Rattle.attractor_counters.specs.Counters.{EdgesOf, insideCount, CountsDown, CountedDown};
 
 // The edges of v that end inside the set.
 fn inside_edges(offsets: &[u16], targets: &[u16], v: usize, set: &[u64]) -> u64
@@ -34,7 +34,7 @@ pub fn count_down(
     within: usize,
     v: usize,
 ) -> u64
-    requires { ⌜ Countable (now offsets) (now targets) n s within (now work) v ⌝ }
+    requires { ⌜ CountsDown (now offsets) (now targets) n s within (now work) v ⌝ }
     ensures { λ r.
         ⌜ CountedDown (insideCount (now (offsets .entry)) (now (targets .entry)) (setAt n within (now (work .entry)))) n
         (length (now (targets .entry))) v (now (work .entry)) (now (work .exit)) r ⌝ }

@@ -15,9 +15,9 @@ use Rattle.parity_game.specs.Laws.{check9-set, check9-set-none, check9-table, c
 use Rattle.area.specs.Area.{free}
 use Rattle.rules.specs.Solver.{cleared}
 use Rattle.rules.specs.Attracts.{LentResult, attractorChecks, wanted, AttractorLeaves, Attracts}
-use Rattle.attractor_run.specs.Work.{Runnable, Ran}
-use Rattle.attractor_door.specs.Door.{sizeChecks, lentChecks, checksBy}
-use Rattle.attractor_door.specs.DoorLaws.{within-below, target-part}
+use Rattle.attractor_run.specs.Work.{AttractorRunnable, AttractorRan}
+use Rattle.attractor_checks.specs.Door.{sizeChecks, lentChecks, checksBy}
+use Rattle.attractor_checks.specs.DoorLaws.{within-below, target-part}
 
 pub numbered-checks : (t : Tables) (V' T : List ℕ) (l : LentResult) → Numbered (attractorChecks t V' T l)
 unfolding check12
@@ -61,7 +61,7 @@ attracts-refused t a V' T l o e h =
 pub attracts-answered :
     (t : Tables) (a : Player) (V' T : List ℕ) (before after : LentResult) (looks : ℕ) →
     attractorChecks t V' T before ≡ none →
-    Ran t a V' T (after .result) (after .strategy) (after .distances) looks →
+    AttractorRan t a V' T (after .result) (after .strategy) (after .distances) looks →
     after .work ≡ cleared t (before .work) →
     Attracts t a V' T before after (answered looks)
 attracts-answered t a V' T before after looks passed ran work =
@@ -116,7 +116,7 @@ sizes-right n m within target result strategy distances work e =
     }
 
 -- all that the checks say
-pub record Passed (t : Tables) (V' T : List ℕ) (result strategy distances work : ℕ) : Type 0 where
+pub record AttractorPassed (t : Tables) (V' T : List ℕ) (result strategy distances work : ℕ) : Type 0 where
   pub accepted : Accepted t
   pub sizes : Sizes (vertices t) (edgesIn t) (length V') (length T) result strategy distances work
   pub bits : check12 (vertices t) V' T ≡ none
@@ -124,7 +124,7 @@ pub record Passed (t : Tables) (V' T : List ℕ) (result strategy distances work
 pub checks-passed :
     (t : Tables) (V' T : List ℕ) (result strategy distances work : ℕ) →
     checksBy t V' T result strategy distances work ≡ none →
-    Passed t V' T result strategy distances work
+    AttractorPassed t V' T result strategy distances work
 unfolding Accepted
 checks-passed t V' T result strategy distances work e =
     let n = vertices t in
@@ -150,8 +150,8 @@ pub run-ready :
     (t : Tables) (alpha w : ℕ) (V' T result strategy distances work : List ℕ) →
     alpha ≤ 1 →
     w ≡ workWords (vertices t) (edgesIn t) →
-    Passed t V' T (length result) (length strategy) (length distances) (length work) →
-    Runnable (t .owners) (t .offsets) (t .targets) alpha V' T result strategy distances (take (w - 0) (drop 0 work))
+    AttractorPassed t V' T (length result) (length strategy) (length distances) (length work) →
+    AttractorRunnable (t .owners) (t .offsets) (t .targets) alpha V' T result strategy distances (take (w - 0) (drop 0 work))
 run-ready t alpha w V' T result strategy distances work side is p =
     record {
       priorities = t .priorities;

@@ -1,5 +1,4 @@
--- What the door's functions ask for and leave (Door), why (DoorLaws, Answered), and what a reader may conclude (Promises).
-pub mod Door
-pub mod DoorLaws
+-- Why the door keeps its contract (Answered), and what a reader may conclude (Promises).
+-- lemmas: steps of the proofs here
 pub mod Answered
 pub mod Promises

@@ -9,7 +9,8 @@ use native.Mathlib.Omega.{arith}
 use lib.Dec.{eqb}
 use lib.ListN.{getD, List·getD-eq-default}
 use Rattle.rules.specs.Attracts.{LentResult, attractorChecks, wanted, AttractorAnswered, AttractorLeaves, Attracts}
-use Rattle.rules.specs.Attractor.{IsAttractor, AttractorEntries, looksOf}
+use Rattle.rules.specs.Attractor.{IsAttractor, looksOf}
+use Rattle.theory.specs.Arriving.{AttractorEntries}
 use Rattle.rules.specs.Counting.{Set, listed}
 use Rattle.rules.specs.Distance.{outside, distance, IsDistance}
 use Rattle.rules.specs.Game.{Player, Game}
@@ -24,7 +25,7 @@ use Rattle.basics.specs.Basics.{noted-above}
 use Rattle.parity_game.specs.Laws.{zero-none, accepted-sound}
 use Rattle.sets.specs.Same.{holds-same}
 use Rattle.attractor_door.specs.Answered.{numbered-checks, checks-passed}
-use Rattle.attractor_door.specs.DoorLaws.{within-below, target-part}
+use Rattle.attractor_checks.specs.DoorLaws.{within-below, target-part}
 
 -- no vertex at n or above has another distance than 65,535
 distance-above : (g : Game) (a : Player) (V' T : Set) (v : ℕ) → g .size ≤ v → distance g a V' T v ≡ outside

@@ -32,15 +32,15 @@ pub record Seen (target result work : List ℕ) (base v : ℕ) : Type 0 where
   pub result-bits : v < 64 * length result
 
 -- what `strategy_entry` asks for
-pub record Entered (owners : List ℕ) (alpha : ℕ) (target result work : List ℕ) (base v : ℕ) : Type 0 where
+pub record EntryKnown (owners : List ℕ) (alpha : ℕ) (target result work : List ℕ) (base v : ℕ) : Type 0 where
   pub small : v < length owners
   pub seen : Seen target result work base v
   pub narrow : drawnIn owners alpha target result v ≡ true → wordOf work base v < 65536
 
 -- what `write_strategy` asks for
-pub record Enterable (owners : List ℕ) (alpha : ℕ) (target result work : List ℕ) (base : ℕ) (strategy : List ℕ) : Type 0 where
+pub record EntriesWritable (owners : List ℕ) (alpha : ℕ) (target result work : List ℕ) (base : ℕ) (strategy : List ℕ) : Type 0 where
   pub each : length strategy ≡ length owners
-  pub entered : (v : ℕ) → v < length owners → Entered owners alpha target result work base v
+  pub entered : (v : ℕ) → v < length owners → EntryKnown owners alpha target result work base v
 
 -- what `distance_entry` asks for
 pub record Measured (target result work : List ℕ) (base v : ℕ) : Type 0 where

@@ -1,4 +1,5 @@
 // The distances, of those that the attractor left in the work area.
+use parity_game::NO_DISTANCE;
 ghost use mathlib.Core.Path.{_≡_};
 ghost use lib.ListN.{length};
 ghost use Rattle.rules.specs.Counting.{listed};
@@ -11,7 +12,7 @@ fn distance_entry(target: &[u64], result: &[u64], work: &[u64], far: usize, v: u
         ⌜ r ≡ measure (now (target .entry)) (now (result .entry)) (wordOf (now (work .entry)) far) v ⌝ }
 {
     if !sets::contains(result, v) {
-        return 65535;
+        return NO_DISTANCE;
     }
     if sets::contains(target, v) {
         return 0;

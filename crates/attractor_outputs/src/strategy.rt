@@ -1,8 +1,9 @@
 // The strategy, of the entries that the attractor left in the work area.
+use parity_game::NO_ENTRY;
 ghost use mathlib.Core.Path.{_≡_};
 ghost use lib.ListN.{length};
 ghost use Rattle.rules.specs.Counting.{listed};
-ghost use Rattle.attractor_outputs.specs.Outputs.{wordOf, Entered, chosen, Enterable};
+ghost use Rattle.attractor_outputs.specs.Outputs.{wordOf, EntryKnown, chosen, EntriesWritable};
 
 // The entry of v: its own where v is an own vertex of the result outside the target, else none.
 fn strategy_entry(
@@ -14,19 +15,19 @@ fn strategy_entry(
     entries: usize,
     v: usize,
 ) -> u16
-    requires { ⌜ Entered (now owners) alpha (now target) (now result) (now work) entries v ⌝ }
+    requires { ⌜ EntryKnown (now owners) alpha (now target) (now result) (now work) entries v ⌝ }
     ensures { λ r.
         ⌜ r ≡ chosen (now (owners .entry)) alpha (now (target .entry)) (now (result .entry))
         (wordOf (now (work .entry)) entries) v ⌝ }
 {
     if !sets::contains(result, v) {
-        return 65535;
+        return NO_ENTRY;
     }
     if sets::contains(target, v) {
-        return 65535;
+        return NO_ENTRY;
     }
     if owners[v] != alpha {
-        return 65535;
+        return NO_ENTRY;
     }
     work[entries + v] as u16
 }
@@ -41,7 +42,7 @@ pub fn write_strategy(
     entries: usize,
     strategy: &mut [u16],
 )
-    requires { ⌜ Enterable (now owners) alpha (now target) (now result) (now work) entries (now strategy) ⌝ }
+    requires { ⌜ EntriesWritable (now owners) alpha (now target) (now result) (now work) entries (now strategy) ⌝ }
     ensures { λ _.
         ⌜ now (strategy .exit)
         ≡ listed (length (now (owners .entry)))

@@ -9,7 +9,7 @@ use Rattle.rules.specs.Counting.{listed}
 use Rattle.rules.specs.Words.{setOf, Narrow}
 use Rattle.area.specs.Area.{distances, entries}
 use Rattle.area.specs.Lent.{part-is, part-length}
-use Rattle.attractor_outputs.specs.Outputs.{wordOf, drawnIn, chosen, measure, Seen, Enterable, Measurable}
+use Rattle.attractor_outputs.specs.Outputs.{wordOf, drawnIn, chosen, measure, Seen, EntriesWritable, Measurable}
 use Rattle.attractor_run.specs.Work.{found, Handing, Handed}
 
 module _ (owners : List ℕ) (m alpha : ℕ) (target work : List ℕ) (set : ℕ) (result strategy far : List ℕ)
@@ -35,7 +35,7 @@ module _ (owners : List ℕ) (m alpha : ℕ) (target work : List ℕ) (set : ℕ
       seen : (base v : ℕ) → v < n → base + v < length work → Seen target out work base v
       seen base v l h = record { high = h; target-bits = given .bits v l; result-bits = rw out-long (given .bits v l) }
 
-      pub enter-ready : {row : ℕ} → row ≡ entries n m → Enterable owners alpha target out work row strategy
+      pub enter-ready : {row : ℕ} → row ≡ entries n m → EntriesWritable owners alpha target out work row strategy
       enter-ready {row} at =
           record {
             each = given .strategy-size;

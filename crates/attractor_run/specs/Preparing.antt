@@ -6,13 +6,13 @@ use native.Mathlib.Omega.{arith}
 use lib.ListN.{length, getD, take, drop}
 use lib.Seq.{getD-drop}
 use Rattle.rules.specs.Tables.{words}
-use Rattle.predecessors.specs.Table.{Ready, Predecessors}
+use Rattle.predecessors.specs.Table.{TableReady, Predecessors}
 use Rattle.area.specs.Lent.{back, back-long, back-front, back-part, slice-alike}
 use Rattle.attractor.specs.Attracted.{built-listed}
-use Rattle.attractor_run.specs.Work.{Preparable, Prepared}
+use Rattle.attractor_run.specs.Work.{SetsPreparable, SetsPrepared}
 
 module _ (n : ℕ) (offsets targets within target work : List ℕ) (base : ℕ)
-    (given : Preparable n offsets targets within target work base)
+    (given : SetsPreparable n offsets targets within target work base)
     (first second : List ℕ) (is-first : first ≡ within) (is-second : second ≡ target)
   where
     abbrev m : ℕ
@@ -42,7 +42,7 @@ module _ (n : ℕ) (offsets targets within target work : List ℕ) (base : ℕ)
     pub two-long : length two ≡ length work
     two-long = back-long (base + s) s one second one-fits second-long ∙ one-long
 
-    pub build-ready : Ready n offsets targets two
+    pub build-ready : TableReady n offsets targets two
     build-ready = record { edges = given .edges; room = omega (arith, given .low, given .high, two-long) }
 
     module _ (three : List ℕ) (built : Predecessors n offsets targets two three) where
@@ -59,7 +59,7 @@ module _ (n : ℕ) (offsets targets within target work : List ℕ) (base : ℕ)
           getD-drop (n + 1 + m) two (i - (n + 1 + m)) 0 ∙
           ap (λ (k : ℕ). getD two k 0) at
 
-      pub prepared : Prepared n offsets targets within target work three base
+      pub prepared : SetsPrepared n offsets targets within target work three base
       prepared =
           record {
             long = three-long;

@@ -25,7 +25,7 @@ use Rattle.area.specs.Lent.{words-enough}
 use Rattle.attractor.specs.Attracted.{Attractable, Attracted, edges-sound, owned}
 use Rattle.attractor_counters.specs.Counters.{ownBy}
 use Rattle.attractor_outputs.specs.Outputs.{drawnIn, chosen, measure, drawn-so, measure-out, measure-target, measure-drawn}
-use Rattle.attractor_run.specs.Work.{Preparable, Prepared, found, Handing, Handed, Runnable, Ran}
+use Rattle.attractor_run.specs.Work.{SetsPreparable, SetsPrepared, found, Handing, Handed, AttractorRunnable, AttractorRan}
 
 -- two functions that agree below n have one list
 listed-alike : (n : ℕ) (f h : ℕ → ℕ) → ((v : ℕ) → v < n → f v ≡ h v) → listed n f ≡ listed n h
@@ -53,7 +53,7 @@ drawn-of t a within set before after looks d =
     record { holds = d .holds; met = d .met; distances = d .distances; entered = λ v p q o. d .entered v (p, q, o) }
 
 module _ (owners offsets targets : List ℕ) (alpha : ℕ) (within target result strategy distances work : List ℕ)
-    (given : Runnable owners offsets targets alpha within target result strategy distances work)
+    (given : AttractorRunnable owners offsets targets alpha within target result strategy distances work)
     {base : ℕ} (place : base ≡ free (length owners) (length targets))
   where
     abbrev n : ℕ
@@ -78,7 +78,7 @@ module _ (owners offsets targets : List ℕ) (alpha : ℕ) (within target result
     pub few : (n ≤ 4096) × (m ≤ 16384)
     few = (sound-edges .few-vertices, sound-edges .few-edges)
 
-    pub prepare-ready : Preparable n offsets targets within target work base
+    pub prepare-ready : SetsPreparable n offsets targets within target work base
     prepare-ready =
         record {
           edges = sound-edges;
@@ -88,7 +88,7 @@ module _ (owners offsets targets : List ℕ) (alpha : ℕ) (within target result
           high = fits;
         }
 
-    module _ (one : List ℕ) (prepared : Prepared n offsets targets within target work one base) where
+    module _ (one : List ℕ) (prepared : SetsPrepared n offsets targets within target work one base) where
       within-set : setAt n base one ≡ setOf within
       within-set = ap setOf (prepared .first)
 
@@ -264,7 +264,7 @@ module _ (owners offsets targets : List ℕ) (alpha : ℕ) (within target result
               Handed owners m alpha target two set result' strategy' distances' →
               (priorities : List ℕ) →
               Accepted (tablesOf owners priorities offsets targets) →
-              Ran (tablesOf owners priorities offsets targets) (playerOf alpha) within target result' strategy' distances' looks
+              AttractorRan (tablesOf owners priorities offsets targets) (playerOf alpha) within target result' strategy' distances' looks
           ran result' strategy' distances' handed priorities ok =
               record {
                 set =

@@ -17,7 +17,7 @@ use Rattle.attractor.specs.Attracted.{Listed}
 use Rattle.attractor_outputs.specs.Outputs.{drawnIn, chosen, measure}
 
 -- what `prepare` asks for: two sets' words, and room for them and the predecessor table
-pub record Preparable (n : ℕ) (offsets targets within target work : List ℕ) (base : ℕ) : Type 0 where
+pub record SetsPreparable (n : ℕ) (offsets targets within target work : List ℕ) (base : ℕ) : Type 0 where
   pub edges : SoundEdges n offsets targets
   pub within-size : length within ≡ words n
   pub target-size : length target ≡ words n
@@ -25,7 +25,7 @@ pub record Preparable (n : ℕ) (offsets targets within target work : List ℕ) 
   pub high : base + length within + length within ≤ length work
 
 -- what it leaves
-pub record Prepared (n : ℕ) (offsets targets within target before after : List ℕ) (base : ℕ) : Type 0 where
+pub record SetsPrepared (n : ℕ) (offsets targets within target before after : List ℕ) (base : ℕ) : Type 0 where
   pub long : length after ≡ length before
   pub table : Listed n offsets targets after
   pub first : wordsAt n base after ≡ within
@@ -68,7 +68,7 @@ pub record Handed (owners : List ℕ) (m alpha : ℕ) (target work : List ℕ) (
   pub narrow : Narrow result
 
 -- what `run` asks for: tables that some priorities make accepted, sets and outputs of the right sizes, and room
-pub record Runnable (owners offsets targets : List ℕ) (alpha : ℕ) (within target result strategy distances work : List ℕ)
+pub record AttractorRunnable (owners offsets targets : List ℕ) (alpha : ℕ) (within target result strategy distances work : List ℕ)
     : Type 0 where
   pub priorities : List ℕ
   pub accepted : Accepted (tablesOf owners priorities offsets targets)
@@ -83,7 +83,7 @@ pub record Runnable (owners offsets targets : List ℕ) (alpha : ℕ) (within ta
   pub part : (v : ℕ) → setOf target v ≡ true → setOf within v ≡ true
 
 -- what it leaves
-pub record Ran (t : Tables) (a : Player) (within target result strategy distances : List ℕ) (looks : ℕ) : Type 0 where
+pub record AttractorRan (t : Tables) (a : Player) (within target result strategy distances : List ℕ) (looks : ℕ) : Type 0 where
   pub set : Holds (vertices t) (wanted t a within target) result
   pub entries : strategy ≡ listed (vertices t) (attractorEntry (gameOf t) a (setOf within) (setOf target))
   pub far : distances ≡ listed (vertices t) (distance (gameOf t) a (setOf within) (setOf target))

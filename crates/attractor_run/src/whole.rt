@@ -9,7 +9,7 @@ ghost use Prim.Native.Nat.{ℕ};
 ghost use lib.ListN.{length, replicate};
 ghost use Rattle.rules.specs.Game.{playerOf};
 ghost use Rattle.rules.specs.Tables.{Accepted, tablesOf};
-ghost use Rattle.attractor_run.specs.Work.{Preparable, Prepared, Handing, Handed, Runnable, Ran};
+ghost use Rattle.attractor_run.specs.Work.{SetsPreparable, SetsPrepared, Handing, Handed, AttractorRunnable, AttractorRan};
 
 // V and the target go in, one behind the other, and the predecessor table is built.
 fn prepare(
@@ -21,9 +21,9 @@ fn prepare(
     work: &mut [u64],
     base: usize,
 )
-    requires { ⌜ Preparable n (now offsets) (now targets) (now within) (now target) (now work) base ⌝ }
+    requires { ⌜ SetsPreparable n (now offsets) (now targets) (now within) (now target) (now work) base ⌝ }
     ensures { λ _.
-        ⌜ Prepared n (now (offsets .entry)) (now (targets .entry)) (now (within .entry)) (now (target .entry))
+        ⌜ SetsPrepared n (now (offsets .entry)) (now (targets .entry)) (now (within .entry)) (now (target .entry))
         (now (work .entry)) (now (work .exit)) base ⌝ }
 {
     let s = within.len();
@@ -73,13 +73,13 @@ pub fn run(
     distances: &mut [u16],
     work: &mut [u64],
 ) -> u64
-    requires { ⌜ Runnable (now owners) (now offsets) (now targets) alpha (now within) (now target)
+    requires { ⌜ AttractorRunnable (now owners) (now offsets) (now targets) alpha (now within) (now target)
         (now result) (now strategy) (now distances) (now work) ⌝ }
     ensures { λ r.
         ⌜ (now (work .exit) ≡ replicate (length (now (work .entry))) 0) ×
         ((priorities : List ℕ) →
         Accepted (tablesOf (now (owners .entry)) priorities (now (offsets .entry)) (now (targets .entry))) →
-        Ran
+        AttractorRan
         (tablesOf (now (owners .entry)) priorities (now (offsets .entry)) (now (targets .entry)))
         (playerOf alpha) (now (within .entry)) (now (target .entry)) (now (result .exit)) (now (strategy .exit))
         (now (distances .exit)) r) ⌝ }

@@ -22,9 +22,9 @@ use Rattle.basics.specs.Sums.{countOf}
 use Rattle.theory.specs.Attractor.{Draws, Fits, draws-all, draws-more, grown-zero, attractor-is}
 use Rattle.theory.specs.Distance.{distance-target, distance-draws, near-grown, grown-near, own-joins, other-joins, entry-first}
 use Rattle.attractor_counters.specs.Tally.{tally-pos}
-use Rattle.attractor_step.specs.State.{State, looked}
-use Rattle.attractor_step.specs.Looks.{Onward, onward-looked}
-use Rattle.attractor_step.specs.Taking.{Standing, Ready, andOne, taking-stands, member-drawn, drawn-member, new-met}
+use Rattle.attractor_look.specs.State.{State, looked}
+use Rattle.attractor_look.specs.Looks.{LooksOnward, onward-looked}
+use Rattle.attractor_step.specs.Taking.{Standing, TakeReady, andOne, taking-stands, member-drawn, drawn-member, new-met}
 
 -- the members in neither layer
 abbrev pub takenOf : Set → State → Set
@@ -47,7 +47,7 @@ taken-cases now s u p =
     )
 
 -- both layers are of members, apart from each other
-pub record Parts (now : Set) (s : State) : Type 0 where
+pub record LayersApart (now : Set) (s : State) : Type 0 where
   pub inside : (u : ℕ) → now u ≡ true → s .members u ≡ true
   pub found : (u : ℕ) → s .next u ≡ true → s .members u ≡ true
   pub apart : (u : ℕ) → now u ≡ true → s .next u ≡ false
@@ -55,12 +55,12 @@ pub record Parts (now : Set) (s : State) : Type 0 where
 but-in : (w : ℕ) (now : Set) (u : ℕ) → butOne w now u ≡ true → now u ≡ true
 but-in w now u p = ⊎-elim (λ e. absurd (clash p (rw e))) (λ e. rw e at p) (bool-cases (eqb u w))
 
-module _ {own : Set} {w far : ℕ} {now : Set} {s t : State} (on : Onward own w far s t) (c : Parts now s) (here : now w ≡ true)
+module _ {own : Set} {w far : ℕ} {now : Set} {s t : State} (on : LooksOnward own w far s t) (c : LayersApart now s) (here : now w ≡ true)
   where
     old-next : (u : ℕ) → s .members u ≡ true → t .next u ≡ s .next u
     old-next u m = on .stays u (λ out i. clash m out) .2
 
-    pub parts-onward : Parts (butOne w now) t
+    pub parts-onward : LayersApart (butOne w now) t
     parts-onward =
         record {
           inside = λ u p. on .members u (c .inside u (but-in w now u p));
@@ -175,7 +175,7 @@ module _ (g : Game) (a : Player) (V' T own : Set) where
             )
 
         module _ (w : ℕ) (row : List ℕ) (here : now w ≡ true) (lowest : (u : ℕ) → u < w → now u ≡ false)
-            (nx : Ready (g .size) (g .targets) (takenOf now s) w row s)
+            (nx : TakeReady (g .size) (g .targets) (takenOf now s) w row s)
           where
             abbrev t : State
             t = looked V' own w (suc d) row s
@@ -183,7 +183,7 @@ module _ (g : Game) (a : Player) (V' T own : Set) where
             abbrev now' : Set
             now' = butOne w now
 
-            on : Onward own w (suc d) s t
+            on : LooksOnward own w (suc d) s t
             on = onward-looked V' own w (suc d) row s
 
             stands : Standing (g .size) (g .targets) V' T own (andOne w (takenOf now s)) t

@@ -1,9 +1,6 @@
--- The attractor's state, what one look and one step make of it, and how it stands in the work area.
-pub mod State
-pub mod Growth
-pub mod Looks
+-- One member taken: that it is one of the rules' steps (Taking), what that makes of a layer (Layers), and over the work area (TakeLoop).
+-- contracts: what the functions ask for and leave
+pub mod TakeLoop
+-- laws: what other crates cite
 pub mod Taking
 pub mod Layers
-pub mod View
-pub mod Views
-pub mod TakeLoop

@@ -10,23 +10,23 @@ use lib.Seq.{take-suc, take-all, getD-take, getD-drop}
 use Rattle.rules.specs.Counting.{Set}
 use Rattle.rules.specs.Game.{Player, Game, same}
 use Rattle.rules.specs.Tables.{words}
-use Rattle.rules.specs.Attractor.{TakesOne}
+use Rattle.theory.specs.Steps.{TakesOne}
 use Rattle.predecessors.specs.Table.{start, row, SoundEdges}
 use Rattle.area.specs.Area.{setAt}
 use Rattle.layer.specs.Layer.{Layer}
 use Rattle.attractor_counters.specs.Counters.{ownBy, insideCount}
-use Rattle.attractor_step.specs.State.{State, touched, looked, looked-none, looked-more}
-use Rattle.attractor_step.specs.Looks.{Safe}
-use Rattle.attractor_step.specs.Taking.{Standing, Ready, andOne, growing, taking-step}
-use Rattle.attractor_step.specs.View.{layerAt, stateAt, Placed, Room, Becomes, Touchable}
-use Rattle.attractor_step.specs.Views.{kept-set, kept-placed, kept-room, becomes-same, becomes-then, becomes-as}
+use Rattle.attractor_look.specs.State.{State, touched, looked, looked-none, looked-more}
+use Rattle.attractor_look.specs.Looks.{Safe}
+use Rattle.attractor_step.specs.Taking.{Standing, TakeReady, andOne, growing, taking-step}
+use Rattle.attractor_look.specs.InArea.{layerAt, stateAt, SetsPlaced, SetRoom, Becomes, Touchable}
+use Rattle.attractor_look.specs.InAreaLaws.{kept-set, kept-placed, kept-room, becomes-same, becomes-then, becomes-as}
 
 -- what `take` asks for: the row of w lies in the table, and each look along it is safe
 pub record Takeable (owners offsets targets : List ℕ) (s alpha within set next : ℕ) (work : List ℕ) (w far : ℕ) : Type 0 where
   pub size : s ≡ words (length owners)
   pub edges : SoundEdges (length owners) offsets targets
-  pub placed : Placed (length owners) (length targets) within set work
-  pub room : Room (length owners) (length targets) set next work
+  pub placed : SetsPlaced (length owners) (length targets) within set work
+  pub room : SetRoom (length owners) (length targets) set next work
   pub layer : Layer (layerAt (length owners) next work)
   pub small : w < length owners
   pub rising : start work w ≤ start work (w + 1)
@@ -54,7 +54,7 @@ pub record Took (owners offsets targets : List ℕ) (alpha within set next w far
       (g : Game) (a : Player) (T taken : Set) (looks : ℕ) →
       ((v : ℕ) → ownBy owners alpha v ≡ same (g .owner v) a) →
       Standing (g .size) (g .targets) (setAt n within before) T (ownBy owners alpha) taken (state before) →
-      Ready (g .size) (g .targets) taken w (row n before w) (state before) →
+      TakeReady (g .size) (g .targets) taken w (row n before w) (state before) →
       TakesOne g a (setAt n within before)
       (growing taken looks (state before))
       (growing (andOne w taken) (looks + length (row n before w)) (state after))

@@ -11,7 +11,8 @@ use lib.Dec.{eqb}
 use lib.ListN.{length, getD, take}
 use Rattle.rules.specs.Counting.{Set, someOf, times}
 use Rattle.rules.specs.Game.{Player, Game, edges, same}
-use Rattle.rules.specs.Attractor.{drawn, Growing, TakesOne}
+use Rattle.rules.specs.Attractor.{drawn}
+use Rattle.theory.specs.Steps.{Growing, TakesOne}
 use Rattle.basics.specs.Basics.{bool-cases, clash, bool-ext, and-intro, and-right, or-left, or-right, or-cases}
 use Rattle.basics.specs.Basics.{not-true-is-false, not-false-is-true}
 use Rattle.theory.specs.Players.{same-true, same-false, true-same, false-same}
@@ -19,8 +20,8 @@ use Rattle.basics.specs.Basics.{times-member, someOf-intro, lt-or-ge}
 use Rattle.basics.specs.Sums.{countOf}
 use Rattle.theory.specs.Attractor.{Draws, by-own, by-other, draws, drawn-so}
 use Rattle.attractor_counters.specs.Tally.{tally-mono-on, tally-more, tally-pos, tally-some, tally-full}
-use Rattle.attractor_step.specs.State.{State, looked}
-use Rattle.attractor_step.specs.Looks.{Grown, Safe, Rest, grown-looked, looked-safe, onward-looked}
+use Rattle.attractor_look.specs.State.{State, looked}
+use Rattle.attractor_look.specs.Looks.{Grown, Safe, Rest, grown-looked, looked-safe, onward-looked}
 
 -- some members are taken, and the entries met are those of the taken
 abbrev pub Standing : ℕ → (ℕ → List ℕ) → Set → Set → Set → Set → State → Type 0
@@ -36,14 +37,14 @@ abbrev pub andOne : ℕ → Set → Set
 andOne w S u = S u || eqb u w
 
 -- w may be taken next: a member that is not taken, with its row
-pub record Ready (n : ℕ) (targets : ℕ → List ℕ) (taken : Set) (w : ℕ) (row : List ℕ) (s : State) : Type 0 where
+pub record TakeReady (n : ℕ) (targets : ℕ → List ℕ) (taken : Set) (w : ℕ) (row : List ℕ) (s : State) : Type 0 where
   pub member : s .members w ≡ true
   pub fresh : taken w ≡ false
   pub listed : Row n targets w row
 
 module _ (n : ℕ) (targets : ℕ → List ℕ) (V' T own taken : Set) (w far : ℕ) (row : List ℕ) (s : State)
     (st : Standing n targets V' T own taken s)
-    (nx : Ready n targets taken w row s)
+    (nx : TakeReady n targets taken w row s)
   where
     abbrev seen : ℕ → ℕ
     seen u = countOf (targets u) taken
@@ -129,7 +130,7 @@ module _ (g : Game) (a : Player) (V' T own : Set) (owned : (v : ℕ) → own v �
             omega arith
 
   module _ (taken : Set) (looks w far : ℕ) (row : List ℕ) (s : State) (st : Standsᵍ taken s)
-      (nx : Ready (g .size) (g .targets) taken w row s) where
+      (nx : TakeReady (g .size) (g .targets) taken w row s) where
     abbrev next : State
     next = looked V' own w far row s
 

@@ -1,3 +1,2 @@
-// One step of an attractor: a member is taken, each of its predecessor entries is looked at, and whom they complete
-// comes in, with its distance and entry, and into the next layer.
+// One step of an attractor: a member is taken, and each of its predecessor entries is looked at, by `attractor_look`.
 pub mod step;

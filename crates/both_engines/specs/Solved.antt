@@ -26,15 +26,15 @@ use Rattle.printing.specs.declared.line.Counted.the-variants.{Needed, Over}
 use Rattle.printing.specs.Line.{lineBytes}
 
 -- a game for the engines, and room for the line
-pub record Given (t : Tables) (out : List ℕ) : Type 0 where
+pub record EnginesGiven (t : Tables) (out : List ℕ) : Type 0 where
   pub accepted : Accepted t
   pub few : vertices t ≤ 128
   pub short : edgesIn t ≤ 512
   pub room : 256 ≤ length out
 
 -- and its kept numbers and rooms for the engines
-pub record Ready (t : Tables) (kept : List ℕ) (l : Lent) (out : List ℕ) : Type 0 where
-  pub counted : Reading.Counted t kept
+pub record EnginesReady (t : Tables) (kept : List ℕ) (l : Lent) (out : List ℕ) : Type 0 where
+  pub counted : Reading.FreshlyCounted t kept
   pub few : vertices t ≤ 128
   pub room : 256 ≤ length out
   pub even-size : length (l .even) ≡ words (vertices t)
@@ -66,7 +66,7 @@ unfolding check10
 check10-passes n m w enough = rw (le-ltb w (workWords n m) enough)
 
 -- no engine refuses
-pub ready-passes : {t : Tables} {kept : List ℕ} {l : Lent} {out : List ℕ} → Ready t kept l out → solverChecks t l ≡ none
+pub ready-passes : {t : Tables} {kept : List ℕ} {l : Lent} {out : List ℕ} → EnginesReady t kept l out → solverChecks t l ≡ none
 unfolding Accepted
 ready-passes {t} {kept} {l} {out} r =
     rw (
@@ -95,14 +95,14 @@ counted-budgeted budget needed = by (ltb budget needed)
     by false = refl
 
 -- Odd's words after an engine: as before where it gave 13, else the set it found
-pub record Kept (over : Bool) (n : ℕ) (odd : Set) (before after : List ℕ) : Type 0 where
+pub record OddsWordsKept (over : Bool) (n : ℕ) (odd : Set) (before after : List ℕ) : Type 0 where
   pub same : over ≡ true → after ≡ before
   pub told : over ≡ false → Holds n odd after
 
 leaves-kept :
     (over : Bool) (t : Tables) (won : Player → Set) (entries : ℕ → ℕ) (before after : Lent) →
     Leaves none over t won entries before after →
-    Kept over (vertices t) (won Odd) (before .odd) (after .odd)
+    OddsWordsKept over (vertices t) (won Odd) (before .odd) (after .odd)
 leaves-kept true t won entries before after l =
     record { same = λ e. l .odd; told = λ e. absurd (clash refl e) }
 leaves-kept false t won entries before after l =
@@ -114,7 +114,7 @@ module _ {budget : ℕ} {t : Tables} {needed : ℕ} {won : Player → Set} {entr
   solves-counted =
       ap countedOf (s .gives ∙ ap (λ (v : Verdict). outcome v (budgeted budget needed)) passes) ∙ counted-budgeted budget needed
 
-  pub solves-kept : Kept (ltb budget needed) (vertices t) (won Odd) (before .odd) (after .odd)
+  pub solves-kept : OddsWordsKept (ltb budget needed) (vertices t) (won Odd) (before .odd) (after .odd)
   solves-kept =
       leaves-kept (ltb budget needed) t won entries before after
       (subst (λ (v : Verdict). Leaves v (ltb budget needed) t won entries before after) passes (s .leaves))
@@ -154,9 +154,9 @@ line-by false false calls rounds n S zielonkas promotions first second =
 -- **promotion first, then Zielonka over its words: the line is the rule's**
 pub line-solved :
     (budget : ℕ) (t : Tables) (start between after : List ℕ) →
-    Kept (ltb budget (roundsNeeded (gameOf t))) (vertices t)
+    OddsWordsKept (ltb budget (roundsNeeded (gameOf t))) (vertices t)
     (afterRounds (gameOf t) (roundsNeeded (gameOf t)) .won Odd) start between →
-    Kept (ltb budget (zielonka (gameOf t) .calls)) (vertices t) (zielonka (gameOf t) .won Odd) between after →
+    OddsWordsKept (ltb budget (zielonka (gameOf t) .calls)) (vertices t) (zielonka (gameOf t) .won Odd) between after →
     lineBytes (vertices t) (setOf after) (countedFor budget (zielonka (gameOf t) .calls))
     (countedFor budget (roundsNeeded (gameOf t))) ≡
     solvedLine budget (gameOf t)

@@ -5,8 +5,8 @@ ghost use mathlib.Core.Path.{_≡_};
 ghost use Rattle.rules.specs.Printing.{solvedLine};
 ghost use Rattle.rules.specs.Tables.{gameOf, tablesOf};
 ghost use Rattle.parity_game.specs.Said.{said};
-ghost use Rattle.printing.specs.Puts.{Puts};
-ghost use Rattle.both_engines.specs.Solved.{countedOf, Ready, Given};
+ghost use Rattle.putting.specs.Puts.{Puts};
+ghost use Rattle.both_engines.specs.Solved.{countedOf, EnginesReady, EnginesGiven};
 
 // What an engine that accepted the game needed, or that it was too much.
 fn counted(answer: Answer) -> Counted
@@ -32,7 +32,7 @@ fn solve_in(
     work: &mut [u64],
     out: &mut [u8],
 ) -> usize
-    requires { ⌜ Ready (tablesOf (now owners) (now priorities) (now offsets) (now targets)) (now kept)
+    requires { ⌜ EnginesReady (tablesOf (now owners) (now priorities) (now offsets) (now targets)) (now kept)
         (record { even = now even; odd = now odd; strategy = now strategy; work = now work }) (now out) ⌝ }
     ensures { λ r.
         ⌜ Puts 0
@@ -88,7 +88,7 @@ pub fn solve_tables(
     budget: u64,
     out: &mut [u8],
 ) -> usize
-    requires { ⌜ Given (tablesOf (now owners) (now priorities) (now offsets) (now targets)) (now out) ⌝ }
+    requires { ⌜ EnginesGiven (tablesOf (now owners) (now priorities) (now offsets) (now targets)) (now out) ⌝ }
     ensures { λ r.
         ⌜ Puts 0
         (solvedLine budget

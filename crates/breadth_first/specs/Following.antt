@@ -10,7 +10,7 @@ use Rattle.rules.specs.Loop.{Path, alone, next}
 use Rattle.rules.specs.Mending.{overwritten}
 
 -- x's word says y
-pub record Onward (n row : ℕ) (work : List ℕ) (x y : ℕ) : Type 0 where
+pub record FollowsOnward (n row : ℕ) (work : List ℕ) (x y : ℕ) : Type 0 where
   pub start : x < n
   pub end : y < n
   pub word : getD work (row + x) 0 ≡ y + 1
@@ -18,7 +18,7 @@ pub record Onward (n row : ℕ) (work : List ℕ) (x y : ℕ) : Type 0 where
 -- the way from x, and that it ends
 pub record Way (n row : ℕ) (work : List ℕ) (x : ℕ) (vs : List ℕ) : Type 0 where
   pub last : ℕ
-  pub path : Path (Onward n row work) x last vs
+  pub path : Path (FollowsOnward n row work) x last vs
   pub vertex : last < n
   pub ends : getD work (row + last) 0 ≡ n + 1
 
@@ -56,11 +56,11 @@ pub overwritten-length : (ys before : List ℕ) → length ys ≤ length before 
 overwritten-length ys before fits = rw (length-append ys (drop (length ys) before), length-drop) (omega arith)
 
 module _ {n row : ℕ} {work : List ℕ} where
-  path-start : {x y : ℕ} {vs : List ℕ} → Path (Onward n row work) x y vs → y < n → x < n
+  path-start : {x y : ℕ} {vs : List ℕ} → Path (FollowsOnward n row work) x y vs → y < n → x < n
   path-start alone l = l
   path-start (next e r) l = e .start
 
-  path-some : {x y : ℕ} {vs : List ℕ} → Path (Onward n row work) x y vs → 0 < length vs
+  path-some : {x y : ℕ} {vs : List ℕ} → Path (FollowsOnward n row work) x y vs → 0 < length vs
   path-some alone = omega arith
   path-some (next e r) = omega arith
 
@@ -70,13 +70,13 @@ module _ {n row : ℕ} {work : List ℕ} where
 
   -- where the first word is n + 1 there is no other
   path-stops :
-      {x y : ℕ} {vs : List ℕ} → Path (Onward n row work) x y vs → getD work (row + x) 0 ≡ n + 1 → vs ≡ x ∷ []
+      {x y : ℕ} {vs : List ℕ} → Path (FollowsOnward n row work) x y vs → getD work (row + x) 0 ≡ n + 1 → vs ≡ x ∷ []
   path-stops alone stop = refl
   path-stops (next e r) stop = absurd (omega (arith, e .word, e .end))
 
   -- and where it is not, there is a next
   path-goes :
-      {x y : ℕ} {vs : List ℕ} → Path (Onward n row work) x y vs → y < n → getD work (row + y) 0 ≡ n + 1 →
+      {x y : ℕ} {vs : List ℕ} → Path (FollowsOnward n row work) x y vs → y < n → getD work (row + y) 0 ≡ n + 1 →
       (getD work (row + x) 0 ≡ n + 1 → ⊥) →
       (rest : List ℕ) × (vs ≡ x ∷ rest) × Way n row work (getD work (row + x) 0 - 1) rest × (0 < getD work (row + x) 0)
   path-goes alone l stop goes = absurd (goes stop)

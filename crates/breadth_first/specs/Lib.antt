@@ -1,4 +1,5 @@
 -- What the search and the way that it leaves promise.
+-- contracts: what the functions ask for and leave
 pub mod Following
 pub mod Spreading
-pub mod Beginning
+pub mod SearchBegins

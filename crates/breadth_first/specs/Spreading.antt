@@ -15,11 +15,11 @@ use Rattle.rules.specs.Winning.{Reach, here, step}
 use Rattle.basics.specs.Basics.{bool-cases, clash, below-suc, lt-or-ge}
 use Rattle.theory.specs.Loop.{path-map}
 use Rattle.search_rows.specs.Rows.{queue, labels, hits}
-use Rattle.depth_first.specs.Area.{Within, within-same, within-then, true-marked, marked-true}
-use Rattle.depth_first.specs.Graph.{Graph, size, edgeCount, priority, Leads, SoundGraph}
-use Rattle.depth_first.specs.Leading.{link}
+use Rattle.search_links.specs.Area.{Within, within-same, within-then, true-marked, marked-true}
+use Rattle.search_links.specs.Graph.{Graph, size, edgeCount, priority, Leads, SoundGraph}
+use Rattle.search_links.specs.Leading.{link}
 use Rattle.depth_first.specs.Walking.{Room}
-use Rattle.depth_first.specs.Seeking.{assigned, labelWord, queued, rowStart, Rows, rows-kept, Lookable, Looked}
+use Rattle.backward_look.specs.Seeking.{assigned, labelWord, queued, rowStart, Rows, rows-kept, Lookable, Looked}
 use Rattle.breadth_first.specs.Following as Words
 
 -- x leads to y, and its word says so
@@ -28,14 +28,14 @@ pub record Onward (G : Graph) (work : List ℕ) (x y : ℕ) : Type 0 where
   pub word : labelWord G work x ≡ y + 1
 
 -- a way along the links, as the words show it, to where the search began
-pub record Way (G : Graph) (work : List ℕ) (x : ℕ) (vs : List ℕ) : Type 0 where
+pub record SpreadWay (G : Graph) (work : List ℕ) (x : ℕ) (vs : List ℕ) : Type 0 where
   pub last : ℕ
   pub path : Path (Onward G work) x last vs
   pub vertex : last < size G
   pub ends : labelWord G work last ≡ size G + 1
 
 -- the queue and the row: the vertices before the head were looked at
-pub record Standing (G : Graph) (work : List ℕ) (head tail : ℕ) : Type 0 where
+pub record QueueStanding (G : Graph) (work : List ℕ) (head tail : ℕ) : Type 0 where
   pub sound : SoundGraph G
   pub room : Room G work
   pub rows : Rows G work
@@ -45,30 +45,30 @@ pub record Standing (G : Graph) (work : List ℕ) (head tail : ℕ) : Type 0 whe
   pub stands : (u : ℕ) → assigned G work u ≡ true → (k : ℕ) × (k < tail) × (queued G work k ≡ u)
   pub joined : (k : ℕ) → k < tail → assigned G work (queued G work k) ≡ true
   pub small : (k : ℕ) → k < tail → priority G (queued G work k) ≤ G .top
-  pub ways : (k : ℕ) → k < tail → (vs : List ℕ) × Way G work (queued G work k) vs × (length vs ≤ k + 1)
+  pub ways : (k : ℕ) → k < tail → (vs : List ℕ) × SpreadWay G work (queued G work k) vs × (length vs ≤ k + 1)
   pub seen : (k u : ℕ) → k < head → Leads G u (queued G work k) → assigned G work u ≡ true
 
 -- only words of the queue and the row change, what has a word keeps one, and only where the search began it is n + 1
-pub record Kept (G : Graph) (before after : List ℕ) : Type 0 where
+pub record SpreadKept (G : Graph) (before after : List ℕ) : Type 0 where
   pub within : Within (queue (size G) (edgeCount G)) (hits (size G) (edgeCount G)) before after
   pub grows : (u : ℕ) → assigned G before u ≡ true → assigned G after u ≡ true
   pub begun : (u : ℕ) → u < size G → labelWord G after u ≡ size G + 1 → labelWord G before u ≡ size G + 1
 
 -- all that stands in the queue was looked at
 pub record Spread (G : Graph) (before after : List ℕ) : Type 0 where
-  pub kept : Kept G before after
+  pub kept : SpreadKept G before after
   pub tail : ℕ
-  pub standing : Standing G after tail tail
+  pub standing : QueueStanding G after tail tail
 
-pub kept-same : (G : Graph) (work : List ℕ) → Kept G work work
+pub kept-same : (G : Graph) (work : List ℕ) → SpreadKept G work work
 kept-same G work = record { within = within-same _ _ work; grows = λ u p. p; begun = λ u l e. e }
 
 -- ways stay where words stay
 pub way-kept :
     {G : Graph} {before after : List ℕ} {x : ℕ} {vs : List ℕ} →
     ((u : ℕ) → assigned G before u ≡ true → labelWord G after u ≡ labelWord G before u) →
-    Way G before x vs →
-    Way G after x vs
+    SpreadWay G before x vs →
+    SpreadWay G after x vs
 way-kept {G} {before} {after} old w =
     record {
       last = w .last;
@@ -82,7 +82,7 @@ way-kept {G} {before} {after} old w =
 
 -- the words alone show the way
 pub way-words :
-    {G : Graph} {work : List ℕ} {x : ℕ} {vs : List ℕ} → Way G work x vs → Words.Way (size G)
+    {G : Graph} {work : List ℕ} {x : ℕ} {vs : List ℕ} → SpreadWay G work x vs → Words.Way (size G)
     (labels (size G) (edgeCount G)) work x vs
 way-words w =
     record {
@@ -93,7 +93,7 @@ way-words w =
     }
 
 -- a way of two vertices or more does not end where it starts
-pub way-once : {G : Graph} {work : List ℕ} {x : ℕ} {vs : List ℕ} (w : Way G work x vs) → 2 ≤ length vs → w .last ≡ x → ⊥
+pub way-once : {G : Graph} {work : List ℕ} {x : ℕ} {vs : List ℕ} (w : SpreadWay G work x vs) → 2 ≤ length vs → w .last ≡ x → ⊥
 way-once {G} {work} w two same = go (w .path) two same (w .ends)
   where
     go :
@@ -103,7 +103,7 @@ way-once {G} {work} w two same = go (w .path) two same (w .ends)
         let word = ap (labelWord G work) same in
         omega (arith, e .word, e .leads .end)
 
-module _ (G : Graph) (work : List ℕ) (head tail : ℕ) (s : Standing G work head tail) (more : head < tail) where
+module _ (G : Graph) (work : List ℕ) (head tail : ℕ) (s : QueueStanding G work head tail) (more : head < tail) where
   abbrev w : ℕ
   w = queued G work head
 
@@ -150,7 +150,7 @@ module _ (G : Graph) (work : List ℕ) (head tail : ℕ) (s : Standing G work he
 
     new-way :
         (k u : ℕ) → tail ≤ k → assigned G after u ≡ true → assigned G work u ≡ false →
-        (vs : List ℕ) × Way G after u vs × (length vs ≤ k + 1)
+        (vs : List ℕ) × SpreadWay G after u vs × (length vs ≤ k + 1)
     new-way k u above p q =
         let (vs, way, short) = s .ways head more in
         let on = way-kept (looked .old) way in (
@@ -164,7 +164,7 @@ module _ (G : Graph) (work : List ℕ) (head tail : ℕ) (s : Standing G work he
           omega arith,
         )
 
-    pub standing-moves : Standing G after (head + 1) end
+    pub standing-moves : QueueStanding G after (head + 1) end
     standing-moves =
         record {
           sound = s .sound;
@@ -185,7 +185,7 @@ module _ (G : Graph) (work : List ℕ) (head tail : ℕ) (s : Standing G work he
               each (λ k u. priority G u ≤ G .top) (s .small)
               (λ k u a l p q. link G (s .sound) u w (looked .leading u p q) .start-low);
           ways =
-              each (λ k u. (vs : List ℕ) × Way G after u vs × (length vs ≤ k + 1))
+              each (λ k u. (vs : List ℕ) × SpreadWay G after u vs × (length vs ≤ k + 1))
               (λ k l. let (vs, way, short) = s .ways k l in (vs, way-kept (looked .old) way, short))
               (λ k u a l p q. new-way k u a p q);
           seen =
@@ -197,7 +197,7 @@ module _ (G : Graph) (work : List ℕ) (head tail : ℕ) (s : Standing G work he
               (below-suc (rw add-one at l));
         }
 
-    pub kept-moves : (start : List ℕ) → Kept G start work → Kept G start after
+    pub kept-moves : (start : List ℕ) → SpreadKept G start work → SpreadKept G start after
     kept-moves start k =
         record {
           within = within-then (k .within) (looked .within);
@@ -215,11 +215,11 @@ module _ (G : Graph) (work : List ℕ) (head tail : ℕ) (s : Standing G work he
 
 module _ (G : Graph) (before after : List ℕ) (s : Spread G before after) where
   -- a vertex that has a word has a way, of at most n vertices
-  pub found-way : (u : ℕ) → assigned G after u ≡ true → (vs : List ℕ) × Way G after u vs × (length vs ≤ size G)
+  pub found-way : (u : ℕ) → assigned G after u ≡ true → (vs : List ℕ) × SpreadWay G after u vs × (length vs ≤ size G)
   found-way u p =
       let (k, l, is) = s .standing .stands u p in
       let (vs, way, short) = s .standing .ways k l in
-      (vs, subst (λ (x : ℕ). Way G after x vs) is way, omega (arith, s .standing .bound))
+      (vs, subst (λ (x : ℕ). SpreadWay G after x vs) is way, omega (arith, s .standing .bound))
 
   -- and what leads to one has a word
   found-back : (u v : ℕ) → Leads G u v → assigned G after v ≡ true → assigned G after u ≡ true

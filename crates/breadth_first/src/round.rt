@@ -1,9 +1,9 @@
 // The way round from a vertex back to it.
 use crate::search::spread;
-use depth_first::look_back;
+use backward_look::look_back;
 use search_rows::Rows;
-ghost use Rattle.depth_first.specs.Graph.{graph};
-ghost use Rattle.breadth_first.specs.Beginning.{Roundable, Rounded};
+ghost use Rattle.search_links.specs.Graph.{graph};
+ghost use Rattle.breadth_first.specs.SearchBegins.{Roundable, Rounded};
 
 // The search among priorities of at most p that begins at what leads to u: the way from u then ends at a vertex that
 // leads to u.

@@ -1,8 +1,8 @@
 // The search itself.
-use depth_first::look_back;
+use backward_look::look_back;
 use search_rows::Rows;
-ghost use Rattle.depth_first.specs.Graph.{graph};
-ghost use Rattle.breadth_first.specs.Spreading.{Standing, Spread};
+ghost use Rattle.search_links.specs.Graph.{graph};
+ghost use Rattle.breadth_first.specs.Spreading.{QueueStanding, Spread};
 
 // Each vertex that leads to one in the queue gets that one plus 1 as its word, unless it has a word, and goes to the
 // end of the queue; those that the search begins at stand there already, with the word n + 1.
@@ -15,7 +15,7 @@ pub fn spread(
     work: &mut [u64],
     begun: usize,
 )
-    requires { ⌜ Standing (graph (now priorities) (now offsets) (now targets) (now entries) p) (now work) 0 begun ⌝ }
+    requires { ⌜ QueueStanding (graph (now priorities) (now offsets) (now targets) (now entries) p) (now work) 0 begun ⌝ }
     ensures { λ _.
         ⌜ Spread (graph (now (priorities .entry)) (now (offsets .entry)) (now (targets .entry))
         (now (entries .entry)) p)

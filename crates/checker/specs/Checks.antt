@@ -30,9 +30,11 @@ use Rattle.parity_game.specs.Laws.{Numbered, numbered-givenAt}
 use Rattle.predecessors.specs.Whole.{accepted-edges}
 use Rattle.lent_checks.specs.Checks.{checksBy, checks-passed}
 use Rattle.search_rows.specs.Rows.{behind}
-use Rattle.depth_first.specs.Area.{Cleared, marked}
-use Rattle.checker_sides.specs.Sides.{Sets, Given, Sided, ownBy, sideOf, unchosen, entryNumber, wrongEntry, leavesSet, entry-is}
-use Rattle.checker.specs.Cycles.{losingAt, Scannable, MarksReady, CyclesMarked}
+use Rattle.search_links.specs.Area.{ClearedUpTo, marked}
+use Rattle.checker_partition.specs.Partition.{Sets}
+use Rattle.checker_entries.specs.Entries.{EntriesGiven, ownBy, unchosen, entryNumber, wrongEntry, entry-is}
+use Rattle.checker_sides.specs.Sides.{Sided, sideOf, leavesSet}
+use Rattle.checker.specs.Cycles.{losingAt, CyclesScannable, MarksReady, CyclesMarked}
 
 pub record CyclesReady (t : Tables) (even strategy work : List ℕ) : Type 0 where
   pub accepted : Accepted t
@@ -123,7 +125,7 @@ module _ {t : Tables} {even strategy before : List ℕ} (given : CyclesReady t e
       abbrev rows : ℕ
       rows = behind (length (t .priorities)) m
 
-      pub scan-ready : Scannable even after rows (length (t .priorities))
+      pub scan-ready : CyclesScannable even after rows (length (t .priorities))
       scan-ready =
           record { sets = omega (arith, given .sets, each); room = omega (arith, fits, given .room, done .long) }
 
@@ -221,7 +223,7 @@ module _ {t : Tables} {even odd strategy before : List ℕ} (given : Certifiable
         few = rw (given .even-long) (words-few vs (accepted-sound t (given .accepted) .few-vertices));
       }
 
-  pub entries-ready : Given (t .owners) (t .offsets) (t .targets) even strategy
+  pub entries-ready : EntriesGiven (t .owners) (t .offsets) (t .targets) even strategy
   entries-ready =
       record { edges = accepted-edges t (given .accepted); strategy-long = given .strategy-long; even-long = covers }
 
@@ -318,7 +320,7 @@ module _ {t : Tables} {even odd strategy before : List ℕ} where
       (ok : refusals t even odd strategy before ≡ none) {middle after : List ℕ} {o : Outcome} →
       Certifies t even odd strategy before middle o →
       {cleared-to : ℕ} → cleared-to ≡ workWords (vertices t) (edgesIn t) →
-      Cleared 0 cleared-to middle after →
+      ClearedUpTo 0 cleared-to middle after →
       Checks t even odd strategy before after o
   checks-done ok {middle} {after} {o} c is zeros =
       record {
@@ -329,8 +331,8 @@ module _ {t : Tables} {even odd strategy before : List ℕ} where
       W : ℕ
       W = workWords (vertices t) (edgesIn t)
 
-      z : Cleared 0 W middle after
-      z = subst (λ (k : ℕ). Cleared 0 k middle after) is zeros
+      z : ClearedUpTo 0 W middle after
+      z = subst (λ (k : ℕ). ClearedUpTo 0 k middle after) is zeros
 
       long : length after ≡ length (cleared t before)
       long =

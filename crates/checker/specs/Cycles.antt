@@ -15,11 +15,11 @@ use Rattle.rules.specs.Tables.{Tables, vertices, gameOf, Accepted, tablesOf}
 use Rattle.rules.specs.Words.{setOf, entry, noEntry}
 use Rattle.theory.specs.Chosen.{chosenPart}
 use Rattle.parity_game.specs.Laws.{accepted-sound}
-use Rattle.predecessors.specs.Table.{Ready, Predecessors}
+use Rattle.predecessors.specs.Table.{TableReady, Predecessors}
 use Rattle.predecessors.specs.Whole.{accepted-edges}
 use Rattle.search_rows.specs.Rows.{marks, behind}
-use Rattle.depth_first.specs.Area.{Within, Cleared, marked, marked-alike}
-use Rattle.depth_first.specs.Seeking.{rows-kept}
+use Rattle.search_links.specs.Area.{Within, ClearedUpTo, marked, marked-alike}
+use Rattle.backward_look.specs.Seeking.{rows-kept}
 use Rattle.subgame.specs.Parity.{Sweepable, Swept, predecessor-rows, graph-sound, swept-all}
 
 -- v is marked in the row of the other parity
@@ -27,7 +27,7 @@ unfoldable pub losingAt : List ℕ → List ℕ → ℕ → ℕ → Set
 losingAt even work rows n v =
     cond (setOf even v) (not (eqb (getD work (rows + n + v) 0) 0)) (not (eqb (getD work (rows + v) 0) 0))
 
-pub record Scannable (even work : List ℕ) (rows n : ℕ) : Type 0 where
+pub record CyclesScannable (even work : List ℕ) (rows n : ℕ) : Type 0 where
   pub sets : n ≤ 64 * length even
   pub room : rows + n + n ≤ length work
 
@@ -77,8 +77,8 @@ module _ {owners priorities offsets targets strategy w0 : List ℕ}
     each : length priorities ≡ length owners
     each = accepted-sound t (given .accepted) .priority-each
 
-    module _ {w1 : List ℕ} (cleared : Cleared bh (bh + n + n) w0 w1) where
-      pub build-ready : Ready n offsets targets w1
+    module _ {w1 : List ℕ} (cleared : ClearedUpTo bh (bh + n + n) w0 w1) where
+      pub build-ready : TableReady n offsets targets w1
       build-ready =
           record {
             edges = rw each (accepted-edges t (given .accepted));
@@ -97,8 +97,8 @@ module _ {owners priorities offsets targets strategy w0 : List ℕ}
         long2 : length w2 ≡ length w0
         long2 = built .long ∙ cleared .within .long
 
-        ready' : Ready (vertices t) offsets targets w1
-        ready' = subst (λ (k : ℕ). Ready k offsets targets w1) each build-ready
+        ready' : TableReady (vertices t) offsets targets w1
+        ready' = subst (λ (k : ℕ). TableReady k offsets targets w1) each build-ready
 
         built' : Predecessors (vertices t) offsets targets w1 w2
         built' = subst (λ (k : ℕ). Predecessors k offsets targets w1 w2) each built

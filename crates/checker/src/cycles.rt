@@ -8,7 +8,7 @@ ghost use Prim.Native.Nat.{_+_, _*_, _<_};
 ghost use lib.ListN.{length};
 ghost use Rattle.rules.specs.Outcome.{outcome, answered, givenAt};
 ghost use Rattle.parity_game.specs.Said.{said};
-ghost use Rattle.checker.specs.Cycles.{losingAt, Scannable, MarksReady, CyclesMarked};
+ghost use Rattle.checker.specs.Cycles.{losingAt, CyclesScannable, MarksReady, CyclesMarked};
 ghost use Rattle.checker.specs.Checks.{CyclesReady, CyclesTold};
 ghost use Rattle.rules.specs.Record.{freshCount};
 ghost use Rattle.rules.specs.Tables.{tablesOf};
@@ -26,7 +26,7 @@ fn is_losing(even: &[u64], work: &[u64], rows: usize, n: usize, v: usize) -> boo
 
 // The lowest vertex that is marked so.
 fn find_losing(even: &[u64], work: &[u64], rows: usize, n: usize) -> Answer
-    requires { ⌜ Scannable (now even) (now work) rows n ⌝ }
+    requires { ⌜ CyclesScannable (now even) (now work) rows n ⌝ }
     ensures { λ r.
         ⌜ said r ≡ outcome (givenAt 24 n (losingAt (now (even .entry)) (now (work .entry)) rows n)) (answered 0) ⌝ }
 {

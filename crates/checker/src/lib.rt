@@ -29,15 +29,15 @@ fn certify(
         (now (targets .entry))) (now (even .entry)) (now (odd .entry))
         (now (strategy .entry)) (now (work .entry)) (now (work .exit)) (said r) ⌝ }
 {
-    let split = checker_sides::sides::check_partition(owners.len(), even, odd);
+    let split = checker_partition::check_partition(owners.len(), even, odd);
     if split.number() != 0 {
         return split;
     }
-    let entries = checker_sides::sides::check_entries(owners, offsets, targets, even, strategy);
+    let entries = checker_entries::check_entries(owners, offsets, targets, even, strategy);
     if entries.number() != 0 {
         return entries;
     }
-    let stays = checker_sides::sides::check_sides(owners, offsets, targets, even, strategy);
+    let stays = checker_sides::check_sides(owners, offsets, targets, even, strategy);
     if stays.number() != 0 {
         return stays;
     }

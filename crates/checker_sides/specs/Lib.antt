@@ -1,2 +1,2 @@
--- What kinds 21, 22, 25 and 23 ask of the lent tables, sets and strategy.
+-- The kind 23: the tests as the code makes them, and what they tell of a vertex.
 pub mod Sides

@@ -1,2 +1,5 @@
-// The checker's first kinds, of one vertex at a time: who wins it, its entry, and where its edges lead.
-pub mod sides;
+// The checker's kind 23, of one vertex at a time: where its edges lead. The kinds before it stand in `checker_partition`
+// and `checker_entries`.
+mod sides;
+
+pub use sides::check_sides;

@@ -2,8 +2,8 @@
 // `table_checks`, which comes here only for tables that a plain pass does not find well.
 mod checks;
 
-pub use checks::check_lengths;
-pub use checks::check_offsets;
-pub use checks::check_owners;
-pub use checks::check_priorities;
 pub use checks::first_refusal;
+pub use edge_checks::check_offsets;
+pub use size_checks::check_lengths;
+pub use vertex_checks::check_owners;
+pub use vertex_checks::check_priorities;

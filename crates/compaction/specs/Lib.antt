@@ -1,4 +1,2 @@
--- What compaction's steps promise, and what follows from its contract.
-pub mod Marks
-pub mod Steps
+-- What compaction leaves, by its contract alone: one result, accepted tables, the same winners and answers.
 pub mod Laws

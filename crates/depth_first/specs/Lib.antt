@@ -1,8 +1,5 @@
--- Where the passes keep their words (Area), the graph they go by (Graph), and what each pass asks for and leaves.
-pub mod Graph
-pub mod Leading
-pub mod Area
+-- What the first pass asks for and leaves: a move of the search, and the search from one root after another.
+-- contracts: what the functions ask for and leave
 pub mod Walking
+-- lemmas: steps of the proofs here
 pub mod Pass
-pub mod Seeking
-pub mod Finding

@@ -11,17 +11,17 @@ use Rattle.basics.specs.Basics.{bool-cases, clash, not-false-is-true, below-suc
 use Rattle.theory.specs.DepthFirst.{ReachesUp, dfs-starts}
 use Rattle.theory.specs.Solitaire.{at-most-elim}
 use Rattle.search_rows.specs.Rows.{marks, queue}
-use Rattle.depth_first.specs.Area.{false-marked, marked-false, marked-true}
-use Rattle.depth_first.specs.Graph.{Graph, size, edgeCount, priority, low, Leads, SoundGraph, freshAt, gameIn}
-use Rattle.depth_first.specs.Leading.{fresh-true, true-fresh, edge-within}
-use Rattle.depth_first.specs.Walking.{visited, stackOf, markOf, Room, Walking, Pushable, pushed}
-use Rattle.depth_first.specs.Walking.{Further, Advances, Advanced, Startable, Searches, Passes, Finished}
+use Rattle.search_links.specs.Area.{false-marked, marked-false, marked-true}
+use Rattle.search_links.specs.Graph.{Graph, size, edgeCount, priority, low, Leads, SoundGraph, freshAt, gameIn}
+use Rattle.search_links.specs.Leading.{fresh-true, true-fresh, edge-within}
+use Rattle.depth_first.specs.Walking.{visited, stackOf, markOf, Room, SearchWalking, Pushable, pushed}
+use Rattle.depth_first.specs.Walking.{WalkedFurther, Advances, Advanced, Startable, Searches, Passes, WalkFinished}
 use Rattle.depth_first.specs.Walking.{further-same, further-then, next-room, push-walks, push-further, push-visits, top-visited}
 
 -- the search from r so far
 pub record Searching (G : Graph) (before : List ℕ) (r : ℕ) (work : List ℕ) (top done : ℕ) : Type 0 where
-  pub further : Further G before work
-  pub walking : Walking G work top done
+  pub further : WalkedFurther G before work
+  pub walking : SearchWalking G work top done
   pub root : visited G work r ≡ true
   pub fits : top + done ≤ size G
   pub long : length work ≡ length before
@@ -50,14 +50,14 @@ module _ (G : Graph) (before : List ℕ) (r done : ℕ) (given : Startable G bef
       }
 
   module _ (start : List ℕ) (is : start ≡ pushed (size G) (marks (size G) (edgeCount G)) (G .offsets) r 0 before) where
-    start-further : Further G before start
+    start-further : WalkedFurther G before start
     start-further =
-        subst (λ (xs : List ℕ). Further G before xs) (sym is)
+        subst (λ (xs : List ℕ). WalkedFurther G before xs) (sym is)
         (push-further G before 0 done (given .sound) (given .room) (given .walking) r (given .vertex) fresh small up)
 
-    start-walks : Walking G start 1 done
+    start-walks : SearchWalking G start 1 done
     start-walks =
-        subst (λ (xs : List ℕ). Walking G xs 1 done) (sym is)
+        subst (λ (xs : List ℕ). SearchWalking G xs 1 done) (sym is)
         (push-walks G before 0 done (given .sound) (given .room) (given .walking) r (given .vertex) fresh small up)
 
     pub search-starts : Searching G start r start 1 done
@@ -77,7 +77,7 @@ module _ (G : Graph) (before : List ℕ) (r done : ℕ) (given : Startable G bef
     search-ends work top k s none =
         record {
           further = further-then start-further (s .further);
-          walking = subst (λ (i : ℕ). Walking G work i k) none (s .walking);
+          walking = subst (λ (i : ℕ). SearchWalking G work i k) none (s .walking);
           root = s .root;
         }
 
@@ -89,7 +89,7 @@ module _ (G : Graph) (sound : SoundGraph G) (start : List ℕ) (r : ℕ) (work :
   move-ready some =
       let t = getD work (queue (size G) (edgeCount G) + (top - 1)) 0 in
       let one : top ≡ suc (top - 1) = omega arith in
-      let seen = top-visited G work (top - 1) k (s .room) (subst (λ (i : ℕ). Walking G work i k) one (s .walking)) in
+      let seen = top-visited G work (top - 1) k (s .room) (subst (λ (i : ℕ). SearchWalking G work i k) one (s .walking)) in
       let (l, d) = marked-true (size G) (marks (size G) (edgeCount G)) work t seen in
       record {
         sound = sound;
@@ -121,8 +121,8 @@ module _ (G : Graph) (sound : SoundGraph G) (start : List ℕ) (r : ℕ) (work :
 -- the roots below r were searched from
 pub record Rooting (G : Graph) (before work : List ℕ) (r done : ℕ) : Type 0 where
   pub to : r ≤ size G
-  pub further : Further G before work
-  pub walking : Walking G work 0 done
+  pub further : WalkedFurther G before work
+  pub walking : SearchWalking G work 0 done
   pub all : (v : ℕ) → v < r → low G v ≡ true → visited G work v ≡ true
   pub long : length work ≡ length before
 
@@ -196,6 +196,6 @@ module _ (G : Graph) (before : List ℕ) (given : Passes G before) where
           long = further-then (s .further) (a .further) .within .long;
         }
 
-  pub roots-end : (work : List ℕ) (r done : ℕ) → Rooting G before work r done → size G ≤ r → Finished G before work done
+  pub roots-end : (work : List ℕ) (r done : ℕ) → Rooting G before work r done → size G ≤ r → WalkFinished G before work done
   roots-end work r done s end =
       record { further = s .further; walking = s .walking; all = λ v l p. s .all v (omega arith) p }

@@ -18,11 +18,11 @@ use Rattle.theory.specs.Walks.{Relation, reach-step}
 use Rattle.theory.specs.DepthFirst.{Searched, searching, ReachesUp, Marks, marks-keeps, each-last, dfs-pushes, dfs-pops, dfs-room}
 use Rattle.theory.specs.DepthFirst.{marks-cases}
 use Rattle.search_rows.specs.Rows.{marks, order, queue, labels, behind}
-use Rattle.depth_first.specs.Area.{Within, within-same, within-then, within-store}
-use Rattle.depth_first.specs.Area.{segment, segment-length, segment-alike, segment-more, marked}
-use Rattle.depth_first.specs.Area.{true-marked, marked-true, false-marked, marked-false, marked-alike, marked-marks}
-use Rattle.depth_first.specs.Graph.{Graph, size, edgeCount, priority, offset, target, low, Leads, SoundGraph, keeping, freshAt}
-use Rattle.depth_first.specs.Leading.{fresh-true, true-fresh, link, leads, edge-at, edge-place, edge-within}
+use Rattle.search_links.specs.Area.{Within, within-same, within-then, within-store}
+use Rattle.search_links.specs.Area.{segment, segment-length, segment-alike, segment-more, marked}
+use Rattle.search_links.specs.Area.{true-marked, marked-true, false-marked, marked-false, marked-alike, marked-marks}
+use Rattle.search_links.specs.Graph.{Graph, size, edgeCount, priority, offset, target, low, Leads, SoundGraph, keeping, freshAt}
+use Rattle.search_links.specs.Leading.{fresh-true, true-fresh, link, leads, edge-at, edge-place, edge-within}
 
 -- the vertices visited, the stack, and the vertices finished
 abbrev pub visited : Graph → List ℕ → Set
@@ -42,16 +42,16 @@ abbrev pub Room : Graph → List ℕ → Type 0
 Room G work = behind (size G) (edgeCount G) ≤ length work
 
 -- the edges of v before edge e lead to visited vertices
-pub record Passed (G : Graph) (seen : Set) (v e : ℕ) : Type 0 where
+pub record EdgesPassed (G : Graph) (seen : Set) (v e : ℕ) : Type 0 where
   pub from : offset G v ≤ e
   pub to : e ≤ offset G (v + 1)
   pub led : (i : ℕ) → offset G v ≤ i → i < e → Leads G v (target G i) → seen (target G i) ≡ true
 
-pub record Walking (G : Graph) (work : List ℕ) (top done : ℕ) : Type 0 where
+pub record SearchWalking (G : Graph) (work : List ℕ) (top done : ℕ) : Type 0 where
   pub fits : top + done ≤ size G
   pub searched : Searched (Leads G) (size G) (searching (visited G work) (stackOf G top work) (finished G done work))
   pub small : (v : ℕ) → visited G work v ≡ true → priority G v ≤ G .top
-  pub passed : (v : ℕ) → visited G work v ≡ true → Passed G (visited G work) v (markOf G work v - 1)
+  pub passed : (v : ℕ) → visited G work v ≡ true → EdgesPassed G (visited G work) v (markOf G work v - 1)
 
 -- ---- what the functions ask for and leave
 
@@ -90,7 +90,7 @@ abbrev pub pushed : ℕ → ℕ → List ℕ → ℕ → ℕ → List ℕ → Li
 pushed n marks offsets y top work = set (set work (marks + y) (getD offsets y 0 + 1)) (marks + n + n + top) y
 
 -- the words of the first pass alone have changed, and what was visited is
-pub record Further (G : Graph) (before after : List ℕ) : Type 0 where
+pub record WalkedFurther (G : Graph) (before after : List ℕ) : Type 0 where
   pub within : Within (marks (size G) (edgeCount G)) (labels (size G) (edgeCount G)) before after
   pub grows : (v : ℕ) → visited G before v ≡ true → visited G after v ≡ true
 
@@ -98,7 +98,7 @@ pub record Further (G : Graph) (before after : List ℕ) : Type 0 where
 pub record Advances (G : Graph) (work : List ℕ) (t top done : ℕ) : Type 0 where
   pub sound : SoundGraph G
   pub room : Room G work
-  pub walking : Walking G work top done
+  pub walking : SearchWalking G work top done
   pub some : 0 < top
   pub is-top : getD work (queue (size G) (edgeCount G) + (top - 1)) 0 ≡ t
   pub vertex : t < size G
@@ -108,21 +108,21 @@ pub record Advances (G : Graph) (work : List ℕ) (t top done : ℕ) : Type 0 wh
   pub edges : offset G (t + 1) ≤ edgeCount G
 
 pub record Advanced (G : Graph) (before after : List ℕ) (top done top' done' : ℕ) : Type 0 where
-  pub further : Further G before after
-  pub walking : Walking G after top' done'
+  pub further : WalkedFurther G before after
+  pub walking : SearchWalking G after top' done'
   pub moved : top' + 2 * done' ≡ suc (top + 2 * done)
 
 -- a new root
 pub record Startable (G : Graph) (work : List ℕ) (r done : ℕ) : Type 0 where
   pub sound : SoundGraph G
   pub room : Room G work
-  pub walking : Walking G work 0 done
+  pub walking : SearchWalking G work 0 done
   pub vertex : r < size G
   pub fresh : freshAt (G .priorities) (G .top) work (marks (size G) (edgeCount G)) r ≡ true
 
 pub record Searches (G : Graph) (before after : List ℕ) (r done done' : ℕ) : Type 0 where
-  pub further : Further G before after
-  pub walking : Walking G after 0 done'
+  pub further : WalkedFurther G before after
+  pub walking : SearchWalking G after 0 done'
   pub root : visited G after r ≡ true
 
 pub record Passes (G : Graph) (work : List ℕ) : Type 0 where
@@ -130,9 +130,9 @@ pub record Passes (G : Graph) (work : List ℕ) : Type 0 where
   pub room : Room G work
   pub clear : (v : ℕ) → v < size G → markOf G work v ≡ 0
 
-pub record Finished (G : Graph) (before after : List ℕ) (done : ℕ) : Type 0 where
-  pub further : Further G before after
-  pub walking : Walking G after 0 done
+pub record WalkFinished (G : Graph) (before after : List ℕ) (done : ℕ) : Type 0 where
+  pub further : WalkedFurther G before after
+  pub walking : SearchWalking G after 0 done
   pub all : (v : ℕ) → v < size G → low G v ≡ true → visited G after v ≡ true
 
 -- ---- laws
@@ -177,10 +177,10 @@ module _ (G : Graph) (work : List ℕ) (t from : ℕ) (given : Scannable G work 
           found = λ b. absurd (omega arith);
         }
 
-pub further-same : (G : Graph) (work : List ℕ) → Further G work work
+pub further-same : (G : Graph) (work : List ℕ) → WalkedFurther G work work
 further-same G work = record { within = within-same _ _ work; grows = λ v p. p }
 
-pub further-then : {G : Graph} {x y z : List ℕ} → Further G x y → Further G y z → Further G x z
+pub further-then : {G : Graph} {x y z : List ℕ} → WalkedFurther G x y → WalkedFurther G y z → WalkedFurther G x z
 further-then a b = record { within = within-then (a .within) (b .within); grows = λ v p. b .grows v (a .grows v p) }
 
 searched-same :
@@ -196,7 +196,7 @@ searched-same {R} {n} {V'} {W} {S} {T} {D} {E} a b c s =
     (subst (λ (X : List ℕ). Searched R n (searching W T X)) (sym c) s))
 
 -- where more is seen, an edge that was passed still is
-passed-more : {G : Graph} {S T : Set} {v e : ℕ} → ((u : ℕ) → S u ≡ true → T u ≡ true) → Passed G S v e → Passed G T v e
+passed-more : {G : Graph} {S T : Set} {v e : ℕ} → ((u : ℕ) → S u ≡ true → T u ≡ true) → EdgesPassed G S v e → EdgesPassed G T v e
 passed-more wider p = record { from = p .from; to = p .to; led = λ i a b l. wider _ (p .led i a b l) }
 
 -- a vertex that was marked and is marked again
@@ -222,7 +222,7 @@ module _ (work : List ℕ) (i a j b : ℕ) (fits : i < length work) (fits' : j <
   pub stored-long : length (set (set work i a) j b) ≡ length work
   stored-long = length-set (set work i a) j b ∙ length-set work i a
 
-module _ (G : Graph) (work : List ℕ) (top done : ℕ) (sound : SoundGraph G) (room : Room G work) (walking : Walking G work top done) where
+module _ (G : Graph) (work : List ℕ) (top done : ℕ) (sound : SoundGraph G) (room : Room G work) (walking : SearchWalking G work top done) where
   abbrev n : ℕ
   n = size G
 
@@ -277,7 +277,7 @@ module _ (G : Graph) (work : List ℕ) (top done : ℕ) (sound : SoundGraph G) (
         segment-alike (order n m) done work after long
         (λ i k. elsewhere (order n m + i) (λ e. omega (arith, less)) (λ e. omega (arith, less)))
 
-    pub push-walks : Walking G (pushed n (marks n m) (G .offsets) y top work) (top + 1) done
+    pub push-walks : SearchWalking G (pushed n (marks n m) (G .offsets) y top work) (top + 1) done
     push-walks =
         record {
           fits = omega (arith, less);
@@ -288,7 +288,7 @@ module _ (G : Graph) (work : List ℕ) (top done : ℕ) (sound : SoundGraph G) (
           passed = λ v p. ⊎-elim (λ e. rw e first) (λ q. later v q) (marks-cases one-more v p);
         }
       where
-        first : Passed G (visited G after) y (markOf G after y - 1)
+        first : EdgesPassed G (visited G after) y (markOf G after y - 1)
         first = rw at-mark
             (record {
               from = omega arith;
@@ -296,14 +296,14 @@ module _ (G : Graph) (work : List ℕ) (top done : ℕ) (sound : SoundGraph G) (
               led = λ i a b. absurd (omega arith);
             })
 
-        later : (v : ℕ) → visited G work v ≡ true → Passed G (visited G after) v (markOf G after v - 1)
+        later : (v : ℕ) → visited G work v ≡ true → EdgesPassed G (visited G after) v (markOf G after v - 1)
         later v q =
             let k = marked-true n (marks n m) work v q .0 in
             let differ : v ≡ y → ⊥ = λ e. clash (sym (ap (visited G work) e) ∙ q) fresh in
             let same = elsewhere (marks n m + v) (λ e. differ (omega arith)) (λ e. omega (arith, less)) in
             rw same (passed-more (marks-keeps one-more) (walking .passed v q))
 
-    pub push-further : Further G work (pushed n (marks n m) (G .offsets) y top work)
+    pub push-further : WalkedFurther G work (pushed n (marks n m) (G .offsets) y top work)
     push-further =
         record {
           within =
@@ -317,7 +317,7 @@ module _ (G : Graph) (work : List ℕ) (top done : ℕ) (sound : SoundGraph G) (
     push-visits = one-more .new
 
   -- the cursor of a visited vertex moves on
-  module _ (t e : ℕ) (seen : visited G work t ≡ true) (past : Passed G (visited G work) t e) where
+  module _ (t e : ℕ) (seen : visited G work t ≡ true) (past : EdgesPassed G (visited G work) t e) where
     abbrev moved : List ℕ
     moved = set work (marks n m + t) (e + 1)
 
@@ -340,7 +340,7 @@ module _ (G : Graph) (work : List ℕ) (top done : ℕ) (sound : SoundGraph G) (
         (λ u k d. moved-else (marks n m + u) (λ q. d (omega arith))))
         seen
 
-    pub cursor-walks : Walking G (set work (marks n m + t) (e + 1)) top done
+    pub cursor-walks : SearchWalking G (set work (marks n m + t) (e + 1)) top done
     cursor-walks =
         record {
           fits = walking .fits;
@@ -359,7 +359,7 @@ module _ (G : Graph) (work : List ℕ) (top done : ℕ) (sound : SoundGraph G) (
         is : (v : ℕ) → visited G work v ≡ true → visited G moved v ≡ true
         is v p = ap (λ (S : Set). S v) same-visited ∙ p
 
-        place : (v : ℕ) → visited G work v ≡ true → Dec (v ≡ t) → Passed G (visited G moved) v (markOf G moved v - 1)
+        place : (v : ℕ) → visited G work v ≡ true → Dec (v ≡ t) → EdgesPassed G (visited G moved) v (markOf G moved v - 1)
         place v q (yes s) =
             let at : markOf G moved v - 1 ≡ e = ap (λ (x : ℕ). markOf G moved x - 1) s ∙ (let h = moved-at in omega arith) in
             rw (at, s) (passed-more is past)
@@ -367,7 +367,7 @@ module _ (G : Graph) (work : List ℕ) (top done : ℕ) (sound : SoundGraph G) (
             let same = moved-else (marks n m + v) (λ r. d (omega arith)) in
             rw same (passed-more is (walking .passed v q))
 
-    pub cursor-further : Further G work (set work (marks n m + t) (e + 1))
+    pub cursor-further : WalkedFurther G work (set work (marks n m + t) (e + 1))
     cursor-further =
         record {
           within = within-store (marks n m) (labels n m) (marks n m + t) (e + 1) work (omega arith) (omega (arith, t-below));
@@ -414,7 +414,7 @@ module _ (G : Graph) (work : List ℕ) (top done : ℕ) (sound : SoundGraph G) (
         shut)
 
     -- so the scan moves the cursor on
-    pub scan-passes : (r : ℕ) → Scanned G work t (markOf G work t - 1) r → Passed G (visited G work) t r
+    pub scan-passes : (r : ℕ) → Scanned G work t (markOf G work t - 1) r → EdgesPassed G (visited G work) t r
     scan-passes r s =
         let p = walking .passed t seen in
         record {
@@ -436,7 +436,7 @@ module _ (G : Graph) (work : List ℕ) (top done : ℕ) (sound : SoundGraph G) (
         rw is at h
 
 -- the top of the stack, once all that it leads to is visited, is finished
-module _ (G : Graph) (work : List ℕ) (top done : ℕ) (room : Room G work) (walking : Walking G work (suc top) done) where
+module _ (G : Graph) (work : List ℕ) (top done : ℕ) (room : Room G work) (walking : SearchWalking G work (suc top) done) where
   abbrev topOf : ℕ
   topOf = getD work (queue (size G) (edgeCount G) + top) 0
 
@@ -466,7 +466,7 @@ module _ (G : Graph) (work : List ℕ) (top done : ℕ) (room : Room G work) (wa
       (λ k. let is : u ≡ topOf = List·Memᴰ·eq-of-singleton k in rw is (step l here))
       (List·Memᴰ·append-cases (stackOf G top work) (rw stack-top at m))
 
-  pub pop-walks : ((w : ℕ) → Leads G topOf w → visited G work w ≡ true) → Walking G (set work (order vs es + done) topOf) top (done + 1)
+  pub pop-walks : ((w : ℕ) → Leads G topOf w → visited G work w ≡ true) → SearchWalking G (set work (order vs es + done) topOf) top (done + 1)
   pop-walks seen =
       record {
         fits = omega (arith, walking .fits);
@@ -498,7 +498,7 @@ module _ (G : Graph) (work : List ℕ) (top done : ℕ) (room : Room G work) (wa
       was : (v : ℕ) → visited G popped v ≡ true → visited G work v ≡ true
       was v p = sym (ap (λ (S : Set). S v) same-visited) ∙ p
 
-  pub pop-further : Further G work (set work (order vs es + done) topOf)
+  pub pop-further : WalkedFurther G work (set work (order vs es + done) topOf)
   pop-further =
       record {
         within =
@@ -527,16 +527,16 @@ module _
   abbrev on : List ℕ
   on = set work (ms + t) (e + 1)
 
-  past : Passed G (visited G work) t e
+  past : EdgesPassed G (visited G work) t e
   past = scan-passes G work top done (given .sound) (given .room) (given .walking) t (given .seen) e s
 
   on-room : Room G on
   on-room = rw (length-set work (ms + t) (e + 1)) (given .room)
 
-  on-walks : Walking G on top done
+  on-walks : SearchWalking G on top done
   on-walks = cursor-walks G work top done (given .sound) (given .room) (given .walking) t e (given .seen) past
 
-  on-further : Further G work on
+  on-further : WalkedFurther G work on
   on-further = cursor-further G work top done (given .sound) (given .room) (given .walking) t e (given .seen) past
 
   on-visited : visited G on ≡ visited G work
@@ -545,8 +545,8 @@ module _
   one-below : top ≡ suc (top - 1)
   one-below = omega (arith, given .some)
 
-  on-walks' : Walking G on (suc (top - 1)) done
-  on-walks' = subst (λ (k : ℕ). Walking G on k done) one-below on-walks
+  on-walks' : SearchWalking G on (suc (top - 1)) done
+  on-walks' = subst (λ (k : ℕ). SearchWalking G on k done) one-below on-walks
 
   on-top : getD on (queue (size G) (edgeCount G) + (top - 1)) 0 ≡ t
   on-top =
@@ -585,10 +585,10 @@ module _
         record {
           further =
               further-then on-further
-              (subst (λ (xs : List ℕ). Further G on xs) (sym is)
+              (subst (λ (xs : List ℕ). WalkedFurther G on xs) (sym is)
               (push-further G on top done (given .sound) on-room on-walks (target G e) below unseen (next .2) up));
           walking =
-              subst (λ (xs : List ℕ). Walking G xs (top + 1) done) (sym is)
+              subst (λ (xs : List ℕ). SearchWalking G xs (top + 1) done) (sym is)
               (push-walks G on top done (given .sound) on-room on-walks (target G e) below unseen (next .2) up);
           moved = omega arith;
         }
@@ -599,10 +599,10 @@ module _
       record {
         further =
             further-then on-further
-            (subst (λ (x : ℕ). Further G on (set on (order (size G) (edgeCount G) + done) x)) on-top
+            (subst (λ (x : ℕ). WalkedFurther G on (set on (order (size G) (edgeCount G) + done) x)) on-top
             (pop-further G on (top - 1) done on-room on-walks'));
         walking =
-            subst (λ (x : ℕ). Walking G (set on (order (size G) (edgeCount G) + done) x) (top - 1) (done + 1)) on-top
+            subst (λ (x : ℕ). SearchWalking G (set on (order (size G) (edgeCount G) + done) x) (top - 1) (done + 1)) on-top
             (pop-walks G on (top - 1) done on-room on-walks' seen-all);
         moved = omega (arith, given .some);
       }

@@ -1,12 +1,11 @@
 // The first pass: a depth-first search along the links, with the stack in the work area. It writes the vertices in
 // the order in which they finish.
-use crate::links;
 use search_rows::Rows;
 ghost use mathlib.Core.Path.{_≡_};
 ghost use Prim.Native.Nat.{_+_, _<_};
 ghost use Rattle.search_rows.specs.Rows.{marks};
-ghost use Rattle.depth_first.specs.Graph.{graph};
-ghost use Rattle.depth_first.specs.Walking.{Scannable, Scanned, Pushable, pushed, Advances, Advanced, Startable, Searches, Passes, Finished};
+ghost use Rattle.search_links.specs.Graph.{graph};
+ghost use Rattle.depth_first.specs.Walking.{Scannable, Scanned, Pushable, pushed, Advances, Advanced, Startable, Searches, Passes, WalkFinished};
 
 // How many vertices are on the stack, and how many have finished.
 pub struct Progress {
@@ -39,7 +38,7 @@ fn next_edge(
     let end = offsets[t + 1] as usize;
     for e in from..end {
         let w = targets[e] as usize;
-        if links::opens(priorities, entries, p, work, marks, w, t, w) {
+        if search_links::opens(priorities, entries, p, work, marks, w, t, w) {
             return e;
         }
     }
@@ -143,7 +142,7 @@ pub fn first_pass(
 ) -> usize
     requires { ⌜ Passes (graph (now priorities) (now offsets) (now targets) (now entries) p) (now work) ⌝ }
     ensures { λ k.
-        ⌜ Finished (graph (now (priorities .entry)) (now (offsets .entry)) (now (targets .entry))
+        ⌜ WalkFinished (graph (now (priorities .entry)) (now (offsets .entry)) (now (targets .entry))
         (now (entries .entry)) p)
         (now (work .entry)) (now (work .exit)) k ⌝ }
 {
@@ -154,7 +153,7 @@ pub fn first_pass(
     let marks = rows.marks();
     let mut done = 0;
     for r in 0..priorities.len() {
-        if links::is_fresh(priorities, p, work, marks, r) {
+        if search_links::is_fresh(priorities, p, work, marks, r) {
             done = search_from(priorities, offsets, targets, entries, p, work, r, done);
         }
     }

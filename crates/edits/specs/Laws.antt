@@ -15,7 +15,7 @@ use Rattle.rules.specs.Record.{recordChecks, ownChecks, editChecks, changed, le
 use Rattle.parity_game.specs.Laws.{Numbered, numbered-then, numbered-given, then-none, given-none, accepted-sound, outcome-pass}
 use Rattle.parity_game.specs.Said.{refusal}
 use Rattle.theory.specs.Counts.{moved, kept-moved, old-counted, length-fresh, take-fresh, counts-at, times-le}
-use Rattle.theory.specs.Edits.{Passing, passing}
+use Rattle.theory.specs.Edits.{EditPassing, passing}
 use Rattle.kept_numbers.specs.Steps.{Movable}
 
 -- 41, then the number of a value that is not below its limit
@@ -98,7 +98,7 @@ edit-made e r after own ok same pass is =
 -- ---- the kept numbers after a priority is set
 
 module _ (r : Record) (ok : recordChecks r ≡ none) (v p : ℕ) (within : v < r .n) (low : p < 256) where
-  h : Passing r
+  h : EditPassing r
   h = passing r ok
 
   abbrev front : List ℕ

@@ -5,6 +5,7 @@ use parity_game::HIGH_PRIORITY;
 use parity_game::NO_SUCH_ENTRY;
 use parity_game::NO_SUCH_OWNER;
 use parity_game::NO_SUCH_TARGET;
+use parity_game::PRIORITIES;
 ghost use mathlib.Core.Path.{_≡_};
 ghost use Rattle.rules.specs.Outcome.{outcome, answered};
 ghost use Rattle.rules.specs.Record.{recordOf, Edits, setPriority, setOwner, turnEdge};
@@ -48,7 +49,7 @@ pub fn set_priority(
     if r.number() != 0 {
         return r;
     }
-    let own = check_own(n, vertex, priority, 256, HIGH_PRIORITY);
+    let own = check_own(n, vertex, priority, PRIORITIES, HIGH_PRIORITY);
     if own.number() != 0 {
         return own;
     }

@@ -54,7 +54,7 @@ goes-blank-byte p q x y Blank.empty g = goes-step x g
 goes-blank-byte p q x y (Blank.more c h r) g = goes-step (p c h) (goes-on (goes-blank q r) (goes-step y g))
 
 -- a digit begins a number, and one more goes on with it
-pub record Counts (s : Machine) (φ : Phase) : Type 0 where
+pub record DigitCounts (s : Machine) (φ : Phase) : Type 0 where
   pub begins : (b : ℕ) → isDigit b ≡ true → Steps s b (reading φ (b - 48) s)
   pub grows : (v b : ℕ) → isDigit b ≡ true → Steps (reading φ v s) b (reading φ (longer v b) s)
 
@@ -62,14 +62,14 @@ pub counts :
     {s : Machine} {φ : Phase} →
     ((b : ℕ) → freeFrom (s .phase) s b digitByte ≡ on (reading φ (b - 48) s)) →
     ((v b : ℕ) → freeFrom φ (reading φ v s) b digitByte ≡ on (reading φ (longer v b) s)) →
-    Counts s φ
+    DigitCounts s φ
 counts p q =
     record {
       begins = λ b h. on-class digitByte (digit-class b h) (p b);
       grows = λ v b h. on-class digitByte (digit-class b h) (q v b);
     }
 
-pub goes-number : {s : Machine} {φ : Phase} {d : List ℕ} {v : ℕ} → Counts s φ → Number d v → Goes s d (reading φ v s)
+pub goes-number : {s : Machine} {φ : Phase} {d : List ℕ} {v : ℕ} → DigitCounts s φ → Number d v → Goes s d (reading φ v s)
 goes-number c (Number.first b h) = goes-step (c .begins b h) stays
 goes-number c (Number.next {s = d} {v} n b h) = goes-on (goes-number c n) (goes-step (c .grows v b h) stays)
 
@@ -80,7 +80,7 @@ rest-parts unsaid [] = parts (λ b. refl)
 rest-parts unsaid (e ∷ es) = parts (λ b. refl)
 rest-parts (highest k) es = parts (λ b. refl)
 
-pub rest-counts : (h : Header) (es : List Entry) → Counts (resting h es) inIdentifier
+pub rest-counts : (h : Header) (es : List Entry) → DigitCounts (resting h es) inIdentifier
 rest-counts unsaid [] = counts (λ b. refl) (λ v b. refl)
 rest-counts unsaid (e ∷ es) = counts (λ b. refl) (λ v b. refl)
 rest-counts (highest k) es = counts (λ b. refl) (λ v b. refl)
@@ -91,11 +91,11 @@ field-parts-at :
 field-parts-at [] h es e = parts (λ b. refl)
 field-parts-at (w ∷ ws) h es e = parts (λ b. refl)
 
-field-counts-at : (ws : List ℕ) (h : Header) (es : List Entry) (e : Entry) → Counts (having (fieldPhase ws) h es e) inTarget
+field-counts-at : (ws : List ℕ) (h : Header) (es : List Entry) (e : Entry) → DigitCounts (having (fieldPhase ws) h es e) inTarget
 field-counts-at [] h es e = counts (λ b. refl) (λ v b. refl)
 field-counts-at (w ∷ ws) h es e = counts (λ b. refl) (λ v b. refl)
 
-pub before-counts : {k : Kind} {n m : ℕ} {s : List ℕ} {x : Machine} → Before k n m s x → Counts x (inPhase k)
+pub before-counts : {k : Kind} {n m : ℕ} {s : List ℕ} {x : Machine} → Before k n m s x → DigitCounts x (inPhase k)
 before-counts (Before.worded a b) = counts (λ b. refl) (λ v b. refl)
 before-counts (Before.rested {h = h} {es} r) = rest-counts h es
 before-counts (Before.identified r a b) = counts (λ b. refl) (λ v b. refl)

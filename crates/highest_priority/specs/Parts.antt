@@ -3,28 +3,23 @@ use mathlib.Core.Bool.{true, false, _&&_}
 use mathlib.Core.List.{List}
 use mathlib.Core.Logic.{_⊎_}
 use mathlib.Core.Path.{_≡_}
-use Prim.Native.Nat.{ℕ, _+_, _*_, _≤_, _<_}
+use Prim.Native.Nat.{ℕ, _+_, _≤_, _<_}
 use lib.Dec.{eqb}
 use lib.ListN.{length, getD}
 use Rattle.rules.specs.Counting.{Set, greatest}
 use Rattle.rules.specs.Tables.{words}
-use Rattle.rules.specs.Words.{setOf}
 use Rattle.sets.specs.After.{Parts}
 use Rattle.area.specs.Area.{setAt}
+use Rattle.area.specs.Walked.{Walkable, anything}
 
 -- the highest priority of a set
 abbrev pub highestOf : List ℕ → Set → ℕ
 highestOf priorities S = greatest (length priorities) S (λ v. getD priorities v 0)
 
--- a set that a walk can pass: its vertices are below n
-pub record Searchable (n : ℕ) (set : List ℕ) : Type 0 where
-  pub few : length set ≤ 64
-  pub below : (v : ℕ) → setOf set v ≡ true → v < n
-
--- and no vertex of it has a priority above `top`
-pub record SearchableTo (priorities : List ℕ) (top : ℕ) (set : List ℕ) : Type 0 where
-  pub searchable : Searchable (length priorities) set
-  pub under : (v : ℕ) → setOf set v ≡ true → getD priorities v 0 ≤ top
+-- the set at a base can be walked, and no vertex of it has a priority above `top`
+pub record Searchable (priorities : List ℕ) (s base top : ℕ) (work : List ℕ) : Type 0 where
+  pub walkable : Walkable (length priorities) s base anything work
+  pub under : (v : ℕ) → setAt (length priorities) base work v ≡ true → getD priorities v 0 ≤ top
 
 -- V stands at `within`, has no vertex at n or above, and the set at `into` is apart from it and empty
 pub record Collects (n s within into : ℕ) (work : List ℕ) : Type 0 where

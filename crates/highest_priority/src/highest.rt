@@ -7,34 +7,46 @@ use walk::Next;
 ghost use mathlib.Core.Path.{_≡_};
 ghost use Prim.Native.Nat.{_-_};
 ghost use lib.ListN.{length};
-ghost use Rattle.rules.specs.Words.{setOf};
-ghost use Rattle.highest_priority.specs.Parts.{highestOf, SearchableTo, Collects, Collected};
+ghost use Rattle.area.specs.Area.{setAt};
+ghost use Rattle.highest_priority.specs.Parts.{highestOf, Searchable, Collects, Collected};
 ghost use Rattle.highest_priority.specs.Extending.{Extends, Extended};
 
 // The number before p, or 0.
-pub fn one_less(p: usize) -> usize
-    ensures { λ r. ⌜ r ≡ p - 1 ⌝ }
+pub fn one_less(p: Priority) -> Priority
+    ensures { λ r. ⌜ r .0 ≡ p .0 - 1 ⌝ }
 {
-    if p == 0 { 0 } else { p - 1 }
+    if p.0 == 0 {
+        Priority(0)
+    } else {
+        Priority(p.0 - 1)
+    }
 }
 
 // The highest priority in V, its members found by words. No priority in V is above `top`, so a member that has it ends
 // the search.
-pub fn get_highest_prio(priorities: &[u16], set: &[u64], top: usize) -> Priority
-    requires { ⌜ SearchableTo (now priorities) top (now set) ⌝ }
-    ensures { λ r. ⌜ r .0 ≡ highestOf (now (priorities .entry)) (setOf (now (set .entry))) ⌝ }
+pub fn get_highest_prio(
+    priorities: &[u16],
+    work: &[u64],
+    base: usize,
+    s: usize,
+    top: Priority,
+) -> Priority
+    requires { ⌜ Searchable (now priorities) s base (top .0) (now work) ⌝ }
+    ensures { λ r.
+        ⌜ r .0 ≡ highestOf (now (priorities .entry))
+        (setAt (length (now (priorities .entry))) base (now (work .entry))) ⌝ }
 {
     let mut highest: u16 = 0;
-    let mut walk = Members::new(set);
+    let mut walk = Members::new(work, base, s);
     loop {
-        let next = walk.next(set);
+        let next = walk.next(work, base, s);
         let Next::Member(member, rest) = next else {
             return Priority(highest as usize);
         };
         let v = member.0;
         let p = priorities[v];
-        if p as usize == top {
-            return Priority(top);
+        if p as usize == top.0 {
+            return top;
         }
         if highest < p {
             highest = p;
@@ -55,9 +67,9 @@ pub fn collect(
     requires { ⌜ Collects (length (now priorities)) s within into (now work) ⌝ }
     ensures { λ r. ⌜ Collected (now (priorities .entry)) (p .0) within into (now (work .entry)) (now (work .exit)) ⌝ }
 {
-    let mut walk = Members::new(&work[within..within + s]);
+    let mut walk = Members::new(work, within, s);
     loop {
-        let next = walk.next(&work[within..within + s]);
+        let next = walk.next(work, within, s);
         let Next::Member(member, rest) = next else {
             return;
         };
@@ -89,15 +101,15 @@ pub fn extend_lowest(
     let m = targets.len();
     let entries = Area { n, m, s }.entries();
     let from = base + s;
-    let mut walk = Members::new(&work[from..from + s]);
+    let mut walk = Members::new(work, from, s);
     loop {
-        let next = walk.next(&work[from..from + s]);
+        let next = walk.next(work, from, s);
         let Next::Member(member, rest) = next else {
             return;
         };
         let v = member.0;
         if owners[v] as usize == p.0 % 2 {
-            let w = lowest_inside(n, offsets, targets, v, &work[base..base + s]);
+            let w = lowest_inside(n, offsets, targets, member, &work[base..base + s]);
             work[entries + v] = w;
         }
         walk = rest;

@@ -18,7 +18,7 @@ use Rattle.basics.specs.Greatest.{greatest-bounds, greatest-le}
 use Rattle.accepted.specs.Tables.{accepted-sound}
 
 -- accepted tables, with kept numbers that are a fresh count of them
-pub record Counted (t : Tables) (kept : List ℕ) : Type 0 where
+pub record FreshlyCounted (t : Tables) (kept : List ℕ) : Type 0 where
   pub accepted : Accepted t
   pub fresh : kept ≡ freshCount (t .priorities)
 
@@ -44,7 +44,7 @@ times-places q (suc v) ps l =
 -- the count of a priority
 pub kept-count :
     {t : Tables} {kept : List ℕ} →
-    Counted t kept →
+    FreshlyCounted t kept →
     (q : ℕ) →
     q < 256 →
     getD kept q 0 ≡ count (vertices t) (λ v. eqb (getD (t .priorities) v 0) q)
@@ -58,7 +58,7 @@ kept-count {t} {kept} c q l =
     times-places q (length ps) ps (omega arith) ∙
     ap (λ (n : ℕ). count n (λ v. eqb (getD ps v 0) q)) (accepted-sound t (c .accepted) .priority-each)
 
-pub kept-long : {t : Tables} {kept : List ℕ} → Counted t kept → length kept ≡ 258
+pub kept-long : {t : Tables} {kept : List ℕ} → FreshlyCounted t kept → length kept ≡ 258
 kept-long {t} c = ap (λ (k : List ℕ). length k) (c .fresh) ∙ length-fresh (t .priorities)
 
 -- the last of them is the highest by the counts
@@ -71,7 +71,7 @@ last-highest ps =
 -- the highest is the greatest priority, 0 where there is no vertex
 pub kept-highest :
     {t : Tables} {kept : List ℕ} →
-    Counted t kept →
+    FreshlyCounted t kept →
     getD kept 257 0 ≡ greatest (vertices t) (λ v. true) (λ v. getD (t .priorities) v 0)
 kept-highest {t} {kept} c =
     let ps = t .priorities in
@@ -84,12 +84,12 @@ kept-highest {t} {kept} c =
 
 -- so no priority is above it,
 pub kept-bounds :
-    {t : Tables} {kept : List ℕ} → Counted t kept → (v : ℕ) → v < vertices t → getD (t .priorities) v 0 ≤ getD kept 257 0
+    {t : Tables} {kept : List ℕ} → FreshlyCounted t kept → (v : ℕ) → v < vertices t → getD (t .priorities) v 0 ≤ getD kept 257 0
 kept-bounds {t} c v l =
     omega (arith, kept-highest c, greatest-bounds (vertices t) (λ u. true) (λ u. getD (t .priorities) u 0) v l refl)
 
 -- and it is a priority
-pub kept-small : {t : Tables} {kept : List ℕ} → Counted t kept → getD kept 257 0 ≤ 255
+pub kept-small : {t : Tables} {kept : List ℕ} → FreshlyCounted t kept → getD kept 257 0 ≤ 255
 kept-small {t} c =
     omega (
       arith,

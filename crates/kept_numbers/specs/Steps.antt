@@ -105,11 +105,11 @@ tallied-all priorities counts h =
     }
 
 -- the first p counts are looked at
-pub record Summed (p : ℕ) (kept : List ℕ) (different highest : ℕ) : Type 0 where
+pub record CountsSummed (p : ℕ) (kept : List ℕ) (different highest : ℕ) : Type 0 where
   pub many : different ≡ count p (counted kept)
   pub top : highest ≡ greatest p (counted kept) (λ q. q)
 
-pub summed-none : (kept : List ℕ) → Summed 0 kept 0 0
+pub summed-none : (kept : List ℕ) → CountsSummed 0 kept 0 0
 unfolding count greatest
 summed-none kept = record { many = refl; top = refl }
 
@@ -124,9 +124,9 @@ greatest-next p S = rw add-one
 
 pub summed-some :
     (p : ℕ) (kept : List ℕ) (different highest : ℕ) →
-    Summed p kept different highest →
+    CountsSummed p kept different highest →
     (getD kept p 0 ≡ 0 → ⊥) →
-    Summed (p + 1) kept (different + 1) p
+    CountsSummed (p + 1) kept (different + 1) p
 summed-some p kept different highest h some-one =
     let here : counted kept p ≡ true = ap not (ne-eqb (getD kept p 0) 0 some-one) in
     let most = greatest-le p (counted kept) (λ q. q) p (λ q l e. omega arith) in
@@ -137,9 +137,9 @@ summed-some p kept different highest h some-one =
 
 pub summed-zero :
     (p : ℕ) (kept : List ℕ) (different highest : ℕ) →
-    Summed p kept different highest →
+    CountsSummed p kept different highest →
     getD kept p 0 ≡ 0 →
-    Summed (p + 1) kept different highest
+    CountsSummed (p + 1) kept different highest
 summed-zero p kept different highest h none-here =
     let here : counted kept p ≡ false = ap not (eq-eqb (getD kept p 0) 0 none-here) in
     let many = h .many in
@@ -152,7 +152,7 @@ summed-zero p kept different highest h none-here =
 pub summed-all :
     (kept : List ℕ) (different highest : ℕ) →
     length kept ≡ 258 →
-    Summed 256 kept different highest →
+    CountsSummed 256 kept different highest →
     set (set kept 256 different) 257 highest ≡ keptFor (take 256 kept)
 unfolding keptFor differentIn highestIn
 summed-all kept different highest long h =

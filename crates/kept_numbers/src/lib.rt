@@ -2,6 +2,7 @@
 // moved from a priority to another. What is told of the counts, how many differ and the highest, is in `sum_up` alone.
 use parity_game::Answer;
 use parity_game::KEPT_DIFFER;
+use parity_game::PRIORITIES;
 ghost use mathlib.Core.Path.{_≡_};
 ghost use Rattle.rules.specs.Outcome.{outcome, answered};
 ghost use Rattle.rules.specs.Record.{keptFor, freshCount, keptCheck};
@@ -10,6 +11,11 @@ ghost use Rattle.theory.specs.Counts.{moved};
 ghost use lib.ListN.{length, take};
 ghost use Rattle.kept_numbers.specs.Steps.{Counts, Movable};
 
+// Behind the counts stand how many priorities are there, and the highest.
+pub const DIFFERENT: usize = 256;
+
+pub const HIGHEST: usize = 257;
+
 // How many vertices have each priority up to 255; the last two entries are 0.
 fn tally(priorities: &[u16]) -> [u64; 258]
     ensures { λ r. ⌜ Counts (now (priorities .entry)) r ⌝ }
@@ -17,7 +23,7 @@ fn tally(priorities: &[u16]) -> [u64; 258]
     let mut counts = [0u64; 258];
     for v in 0..priorities.len() {
         let p = priorities[v] as usize;
-        if p < 256 {
+        if p < PRIORITIES {
             counts[p] += 1;
         }
     }
@@ -31,14 +37,14 @@ fn sum_up(kept: &mut [u64])
 {
     let mut different = 0u64;
     let mut highest = 0u64;
-    for p in 0..256 {
+    for p in 0..PRIORITIES {
         if kept[p] != 0 {
             different += 1;
             highest = p as u64;
         }
     }
-    kept[256] = different;
-    kept[257] = highest;
+    kept[DIFFERENT] = different;
+    kept[HIGHEST] = highest;
 }
 
 // The fresh count, of any priorities.

@@ -18,7 +18,7 @@ use Rattle.sets.specs.Laws.{bit-past, bit-take, bit-other, put-set}
 use Rattle.sets.specs.Single.{digit-insert, put-insert}
 use Rattle.layer.specs.Lowest.{others, lowestOf, others-higher, others-same, below-lowest, lowest-small, lowest-set}
 use Rattle.layer.specs.Lowest.{inWord, in-word, off-word}
-use Rattle.layer.specs.Layer.{room, marks, inLayer, Lent, Layer, Marked, Addable, Added, Poppable, Popped}
+use Rattle.layer.specs.Layer.{room, marks, inLayer, LentLayer, Layer, WordsMarked, Addable, Added, Poppable, Popped}
 
 -- ---- members by their words
 
@@ -297,7 +297,7 @@ marking-none xs =
       blank = λ j l e. absurd (omega arith);
     }
 
-module _ (xs : List ℕ) (so-far i : ℕ) (lent : Lent xs) (c : Marking xs so-far i) (more : i < room xs) where
+module _ (xs : List ℕ) (so-far i : ℕ) (lent : LentLayer xs) (c : Marking xs so-far i) (more : i < room xs) where
   pub marking-word : (getD xs i 0 ≡ 0 → ⊥) → Marking xs (bitOr so-far ((1 * 2 ^ i) % 2 ^ 64)) (i + 1)
   marking-word some =
       record {
@@ -335,7 +335,7 @@ module _ (xs : List ℕ) (so-far i : ℕ) (lent : Lent xs) (c : Marking xs so-fa
 
 -- all words are passed
 pub marking-all :
-    (xs : List ℕ) (so-far i : ℕ) → Lent xs → Marking xs so-far i → room xs ≤ i → Marked xs (set xs (room xs) so-far)
+    (xs : List ℕ) (so-far i : ℕ) → LentLayer xs → Marking xs so-far i → room xs ≤ i → WordsMarked xs (set xs (room xs) so-far)
 marking-all xs so-far i lent c done =
     record {
       long = long;
@@ -367,7 +367,7 @@ marking-all xs so-far i lent c done =
 -- ---- for callers
 
 -- a layer of zeros
-pub zeros-layer : (xs : List ℕ) → Lent xs → ((i : ℕ) → i < length xs → getD xs i 0 ≡ 0) → Layer xs
+pub zeros-layer : (xs : List ℕ) → LentLayer xs → ((i : ℕ) → i < length xs → getD xs i 0 ≡ 0) → Layer xs
 zeros-layer xs lent zeros =
     record {
       lent = lent;

@@ -23,18 +23,18 @@ abbrev pub inLayer : List ℕ → Set
 inLayer xs = setOf (take (room xs) xs)
 
 -- what is lent: at most 64 words and the one for the marks
-pub record Lent (xs : List ℕ) : Type 0 where
+pub record LentLayer (xs : List ℕ) : Type 0 where
   pub some : 1 ≤ length xs
   pub few : length xs ≤ 65
 
 -- the marks are right
 pub record Layer (xs : List ℕ) : Type 0 where
-  pub lent : Lent xs
+  pub lent : LentLayer xs
   pub marked : (i : ℕ) → i < 64 → digit (marks xs) i ≡ 1 → (i < room xs) × (getD xs i 0 ≡ 0 → ⊥)
   pub blank : (i : ℕ) → i < room xs → digit (marks xs) i ≡ 0 → getD xs i 0 ≡ 0
 
 -- after `mark`: the set as it was, with right marks
-pub record Marked (before after : List ℕ) : Type 0 where
+pub record WordsMarked (before after : List ℕ) : Type 0 where
   pub long : length after ≡ length before
   pub same : (i : ℕ) → i < room before → getD after i 0 ≡ getD before i 0
   pub layer : Layer after

@@ -1,4 +1,6 @@
 -- The words of a layer, and what each operation makes of them.
-pub mod Lowest
+-- contracts: what the functions ask for and leave
 pub mod Layer
+-- laws: what other crates cite
+pub mod Lowest
 pub mod Laws

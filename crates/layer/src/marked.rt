@@ -1,5 +1,5 @@
 // The operations on a layer: marks for words that stand there, one member more, the lowest word out.
-ghost use Rattle.layer.specs.Layer.{Lent, Marked, Addable, Added, Poppable, Popped};
+ghost use Rattle.layer.specs.Layer.{LentLayer, WordsMarked, Addable, Added, Poppable, Popped};
 
 // A word of a set, and which one it is.
 pub struct Word {
@@ -9,8 +9,8 @@ pub struct Word {
 
 // The last word comes to say which of the others are not 0.
 pub fn mark(layer: &mut [u64])
-    requires { ⌜ Lent (now layer) ⌝ }
-    ensures { λ _. ⌜ Marked (now (layer .entry)) (now (layer .exit)) ⌝ }
+    requires { ⌜ LentLayer (now layer) ⌝ }
+    ensures { λ _. ⌜ WordsMarked (now (layer .entry)) (now (layer .exit)) ⌝ }
 {
     let s = layer.len() - 1;
     let mut marks: u64 = 0;

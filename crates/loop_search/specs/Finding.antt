@@ -13,17 +13,17 @@ use Rattle.rules.specs.Winning.{Reach}
 use Rattle.basics.specs.Basics.{clash, or-right, or-cases, below-suc}
 use Rattle.theory.specs.Chosen.{chosenPart}
 use Rattle.search_rows.specs.Rows.{labels, behind}
-use Rattle.depth_first.specs.Area.{Cleared, marked, true-marked, marked-true}
-use Rattle.depth_first.specs.Area.{false-marked}
-use Rattle.depth_first.specs.Graph.{Graph, graph, gameIn, Leads, SoundGraph}
-use Rattle.depth_first.specs.Seeking.{assigned, Rows, rows-kept}
-use Rattle.breadth_first.specs.Spreading.{Way}
+use Rattle.search_links.specs.Area.{ClearedUpTo, marked, true-marked, marked-true}
+use Rattle.search_links.specs.Area.{false-marked}
+use Rattle.search_links.specs.Graph.{Graph, graph, gameIn, Leads, SoundGraph}
+use Rattle.backward_look.specs.Seeking.{assigned, Rows, rows-kept}
+use Rattle.breadth_first.specs.Spreading.{SpreadWay}
 use Rattle.subgame.specs.Parity.{rows-alike}
-use Rattle.parts.specs.Whole.{Markable, Marked}
-use Rattle.loop_search.specs.Heads.{head, head-true, true-head, Headable, Headed}
+use Rattle.parts.specs.Whole.{PartsMarkable, PartsMarked}
+use Rattle.loop_heads.specs.Heads.{head, head-true, true-head, Headable, Headed}
 
 -- sound tables, the predecessor table at the front, and room for one row behind the words of the searches
-pub record Ready (priorities offsets targets entries work : List ℕ) : Type 0 where
+pub record SearchReady (priorities offsets targets entries work : List ℕ) : Type 0 where
   pub sound : (top : ℕ) → SoundGraph (graph priorities offsets targets entries top)
   pub rows : (top : ℕ) → Rows (graph priorities offsets targets entries top) work
   pub small : (v : ℕ) → v < length priorities → getD priorities v 0 ≤ 255
@@ -32,7 +32,7 @@ pub record Ready (priorities offsets targets entries work : List ℕ) : Type 0 w
 -- a way from v to a vertex of exactly p in a good part for p
 pub record Led (priorities offsets targets entries : List ℕ) (p : ℕ) (work : List ℕ) (v : ℕ) : Type 0 where
   pub vs : List ℕ
-  pub way : Way (graph priorities offsets targets entries 255) work v vs
+  pub way : SpreadWay (graph priorities offsets targets entries 255) work v vs
   pub short : length vs ≤ length priorities
   pub exactly : getD priorities (way .last) 0 ≡ p
   pub good : chosenPart (gameIn (graph priorities offsets targets entries p)) entries p (way .last) ≡ true
@@ -44,9 +44,9 @@ Unled priorities offsets targets entries p v =
     chosenPart (gameIn (graph priorities offsets targets entries p)) entries p x ≡ true →
     Reach (Leads (graph priorities offsets targets entries 255)) v x → ⊥
 
-pub record Found (priorities offsets targets entries : List ℕ) (p : ℕ) (before after : List ℕ) : Type 0 where
+pub record LoopFound (priorities offsets targets entries : List ℕ) (p : ℕ) (before after : List ℕ) : Type 0 where
   pub long : length after ≡ length before
-  pub ready : Ready priorities offsets targets entries after
+  pub ready : SearchReady priorities offsets targets entries after
   pub led :
       (u : ℕ) → assigned (graph priorities offsets targets entries 255) after u ≡ true →
       Led priorities offsets targets entries p after u
@@ -55,27 +55,27 @@ pub record Found (priorities offsets targets entries : List ℕ) (p : ℕ) (befo
       Unled priorities offsets targets entries p u
 
 pub record Seekable (priorities offsets targets entries : List ℕ) (parity : ℕ) (work : List ℕ) (v : ℕ) : Type 0 where
-  pub ready : Ready priorities offsets targets entries work
+  pub ready : SearchReady priorities offsets targets entries work
   pub side : parity ≤ 1
   pub vertex : v < length priorities
 
 -- the lowest priority of the parity with a way, and v's way
-pub record Met (priorities offsets targets entries : List ℕ) (parity v : ℕ) (after : List ℕ) (p : ℕ) : Type 0 where
+pub record WayMet (priorities offsets targets entries : List ℕ) (parity v : ℕ) (after : List ℕ) (p : ℕ) : Type 0 where
   pub low : p ≤ 255
   pub side : p % 2 ≡ parity
-  pub ready : Ready priorities offsets targets entries after
+  pub ready : SearchReady priorities offsets targets entries after
   pub led : Led priorities offsets targets entries p after v
 
 pub record Sought (priorities offsets targets entries : List ℕ) (parity v : ℕ) (before after : List ℕ) (p : ℕ) : Type 0 where
   pub long : length after ≡ length before
   pub met :
       ((p ≡ 256) × ((j : ℕ) → j < 128 → Unled priorities offsets targets entries (2 * j + parity) v)) ⊎
-      Met priorities offsets targets entries parity v after p
+      WayMet priorities offsets targets entries parity v after p
 
 -- ---- laws of one priority
 
 module _ (priorities offsets targets entries : List ℕ) (p : ℕ) (w₀ : List ℕ)
-    (given : Ready priorities offsets targets entries w₀) where
+    (given : SearchReady priorities offsets targets entries w₀) where
   abbrev n : ℕ
   n = length priorities
 
@@ -85,8 +85,8 @@ module _ (priorities offsets targets entries : List ℕ) (p : ℕ) (w₀ : List 
   abbrev G : ℕ → Graph
   G top = graph priorities offsets targets entries top
 
-  module _ (w₁ : List ℕ) (bare : Cleared (behind n m) (behind n m + n) w₀ w₁) where
-    pub find-markable : Markable (graph priorities offsets targets entries p) w₁ (behind (length priorities) (length targets))
+  module _ (w₁ : List ℕ) (bare : ClearedUpTo (behind n m) (behind n m + n) w₀ w₁) where
+    pub find-markable : PartsMarkable (graph priorities offsets targets entries p) w₁ (behind (length priorities) (length targets))
     find-markable =
         record {
           sound = given .sound p;
@@ -95,9 +95,9 @@ module _ (priorities offsets targets entries : List ℕ) (p : ℕ) (w₀ : List 
           fits = omega (arith, given .room, bare .within .long);
         }
 
-    module _ (w₂ : List ℕ) (parts : Marked (graph priorities offsets targets entries p)
+    module _ (w₂ : List ℕ) (parts : PartsMarked (graph priorities offsets targets entries p)
         (behind (length priorities) (length targets)) w₁ w₂)
-        (w₃ : List ℕ) (blank : Cleared (labels n m) (labels n m + n) w₂ w₃) where
+        (w₃ : List ℕ) (blank : ClearedUpTo (labels n m) (labels n m + n) w₂ w₃) where
       rows₃ : (top : ℕ) → Rows (G top) w₃
       rows₃ top =
           rows-kept (omega arith) (blank .within)
@@ -136,7 +136,7 @@ module _ (priorities offsets targets entries : List ℕ) (p : ℕ) (w₀ : List 
 
       pub found : (w₄ : List ℕ) → Headed (graph priorities offsets targets entries 255) p
           (behind (length priorities) (length targets)) w₃ w₄ →
-          Found priorities offsets targets entries p w₀ w₄
+          LoopFound priorities offsets targets entries p w₀ w₄
       found w₄ h =
           record {
             long = h .within .long ∙ long₃;
@@ -159,22 +159,22 @@ module _ (priorities offsets targets entries : List ℕ) (p : ℕ) (w₀ : List 
 
 -- ---- one priority after another
 
-pub record Seeking (priorities offsets targets entries : List ℕ) (parity v : ℕ) (before : List ℕ) (k : ℕ)
+pub record LoopSeeking (priorities offsets targets entries : List ℕ) (parity v : ℕ) (before : List ℕ) (k : ℕ)
     (after : List ℕ) : Type 0 where
   pub long : length after ≡ length before
-  pub ready : Ready priorities offsets targets entries after
+  pub ready : SearchReady priorities offsets targets entries after
   pub none : (j : ℕ) → j < k → Unled priorities offsets targets entries (2 * j + parity) v
 
 module _ (priorities offsets targets entries : List ℕ) (parity v : ℕ) (before : List ℕ)
     (given : Seekable priorities offsets targets entries parity before v) where
-  pub seeking-starts : Seeking priorities offsets targets entries parity v before 0 before
+  pub seeking-starts : LoopSeeking priorities offsets targets entries parity v before 0 before
   seeking-starts = record { long = refl; ready = given .ready; none = λ j l. absurd (omega arith) }
 
-  module _ (k : ℕ) (work : List ℕ) (s : Seeking priorities offsets targets entries parity v before k work) (after : List ℕ)
-      (f : Found priorities offsets targets entries (2 * k + parity) work after) where
+  module _ (k : ℕ) (work : List ℕ) (s : LoopSeeking priorities offsets targets entries parity v before k work) (after : List ℕ)
+      (f : LoopFound priorities offsets targets entries (2 * k + parity) work after) where
     pub seeking-on :
         getD after (labels (length priorities) (length targets) + v) 0 ≡ 0 →
-        Seeking priorities offsets targets entries parity v before (k + 1) after
+        LoopSeeking priorities offsets targets entries parity v before (k + 1) after
     seeking-on z =
         record {
           long = f .long ∙ s .long;
@@ -207,6 +207,6 @@ module _ (priorities offsets targets entries : List ℕ) (parity v : ℕ) (befor
         }
 
   pub seeking-ends :
-      (work : List ℕ) → Seeking priorities offsets targets entries parity v before 128 work →
+      (work : List ℕ) → LoopSeeking priorities offsets targets entries parity v before 128 work →
       Sought priorities offsets targets entries parity v before work 256
   seeking-ends work s = record { long = s .long; met = inl (refl, s .none) }

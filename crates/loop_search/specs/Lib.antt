@@ -1,3 +1,2 @@
--- What the search for a loop asks for and leaves.
-pub mod Heads
+-- What the search for a loop asks for and leaves: one priority, and one after another.
 pub mod Finding

@@ -1,10 +1,13 @@
 // One priority after another.
-use crate::heads::spread_heads;
+use loop_heads::spread_heads;
 use search_rows::Rows;
 ghost use mathlib.Core.Path.{_≡_};
 ghost use Prim.Native.Nat.{_<_};
 ghost use Rattle.rules.specs.Record.{freshCount};
-ghost use Rattle.loop_search.specs.Finding.{Ready, Found, Seekable, Sought};
+ghost use Rattle.loop_search.specs.Finding.{SearchReady, LoopFound, Seekable, Sought};
+
+// Above every priority: there is no way to a good cycle.
+const NO_PRIORITY: u16 = 256;
 
 // After this a vertex has a word exactly when it reaches a vertex of p in a good part for p, and its way leads to one.
 fn find(
@@ -16,10 +19,10 @@ fn find(
     p: u16,
     work: &mut [u64],
 )
-    requires { ⌜ Ready (now priorities) (now offsets) (now targets) (now entries) (now work) ×
+    requires { ⌜ SearchReady (now priorities) (now offsets) (now targets) (now entries) (now work) ×
         (now kept ≡ freshCount (now priorities)) × (p < 256) ⌝ }
     ensures { λ _.
-        ⌜ Found (now (priorities .entry)) (now (offsets .entry)) (now (targets .entry)) (now (entries .entry)) p
+        ⌜ LoopFound (now (priorities .entry)) (now (offsets .entry)) (now (targets .entry)) (now (entries .entry)) p
         (now (work .entry)) (now (work .exit)) ⌝ }
 {
     let n = priorities.len();
@@ -66,5 +69,5 @@ pub fn seek(
             return 2 * k + parity;
         }
     }
-    256
+    NO_PRIORITY
 }

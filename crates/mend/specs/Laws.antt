@@ -55,7 +55,7 @@ numbered-export t =
 
 -- ---- the sizes
 
-pub record Sizes (t : Tables) (dropped alone : ℕ) : Type 0 where
+pub record ExportSizes (t : Tables) (dropped alone : ℕ) : Type 0 where
   pub few-dropped : dropped ≤ edgesIn t
   pub few-altered : alone ≤ vertices t
   pub counted : dropped ≡ length (droppedUpTo t (edgesIn t))
@@ -66,7 +66,7 @@ pub sizes-told :
     (t : Tables) (dropped alone : ℕ) → Shaped t →
     dropped ≡ length (droppedUpTo (bare (t .owners) [] (t .targets)) (edgesIn t)) →
     alone ≡ count (vertices t) (altered (bared t)) →
-    Sizes t dropped alone
+    ExportSizes t dropped alone
 sizes-told t dropped alone s d a =
     let gone : dropped ≡ length (droppedUpTo t (edgesIn t)) = d ∙ ap length (bared-dropped t (edgesIn t)) in
     let left : alone ≡ count (vertices t) (altered t) = a ∙ bared-count t (vertices t) in
@@ -123,7 +123,7 @@ module _ (t : Tables) (lent : MendingLent) (ok : exportChecks t ≡ none) where
   rooms-left l = late-left ∙ rw (le-ltb 16384 (length (mended t .targets)) l)
 
 -- the room of each output
-pub record Rooms (n edges entries priorities offsets targets list : ℕ) : Type 0 where
+pub record ExportRooms (n edges entries priorities offsets targets list : ℕ) : Type 0 where
   pub for-priorities : n ≤ priorities
   pub for-offsets : n + 1 ≤ offsets
   pub for-targets : edges ≤ targets
@@ -135,7 +135,7 @@ numbered-rooms n edges entries p o t l =
     numbered-given 35 0 (ltb p n || ltb o (n + 1) || ltb t edges || ltb l entries) (omega arith)
 
 pub rooms-fit :
-    (n edges entries p o t l : ℕ) → roomChecks n edges entries p o t l ≡ none → Rooms n edges entries p o t l
+    (n edges entries p o t l : ℕ) → roomChecks n edges entries p o t l ≡ none → ExportRooms n edges entries p o t l
 unfolding roomChecks
 rooms-fit n edges entries p o t l e =
     let two = ltb p n || ltb o (n + 1) in

@@ -5,9 +5,10 @@
 use mend_counts::counts::altered_vertices;
 use mend_counts::counts::dropped_edges;
 use mend_counts::priorities::write_priorities;
-use mend_writes::edges::write_edges;
-use mend_writes::list::write_list;
+use mend_edges::write_edges;
+use mend_list::write_list;
 use parity_game::Answer;
+use parity_game::MOST_EDGES;
 use parity_game::SHORT_OUTPUT;
 use parity_game::TOO_MANY_EDGES;
 ghost use mathlib.Core.Path.{_≡_};
@@ -100,7 +101,7 @@ pub fn mend(
     let dropped = dropped_edges(owners, targets);
     let altered = altered_vertices(owners, offsets, targets);
     let edges = targets.len() - dropped + altered;
-    if 16384 < edges {
+    if MOST_EDGES < edges {
         return Answer::Refused(TOO_MANY_EDGES);
     }
     let entries = dropped + 2 * altered;

@@ -78,21 +78,21 @@ listed-more zero f = refl
 listed-more (suc n) f = ap (λ (zs : List ℕ). f 0 ∷ zs) (listed-more n (λ k. f (suc k)))
 
 -- ys stand from `at` up to `end`, within what was lent; the rest stayed
-pub record Written (at : ℕ) (ys before after : List ℕ) (end : ℕ) : Type 0 where
+pub record WrittenUpTo (at : ℕ) (ys before after : List ℕ) (end : ℕ) : Type 0 where
   pub stands : after ≡ placed at ys before
   pub ends : end ≡ at + length ys
   pub fits : end ≤ length before
 
-pub written-none : (at : ℕ) (before : List ℕ) → at ≤ length before → Written at [] before before at
+pub written-none : (at : ℕ) (before : List ℕ) → at ≤ length before → WrittenUpTo at [] before before at
 written-none at before l = record { stands = sym (placed-none at before); ends = omega arith; fits = l }
 
 pub written-length :
-    (at : ℕ) (ys before after : List ℕ) (end : ℕ) → Written at ys before after end → length after ≡ length before
+    (at : ℕ) (ys before after : List ℕ) (end : ℕ) → WrittenUpTo at ys before after end → length after ≡ length before
 written-length at ys before after end w = rw (w .stands) (placed-length at ys before (omega (arith, w .ends, w .fits)))
 
 pub written-more :
     (at : ℕ) (ys before after : List ℕ) (end x : ℕ) →
-    Written at ys before after end → end < length before → Written at (ys ++ x ∷ []) before (set after end x) (end + 1)
+    WrittenUpTo at ys before after end → end < length before → WrittenUpTo at (ys ++ x ∷ []) before (set after end x) (end + 1)
 written-more at ys before after end x w room =
     record {
       stands = rw (w .stands, w .ends) (placed-more at ys before x (rw (w .ends) at room));
@@ -102,8 +102,8 @@ written-more at ys before after end x w room =
 
 pub written-pair :
     (at : ℕ) (ys before after : List ℕ) (end x y : ℕ) →
-    Written at ys before after end → end + 1 < length before →
-    Written at (ys ++ x ∷ (y ∷ [])) before (set (set after end x) (end + 1) y) (end + 2)
+    WrittenUpTo at ys before after end → end + 1 < length before →
+    WrittenUpTo at (ys ++ x ∷ (y ∷ [])) before (set (set after end x) (end + 1) y) (end + 2)
 written-pair at ys before after end x y w room =
     let once = written-more at ys before after end x w (omega arith) in
     let twice = written-more at (ys ++ x ∷ []) before (set after end x) (end + 1) y once room in
@@ -113,7 +113,7 @@ written-pair at ys before after end x y w room =
 -- what follows where the first part ended
 pub written-then :
     (at : ℕ) (ys before mid : List ℕ) (here : ℕ) (zs after : List ℕ) (end : ℕ) →
-    Written at ys before mid here → Written here zs mid after end → Written at (ys ++ zs) before after end
+    WrittenUpTo at ys before mid here → WrittenUpTo here zs mid after end → WrittenUpTo at (ys ++ zs) before after end
 written-then at ys before mid here zs after end w w' =
     let long = written-length at ys before mid here w in
     record {
@@ -124,14 +124,14 @@ written-then at ys before mid here zs after end w w' =
       fits = omega (arith, w' .fits);
     }
 
-pub written-front : (ys before after : List ℕ) (end : ℕ) → Written 0 ys before after end → after ≡ overwritten ys before
+pub written-front : (ys before after : List ℕ) (end : ℕ) → WrittenUpTo 0 ys before after end → after ≡ overwritten ys before
 written-front ys before after end w = w .stands ∙ placed-front ys before
 
 -- one more of what f gives, where what it gives below v is written
 pub written-listed :
     (f : ℕ → ℕ) (before after : List ℕ) (v : ℕ) →
-    Written 0 (listed v f) before after v → v < length before →
-    Written 0 (listed (v + 1) f) before (set after v (f v)) (v + 1)
+    WrittenUpTo 0 (listed v f) before after v → v < length before →
+    WrittenUpTo 0 (listed (v + 1) f) before (set after v (f v)) (v + 1)
 written-listed f before after v w room =
     let more : listed (v + 1) f ≡ listed v f ++ (f v ∷ []) = rw (add-one v) (listed-more v f) in
     rw more (written-more 0 (listed v f) before after v (f v) w room)

@@ -1,6 +1,7 @@
-// The tagged numbers of the Rust, the one answer type, how many words a set and the work area have, and the checks 9
-// and 10. The tables themselves are checked in `checks_in_order` and `table_checks`.
+// The tagged numbers of the Rust, the one answer type, the limits, how many words a set and the work area have, and
+// the checks 9 and 10. The tables themselves are checked in `checks_in_order` and `table_checks`.
 mod answer;
+mod limits;
 mod player;
 mod sizes;
 
@@ -37,6 +38,13 @@ pub use answer::STRAY_BIT;
 pub use answer::TABLE_LENGTHS;
 pub use answer::TOO_MANY_EDGES;
 pub use answer::TOO_MANY_VERTICES;
+pub use limits::HIGHEST_PRIORITY;
+pub use limits::MOST_EDGES;
+pub use limits::MOST_VERTICES;
+pub use limits::NO_DISTANCE;
+pub use limits::NO_ENTRY;
+pub use limits::PRIORITIES;
+pub use limits::TOP;
 pub use player::Player;
 pub use player::Priority;
 pub use player::VertexIndex;

@@ -18,22 +18,22 @@ use Rattle.theory.specs.Kosaraju.{Assigned}
 use Rattle.theory.specs.Links.{Together}
 use Rattle.theory.specs.Solitaire.{at-most-elim, at-most-intro}
 use Rattle.search_rows.specs.Rows.{marks, order, queue, labels, hits, pairs, behind}
-use Rattle.depth_first.specs.Area.{Within, within-then, within-wider, Cleared}
-use Rattle.depth_first.specs.Area.{segment-length, segment-at, marked, true-marked, marked-true, marked-alike}
-use Rattle.depth_first.specs.Graph.{Graph, size, edgeCount, gameIn, low, Leads, SoundGraph}
-use Rattle.depth_first.specs.Walking.{visited, finished, Room, Passes, Finished}
-use Rattle.depth_first.specs.Seeking.{assigned, labelWord, labelOf, Rows, rows-kept, Labelling, Labelled}
-use Rattle.parts.specs.Noting.{noteTest, tellsOf, Noteable, Noted}
-use Rattle.parts.specs.Good.{goodAt, Collectable, Collected, good-chosen}
+use Rattle.search_links.specs.Area.{Within, within-then, within-wider, ClearedUpTo}
+use Rattle.search_links.specs.Area.{segment-length, segment-at, marked, true-marked, marked-true, marked-alike}
+use Rattle.search_links.specs.Graph.{Graph, size, edgeCount, gameIn, low, Leads, SoundGraph}
+use Rattle.depth_first.specs.Walking.{visited, finished, Room, Passes, WalkFinished}
+use Rattle.backward_look.specs.Seeking.{assigned, labelWord, labelOf, Rows, rows-kept, Labelling, Labelled}
+use Rattle.good_parts.specs.Noting.{noteTest, tellsOf, Noteable, Noted}
+use Rattle.good_parts.specs.Good.{goodAt, Collectable, TestedBelow, good-chosen}
 
-pub record Markable (G : Graph) (work : List ℕ) (base : ℕ) : Type 0 where
+pub record PartsMarkable (G : Graph) (work : List ℕ) (base : ℕ) : Type 0 where
   pub sound : SoundGraph G
   pub rows : Rows G work
   pub low-end : behind (size G) (edgeCount G) ≤ base
   pub fits : base + size G ≤ length work
 
 -- the row at base also has the vertices of good parts; the predecessor table and the words behind, but for that row, are as they were
-pub record Marked (G : Graph) (base : ℕ) (before after : List ℕ) : Type 0 where
+pub record PartsMarked (G : Graph) (base : ℕ) (before after : List ℕ) : Type 0 where
   pub long : length after ≡ length before
   pub table : (i : ℕ) → i < marks (size G) (edgeCount G) → getD after i 0 ≡ getD before i 0
   pub rest : (i : ℕ) → behind (size G) (edgeCount G) ≤ i → (i < base) ⊎ (base + size G ≤ i) → getD after i 0 ≡ getD before i 0
@@ -42,11 +42,11 @@ pub record Marked (G : Graph) (base : ℕ) (before after : List ℕ) : Type 0 wh
       marked (size G) base after v ≡ (marked (size G) base before v || chosenPart (gameIn G) (G .entries) (G .top) v)
 
 -- the row by what it is equal to
-pub markable-as : {G : Graph} {work : List ℕ} {base base' : ℕ} → base ≡ base' → Markable G work base' → Markable G work base
-markable-as {G} {work} e h = subst (λ (k : ℕ). Markable G work k) (sym e) h
+pub markable-as : {G : Graph} {work : List ℕ} {base base' : ℕ} → base ≡ base' → PartsMarkable G work base' → PartsMarkable G work base
+markable-as {G} {work} e h = subst (λ (k : ℕ). PartsMarkable G work k) (sym e) h
 
-pub marked-as : {G : Graph} {before after : List ℕ} {base base' : ℕ} → base ≡ base' → Marked G base before after → Marked G base' before after
-marked-as {G} {before} {after} e h = subst (λ (k : ℕ). Marked G k before after) e h
+pub marked-as : {G : Graph} {before after : List ℕ} {base base' : ℕ} → base ≡ base' → PartsMarked G base before after → PartsMarked G base' before after
+marked-as {G} {before} {after} e h = subst (λ (k : ℕ). PartsMarked G k before after) e h
 
 -- labels in words that stay are whole parts still
 labels-kept :
@@ -82,14 +82,14 @@ labels-kept G lo hi before after h w parts =
     below : (u : ℕ) → assigned G before u ≡ true → u < size G
     below u p = marked-true (size G) (labels (size G) (edgeCount G)) before u p .0
 
-module _ (G : Graph) (w0 : List ℕ) (base : ℕ) (given : Markable G w0 base) where
+module _ (G : Graph) (w0 : List ℕ) (base : ℕ) (given : PartsMarkable G w0 base) where
   abbrev n : ℕ
   n = size G
 
   abbrev m : ℕ
   m = edgeCount G
 
-  module _ (w1 : List ℕ) (cleared : Cleared (marks n m) (behind n m) w0 w1) where
+  module _ (w1 : List ℕ) (cleared : ClearedUpTo (marks n m) (behind n m) w0 w1) where
     room1 : Room G w1
     room1 = omega (arith, given .fits, given .low-end, cleared .within .long)
 
@@ -97,7 +97,7 @@ module _ (G : Graph) (w0 : List ℕ) (base : ℕ) (given : Markable G w0 base) w
     passes =
         record { sound = given .sound; room = room1; clear = λ v l. cleared .zeros (marks n m + v) (omega arith) (omega arith) }
 
-    module _ (w2 : List ℕ) (done : ℕ) (first : Finished G w1 w2 done) where
+    module _ (w2 : List ℕ) (done : ℕ) (first : WalkFinished G w1 w2 done) where
       rows2 : Rows G w2
       rows2 = rows-kept (le-refl (marks n m)) (first .further .within) (rows-kept (le-refl (marks n m)) (cleared .within) (given .rows))
 
@@ -222,7 +222,7 @@ module _ (G : Graph) (w0 : List ℕ) (base : ℕ) (given : Markable G w0 base) w
                 }
 
             -- **The row has exactly the rule's vertices more.**
-            pub marked-parts : (w6 : List ℕ) → Collected G w5 base n w6 → Marked G base w0 w6
+            pub marked-parts : (w6 : List ℕ) → TestedBelow G w5 base n w6 → PartsMarked G base w0 w6
             marked-parts w6 c =
                 record {
                   long = c .within .long ∙ kept45 .long ∙ long3;

@@ -7,12 +7,12 @@ use lib.ListN.{length, drop}
 use Rattle.rules.specs.Outcome.{Outcome, Verdict, none, refused}
 use Rattle.rules.specs.Reading as Rules
 use Rattle.rules.specs.Reading.{Rooms, Written, roomChecks, ReadsBy, ReadsText}
-use Rattle.arrange.specs.Laws.{roomsOf, Alike}
+use Rattle.arrange.specs.Laws.{roomsOf, AlikeRooms}
 use Rattle.parity_game.specs.Said.{refusal}
 use Rattle.pgsolver_acts.specs.declared.state.State.{State}
 use Rattle.pgsolver_portion.specs.declared.take.Taken.{Taken}
 use Rattle.pgsolver_portion.specs.declared.take.Taken.the-variants.{On, Refused}
-use Rattle.pgsolver_portion.specs.Reached.{Reached, Stopped, Begins, begins-reached, TakenAs, Takes}
+use Rattle.pgsolver_portion.specs.Reached.{BytesReached, PortionStopped, PortionBegins, begins-reached, TakenAs, Takes}
 use Rattle.pgsolver_finish.specs.Finishing.{Area, Wiped}
 use Rattle.pgsolver_end.specs.Told.{Fitted, EndsText, told-alike, stopped-told}
 
@@ -26,7 +26,7 @@ pub record SameLengths (o p f t o' p' f' t' : List ℕ) : Type 0 where
 -- the first portion begins at the start of the text
 pub taken-whole :
     (mostBytes : ℕ) (text : List ℕ) (s : State) (o p f t : List ℕ) (x : Taken) (o' p' f' t' : List ℕ) →
-    Begins s o p f t →
+    PortionBegins s o p f t →
     Takes mostBytes 0 s text o p f t x o' p' f' t' →
     TakenAs mostBytes text (length text) x o' p' f' t'
 taken-whole mostBytes text s o p f t x o' p' f' t' begins takes =
@@ -43,7 +43,7 @@ module _ (asks : Rules.Asks) (mostBytes : ℕ) (text o p f t w : List ℕ) (x : 
   abbrev taken : Rooms
   taken = roomsOf o₂ p₂ f₂ t₂ w
 
-  alike : Alike taken before
+  alike : AlikeRooms taken before
   alike =
       record {
         owners = same .owners;

@@ -11,13 +11,13 @@ use Rattle.rules.specs.Outcome.{Outcome, Verdict, none, refused, given, outcome
 use Rattle.rules.specs.Pgsolver.{unsaid, Header, Entry}
 use Rattle.rules.specs.Reading.{Limits, Reads, Told, roomChecks, ReadsBy, ReadsText, game, Written, Rooms, readChecks, written}
 use Rattle.rules.specs.Reading.{tablesRead, limitsOf}
-use Rattle.rules.specs.Portions.{SoFar, reading, over, Lent, Meaning, roomsWith, limitsWith, lentChecks, endChecks, Kept}
-use Rattle.rules.specs.Portions.{Emptied, Started, Further, Portioned, Closing, writtenIn, usedIn, Closed, EndsReading}
+use Rattle.rules.specs.Portions.{SoFar, reading, over, LentBetween, Meaning, roomsWith, limitsWith, lentChecks, endChecks, KeptBetween}
+use Rattle.rules.specs.Portions.{Emptied, Started, Further, Portioned, Closing, writtenIn, usedIn, ClosedBy, EndsReading}
 use Rattle.rules.specs.Portions.{Session, Goes}
 use Rattle.grammar.specs.OneReading.{reads-one}
 use Rattle.grammar.specs.SoFar.{so-far-longer}
 use Rattle.reading_rooms.specs.Cleared.{all-zero-holding}
-use Rattle.arrange.specs.Laws.{Alike}
+use Rattle.arrange.specs.Laws.{AlikeRooms}
 use Rattle.parity_game.specs.Said.{refusal}
 use Rattle.pgsolver_end.specs.Told.{told-alike}
 use Rattle.pgsolver_serial.specs.Calls.{fit-lent}
@@ -25,7 +25,7 @@ use Rattle.pgsolver_close.specs.Checks.{end-unfit, end-fit}
 
 -- ---- lengths decide
 
-kept-on : {a b c : Lent} → Kept a b → Kept b c → Kept a c
+kept-on : {a b c : LentBetween} → KeptBetween a b → KeptBetween b c → KeptBetween a c
 kept-on x y =
     record {
       owners = y .owners ∙ x .owners;
@@ -36,18 +36,18 @@ kept-on x y =
       behind = y .behind ∙ x .behind;
     }
 
-checks-kept : (a b : Lent) → Kept a b → lentChecks b ≡ lentChecks a
+checks-kept : (a b : LentBetween) → KeptBetween a b → lentChecks b ≡ lentChecks a
 unfolding lentChecks
 checks-kept a b k =
     λ i.
     given 9 0 (not (eqb (k .priorities i) (k .owners i)) || not (eqb (k .offsets i) (k .owners i + 1))) then
     given 10 0 (ltb (k .state i) 32)
 
-limits-kept : (mostBytes : ℕ) (a b : Lent) → Kept a b → limitsWith mostBytes b ≡ limitsWith mostBytes a
+limits-kept : (mostBytes : ℕ) (a b : LentBetween) → KeptBetween a b → limitsWith mostBytes b ≡ limitsWith mostBytes a
 limits-kept mostBytes a b k =
     λ i. record { bytes = mostBytes; vertices = min 4096 (k .owners i); edges = min 16384 (k .targets i) }
 
-emptied-kept : (a b c : Lent) → Kept a b → Emptied b c → Emptied a c
+emptied-kept : (a b c : LentBetween) → KeptBetween a b → Emptied b c → Emptied a c
 emptied-kept a b c k e =
     record {
       owners = e .owners ∙ ap (λ (n : ℕ). replicate n 0) (k .owners);
@@ -59,21 +59,21 @@ emptied-kept a b c k e =
 -- ---- along a session
 
 -- one of the bytes was refused, and that outcome is there
-pub record Refused (S : Meaning) (mostBytes : ℕ) (first : Lent) (bytes : List ℕ) (now : Lent) : Type 0 where
+pub record Refused (S : Meaning) (mostBytes : ℕ) (first : LentBetween) (bytes : List ℕ) (now : LentBetween) : Type 0 where
   pub number : ℕ
   pub place : ℕ
   pub so-far : SoFar (limitsWith mostBytes first) bytes (refused number place)
   pub stands : S (over (refusal number place) 0 0) now
   pub empty : Emptied first now
 
-pub record Along (S : Meaning) (mostBytes : ℕ) (first : Lent) (bytes : List ℕ) (now : Lent) : Type 0 where
+pub record AlongCut (S : Meaning) (mostBytes : ℕ) (first : LentBetween) (bytes : List ℕ) (now : LentBetween) : Type 0 where
   pub passes : lentChecks first ≡ none
-  pub kept : Kept first now
+  pub kept : KeptBetween first now
   pub standing : S (reading mostBytes bytes) now ⊎ Refused S mostBytes first bytes now
 
 goes-standing :
-    (S : Meaning) (mostBytes : ℕ) (first before after : Lent) (bytes : List ℕ) (o : Outcome) (v : Verdict) →
-    Kept first before →
+    (S : Meaning) (mostBytes : ℕ) (first before after : LentBetween) (bytes : List ℕ) (o : Outcome) (v : Verdict) →
+    KeptBetween first before →
     SoFar (limitsWith mostBytes before) bytes v →
     Goes S mostBytes bytes before after o v →
     S (reading mostBytes bytes) after ⊎ Refused S mostBytes first bytes after
@@ -91,8 +91,8 @@ goes-standing S mostBytes first before after bytes o (refused j q) k so-far goes
 
 -- one portion more
 standing-on :
-    (S : Meaning) (mostBytes : ℕ) (first before after : Lent) (bytes p : List ℕ) (o : Outcome) →
-    Kept first before →
+    (S : Meaning) (mostBytes : ℕ) (first before after : LentBetween) (bytes p : List ℕ) (o : Outcome) →
+    KeptBetween first before →
     Portioned S p before after o →
     S (reading mostBytes bytes) before ⊎ Refused S mostBytes first bytes before →
     S (reading mostBytes (bytes ++ p)) after ⊎ Refused S mostBytes first (bytes ++ p) after
@@ -106,14 +106,14 @@ standing-on S mostBytes first before after bytes p o k call (inr r) =
       number = r .number;
       place = r .place;
       so-far = so-far-longer bytes p (r .so-far);
-      stands = subst (λ (x : Lent). S (over (refusal (r .number) (r .place)) 0 0) x) (sym (same .1)) (r .stands);
-      empty = subst (λ (x : Lent). Emptied first x) (sym (same .1)) (r .empty);
+      stands = subst (λ (x : LentBetween). S (over (refusal (r .number) (r .place)) 0 0) x) (sym (same .1)) (r .stands);
+      empty = subst (λ (x : LentBetween). Emptied first x) (sym (same .1)) (r .empty);
     })
 
 pub along :
-    {S : Meaning} {mostBytes : ℕ} {first now : Lent} {bytes : List ℕ} →
+    {S : Meaning} {mostBytes : ℕ} {first now : LentBetween} {bytes : List ℕ} →
     Session S mostBytes first bytes now →
-    Along S mostBytes first bytes now
+    AlongCut S mostBytes first bytes now
 along {S} {mostBytes} {first} (Session.started after o passes starts) =
     let it : Started S mostBytes first after o =
     subst (λ (v : Verdict). Unless v o first after (Started S mostBytes first after o)) passes starts in
@@ -131,7 +131,7 @@ along {S} {mostBytes} {first} (Session.portion bytes p before after o session re
 
 -- the state stays as long as the start asked
 pub session-long :
-    {S : Meaning} {mostBytes : ℕ} {first : Lent} {bytes : List ℕ} (lent : Lent) →
+    {S : Meaning} {mostBytes : ℕ} {first : LentBetween} {bytes : List ℕ} (lent : LentBetween) →
     Session S mostBytes first bytes lent →
     32 ≤ length (lent .state)
 session-long {first = first} lent session =
@@ -143,9 +143,9 @@ stopped-reads : {l : Limits} {bytes : List ℕ} {k p : ℕ} → SoFar l bytes (r
 stopped-reads (SoFar.stopped h r) = r
 
 told-at-end :
-    (S : Meaning) (mostBytes : ℕ) (first : Lent) (bytes : List ℕ) (before after : Closing) (o : Outcome) →
-    Along S mostBytes first bytes (before .lent) →
-    Closed S before after o →
+    (S : Meaning) (mostBytes : ℕ) (first : LentBetween) (bytes : List ℕ) (before after : Closing) (o : Outcome) →
+    AlongCut S mostBytes first bytes (before .lent) →
+    ClosedBy S before after o →
     S (reading mostBytes bytes) (before .lent) ⊎ Refused S mostBytes first bytes (before .lent) →
     Told game mostBytes bytes (writtenIn before .rooms) (writtenIn after) o
 told-at-end S mostBytes first bytes before after o a closed (inl h) = closed .ends mostBytes bytes h .told
@@ -183,17 +183,17 @@ told-at-end S mostBytes first bytes before after o a closed (inr r) =
 
 -- The end gives and leaves what the rules say of reading all the bytes that came at once, 9 and 10 among it.
 pub cut-anyhow :
-    {S : Meaning} {mostBytes : ℕ} {first : Lent} {bytes : List ℕ} (before after : Closing) (o : Outcome) →
+    {S : Meaning} {mostBytes : ℕ} {first : LentBetween} {bytes : List ℕ} (before after : Closing) (o : Outcome) →
     Session S mostBytes first bytes (before .lent) →
     EndsReading S before after o →
     ReadsText game mostBytes bytes (writtenIn before) (writtenIn after) o
 cut-anyhow {S} {mostBytes} {first} {bytes} before after o session ends = go (roomChecks (writtenIn before .rooms)) refl
   where
-    a : Along S mostBytes first bytes (before .lent)
+    a : AlongCut S mostBytes first bytes (before .lent)
     a = along session
 
     At : Verdict → Type 0
-    At v = Unless v o before after (Closed S before after o)
+    At v = Unless v o before after (ClosedBy S before after o)
 
     go :
         (v : Verdict) →
@@ -227,7 +227,7 @@ told-one mostBytes bytes r w w' o o' x y =
 -- Where 9 and 10 are not given, reading all the bytes at once into the rooms as they were before the start gives the same number and
 -- place and leaves the same tables, sizes and work area.
 pub cut-as-whole :
-    {S : Meaning} {mostBytes : ℕ} {first : Lent} {bytes : List ℕ} (before after : Closing) (o : Outcome) (whole : Written)
+    {S : Meaning} {mostBytes : ℕ} {first : LentBetween} {bytes : List ℕ} (before after : Closing) (o : Outcome) (whole : Written)
     (u : Outcome) →
     Session S mostBytes first bytes (before .lent) →
     EndsReading S before after o →
@@ -245,7 +245,7 @@ cut-as-whole {S} {mostBytes} {first} {bytes} before after o whole u session ends
     let mine : Told game mostBytes bytes (writtenIn before .rooms) (writtenIn after) o =
     subst (λ (v : Verdict). ReadsBy v game mostBytes bytes (writtenIn before) (writtenIn after) o) here
     (cut-anyhow before after o session ends) in
-    let there : Alike (roomsWith first (before .work)) (writtenIn before .rooms) =
+    let there : AlikeRooms (roomsWith first (before .work)) (writtenIn before .rooms) =
     record {
       owners = sym (k .owners);
       priorities = sym (k .priorities);

@@ -7,12 +7,12 @@ use lib.ListN.{length, getD, drop, replicate, length-replicate}
 use lib.Seq.{drop-at}
 use Rattle.rules.specs.Outcome.{Outcome, Verdict, none, refused, outcome, answered}
 use Rattle.rules.specs.Reading as Rules
-use Rattle.rules.specs.Portions.{Closing, usedIn, Kept, Announced, Closed}
+use Rattle.rules.specs.Portions.{Closing, usedIn, KeptBetween, Announced, ClosedBy}
 use Rattle.arrange.specs.Laws.{roomsOf}
 use Rattle.pgsolver_finish.specs.Finishing.{writtenOf}
 use Rattle.pgsolver_end.specs.Told.{Fitted, EndsText}
 use Rattle.pgsolver_words.specs.Words.{stateIn, placeIn, Gives}
-use Rattle.pgsolver_serial.specs.Stands.{lentOf, ReadingIn, outcomeIn, Stands, SameLengths, kept-all}
+use Rattle.pgsolver_serial.specs.Stands.{lentOf, ReadingIn, outcomeIn, Stands, SerialLengths, kept-all}
 
 abbrev pub closingOf : List ℕ → List ℕ → List ℕ → List ℕ → List ℕ → List ℕ → ℕ → ℕ → Closing
 closingOf s o p f t w n m = record { lent = lentOf s o p f t; work = w; n = n; m = m }
@@ -27,7 +27,7 @@ pub record EndsOn (before after : Closing) (o : Outcome) : Type 0 where
       (mostBytes : ℕ) (bytes : List ℕ) →
       ReadingIn mostBytes bytes (before .lent) →
       Announced Stands mostBytes bytes before after o
-  pub kept : Kept (before .lent) (after .lent)
+  pub kept : KeptBetween (before .lent) (after .lent)
   pub behind : drop (usedIn before) (after .work) ≡ drop (usedIn before) (before .work)
 
 pub record Again (s : List ℕ) (used : ℕ) (w w' : List ℕ) (n m : ℕ) (o : Outcome) : Type 0 where
@@ -49,7 +49,7 @@ module _ (s o p f t w : List ℕ) (n₀ m₀ : ℕ) where
   -- what the text gets is there from now on
   pub ends-on :
       (s' o' p' f' t' w' : List ℕ) (n m : ℕ) (u : Outcome) →
-      SameLengths o p f t o' p' f' t' →
+      SerialLengths o p f t o' p' f' t' →
       length s' ≡ length s →
       EndsText Rules.game (stateIn s) (placeIn s) (roomsOf o p f t w) (writtenOf o' p' f' t' w' n m) u →
       Gives (u .number) (u .place) n m s s' →
@@ -83,7 +83,7 @@ module _ (s o p f t w : List ℕ) (n₀ m₀ : ℕ) where
       getD s 0 0 ≡ 1 →
       Again s (length o + length t) w w' n m u →
       length o + length t ≤ length w →
-      Closed Stands start (closingOf s o p f t w' n m) u
+      ClosedBy Stands start (closingOf s o p f t w' n m) u
   closed-again w' n m u there a fits =
       record {
         ends = λ mostBytes bytes h. absurd (omega (arith, there, h .kind));
@@ -103,7 +103,7 @@ module _ (s o p f t w : List ℕ) (n₀ m₀ : ℕ) where
       (after : Closing) (u : Outcome) →
       (getD s 0 0 ≡ 1 → ⊥) →
       EndsOn start after u →
-      Closed Stands start after u
+      ClosedBy Stands start after u
   closed-on after u not ends =
       record {
         ends = ends .ends;

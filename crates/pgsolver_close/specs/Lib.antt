@@ -1,4 +1,6 @@
 -- What the end makes of the words and the tables, and that cutting a text anywhere changes nothing.
-pub mod Checks
+-- contracts: what the functions ask for and leave
 pub mod Ending
+-- laws: what other crates cite
+pub mod Checks
 pub mod Cut

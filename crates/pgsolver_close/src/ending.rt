@@ -13,7 +13,7 @@ use reading_rooms::clear_work;
 ghost use mathlib.Core.Path.{_≡_};
 ghost use Prim.Native.Nat.{_+_, _≤_};
 ghost use lib.ListN.{length};
-ghost use Rattle.rules.specs.Portions.{EndsReading, Closed};
+ghost use Rattle.rules.specs.Portions.{EndsReading, ClosedBy};
 ghost use Rattle.parity_game.specs.Said.{said};
 ghost use Rattle.pgsolver_serial.specs.Stands.{Stands};
 ghost use Rattle.pgsolver_close.specs.Ending.{closingOf, FitClosing, EndsOn, Again};
@@ -81,7 +81,7 @@ fn end_fitting(
 ) -> Answer
     requires { ⌜ FitClosing (now state) (now owners) (now priorities) (now offsets) (now targets) (now work) ⌝ }
     ensures { λ r.
-        ⌜ Closed Stands
+        ⌜ ClosedBy Stands
         (closingOf (now (state .entry)) (now (owners .entry)) (now (priorities .entry)) (now (offsets .entry))
         (now (targets .entry)) (now (work .entry)) (now (n .entry)) (now (m .entry)))
         (closingOf (now (state .exit)) (now (owners .exit)) (now (priorities .exit)) (now (offsets .exit))

@@ -23,7 +23,7 @@ use Rattle.pgsolver_acts.specs.declared.state.State.{State}
 use Rattle.pgsolver_acts.specs.Shown.{phaseOf, isSaid, saidOf}
 use Rattle.pgsolver_step.specs.Follows.{Standing}
 use Rattle.pgsolver_step.specs.Portions.{Remains, limitsIn}
-use Rattle.pgsolver_portion.specs.Reached.{runOver, Reached}
+use Rattle.pgsolver_portion.specs.Reached.{runOver, BytesReached}
 
 -- a text may end between records, once there is one
 abbrev pub mayEndOn : Phase → ℕ → Bool
@@ -46,7 +46,7 @@ mayEndOn InName n = false
 mayEndOn PastName n = false
 
 -- these records were read, they wait in the tables, and the state has their counts
-pub record Found (l : Limits) (text : List ℕ) (s : State) (o p f t : List ℕ) : Type 0 where
+pub record RecordsFound (l : Limits) (text : List ℕ) (s : State) (o p f t : List ℕ) : Type 0 where
   pub header : Header
   pub entries : List Entry
   pub reads : readingOf l text ≡ record { verdict = none; header = header; entries = entries }
@@ -102,7 +102,7 @@ may-end-aimless l Machine.pastName q h st = absurd (clash h refl)
 -- ---- from the bytes that were read
 
 module _ (mostBytes : ℕ) (bytes : List ℕ) (place : ℕ) (s : State) (o p f t : List ℕ)
-    (read : Reached mostBytes bytes place s o p f t) where
+    (read : BytesReached mostBytes bytes place s o p f t) where
   abbrev lim : Limits
   lim = limitsIn mostBytes o t
 
@@ -132,7 +132,7 @@ module _ (mostBytes : ℕ) (bytes : List ℕ) (place : ℕ) (s : State) (o p f t
   ends-early h = ended-as false h ∙ ap (λ (k : ℕ). nothingRead (refused 30 k)) (sym (read .counted))
 
   -- the text is whole
-  pub ends-whole : mayEndOn (s .phase) (s .records) ≡ true → Found lim bytes s o p f t
+  pub ends-whole : mayEndOn (s .phase) (s .records) ≡ true → RecordsFound lim bytes s o p f t
   ends-whole h =
       let shown = left .holds .shown in
       let none-more = may-end-aimless lim (machine .phase) machine (sym may-end ∙ h) (left .holds .standing) in

@@ -12,15 +12,15 @@ use Rattle.rules.specs.Reading.{Limits, Rooms, check31, targetsIn, tablesRead, 
 use Rattle.grammar.specs.Machine.{Read, readingOf, nothingRead}
 use Rattle.arrange.specs.Laws.{roomsOf, seen-checks, check31-once, waits-ready, ordered-holding, sizes-read}
 use Rattle.arrange_steps.specs.Once.{Once}
-use Rattle.arrange_steps.specs.Promises.{Ready, Orders}
+use Rattle.arrange_steps.specs.Promises.{RecordsReady, Orders}
 use Rattle.reading_rooms.specs.Said.{headerFrom, seenChecks}
 use Rattle.pgsolver_acts.specs.declared.state.State.{State}
 use Rattle.pgsolver_acts.specs.Shown.{isSaid, saidOf}
 use Rattle.pgsolver_step.specs.Portions.{limitsIn}
-use Rattle.pgsolver_portion.specs.Reached.{Reached}
+use Rattle.pgsolver_portion.specs.Reached.{BytesReached}
 use Rattle.pgsolver_end.specs.declared.tell.Told.{Told}
 use Rattle.pgsolver_end.specs.declared.tell.Told.the-variants.{Whole, Refused}
-use Rattle.pgsolver_end.specs.Ending.{mayEndOn, Found, ends-early, ends-whole}
+use Rattle.pgsolver_end.specs.Ending.{mayEndOn, RecordsFound, ends-early, ends-whole}
 
 -- the offsets are one more than the vertices that there is room for, and the work area is long enough
 pub record Tellable (room : ℕ) (f t w : List ℕ) : Type 0 where
@@ -56,7 +56,7 @@ pub record Tells (s : State) (place room : ℕ) (f t w : List ℕ) (r : Told) (f
   pub says :
       (mostBytes : ℕ) (bytes o p : List ℕ) →
       length o ≡ room →
-      Reached mostBytes bytes place s o p f t →
+      BytesReached mostBytes bytes place s o p f t →
       TellsAs (readingOf (limitsIn mostBytes o t) bytes) (roomsOf o p f t w) (roomsOf o p f' t' w') r
   pub within : WithinAs room (length t) r
   pub behind : drop (room + length t) w' ≡ drop (room + length t) w
@@ -68,7 +68,7 @@ header-shown (highest k) = refl
 
 -- ---- from the records that were found
 
-module _ (l : Limits) (text : List ℕ) (s : State) (o p f t : List ℕ) (found : Found l text s o p f t) where
+module _ (l : Limits) (text : List ℕ) (s : State) (o p f t : List ℕ) (found : RecordsFound l text s o p f t) where
   abbrev seen31 : Verdict
   seen31 = seenChecks (s .records) (headerFrom (s .said) (s .highest)) f
 
@@ -112,8 +112,8 @@ module _ (l : Limits) (text : List ℕ) (s : State) (o p f t : List ℕ) (found 
         let right : check31 (found .header) es ≡ none =
         sym seen-31 ∙ ap (λ (k : ℕ). seenChecks k (headerFrom (s .said) (s .highest)) f) (sym all-records) ∙ sym passes in
         let once = check31-once (found .header) es right in
-        let ready : Ready es n m room f t w =
-        subst (λ (k : ℕ). Ready es n m k f t w) long
+        let ready : RecordsReady es n m room f t w =
+        subst (λ (k : ℕ). RecordsReady es n m k f t w) long
         (waits-ready (found .waits) once n m w (all-records ∙ found .records) (all-edges ∙ found .edges) (omega arith)) in
         let clear : w' ≡ replicate (length o + length t) 0 ++ drop (length o + length t) w =
         subst (λ (k : ℕ). w' ≡ replicate (k + length t) 0 ++ drop (k + length t) w) (sym long) (orders .clear) in

@@ -19,11 +19,11 @@ use Rattle.basics.specs.Basics.{length-listed, or-false-both}
 use Rattle.accepted.specs.Tables.{then-none, given-none}
 use Rattle.grammar.specs.Correct.{machine-reads}
 use Rattle.grammar.specs.Machine.{Run, Read, readingOf, endOf, nothingRead}
-use Rattle.arrange.specs.Laws.{roomsOf, Alike, alike-holding}
+use Rattle.arrange.specs.Laws.{roomsOf, AlikeRooms, alike-holding}
 use Rattle.parity_game.specs.Said.{refusal}
 use Rattle.pgsolver_acts.specs.declared.state.State.{State}
 use Rattle.pgsolver_step.specs.Steps.{Fitting}
-use Rattle.pgsolver_portion.specs.Reached.{Reached, Stopped}
+use Rattle.pgsolver_portion.specs.Reached.{BytesReached, PortionStopped}
 use Rattle.pgsolver_finish.specs.Finishing.{Area, Finishable, fronts, left, Finishes, Wiped}
 use Rattle.pgsolver_end.specs.declared.tell.Told.{Told}
 use Rattle.pgsolver_end.specs.declared.tell.Told.the-variants.{Whole, Refused}
@@ -56,7 +56,7 @@ fitted r passes =
 pub record EndsText (asks : Rules.Asks) (s : State) (place : ℕ) (before : Rooms) (after : Written) (o : Outcome) : Type 0 where
   pub told :
       (mostBytes : ℕ) (bytes : List ℕ) →
-      Reached mostBytes bytes place s (before .owners) (before .priorities) (before .offsets) (before .targets) →
+      BytesReached mostBytes bytes place s (before .owners) (before .priorities) (before .offsets) (before .targets) →
       Rules.Told asks mostBytes bytes before after o
   pub behind : drop (readingWords before) (after .rooms .work) ≡ drop (readingWords before) (before .work)
 
@@ -123,7 +123,7 @@ module _ (asks : Rules.Asks) (s : State) (place : ℕ) (o p f t w : List ℕ) (x
   used-same : readingWords told ≡ readingWords before
   used-same = ap (λ (k : ℕ). length o + k) lt
 
-  alike : Alike told before
+  alike : AlikeRooms told before
   alike =
       record {
         owners = refl;
@@ -161,7 +161,7 @@ module _ (asks : Rules.Asks) (s : State) (place : ℕ) (o p f t w : List ℕ) (x
     where
       gives :
           (mostBytes : ℕ) (bytes : List ℕ) →
-          Reached mostBytes bytes place s o p f t →
+          BytesReached mostBytes bytes place s o p f t →
           Rules.Told asks mostBytes bytes before after (refusal k q)
       gives mostBytes bytes reached =
           let read = readingOf (limitsOf mostBytes before) bytes in
@@ -211,7 +211,7 @@ module _ (asks : Rules.Asks) (s : State) (place : ℕ) (o p f t w : List ℕ) (x
       where
         gives :
             (mostBytes : ℕ) (bytes : List ℕ) →
-            Reached mostBytes bytes place s o p f t →
+            BytesReached mostBytes bytes place s o p f t →
             Rules.Told asks mostBytes bytes before after u
         gives mostBytes bytes reached =
             let read = readingOf (limitsOf mostBytes before) bytes in
@@ -248,18 +248,18 @@ module _ (asks : Rules.Asks) (s : State) (place : ℕ) (o p f t w : List ℕ) (x
 
 -- ---- other rooms of the same lengths
 
-written-alike : (v : Verdict) (t : Tables) (r r' : Rooms) → Alike r r' → written v t r ≡ written v t r'
+written-alike : (v : Verdict) (t : Tables) (r r' : Rooms) → AlikeRooms r r' → written v t r ≡ written v t r'
 written-alike none t r r' a = λ i. record { rooms = alike-holding t r r' a i; n = length (t .owners); m = length (t .targets) }
 written-alike (refused k p) t r r' a = λ i. record { rooms = alike-holding noTables r r' a i; n = 0; m = 0 }
 
-pub limits-alike : (mostBytes : ℕ) (r r' : Rooms) → Alike r r' → limitsOf mostBytes r ≡ limitsOf mostBytes r'
+pub limits-alike : (mostBytes : ℕ) (r r' : Rooms) → AlikeRooms r r' → limitsOf mostBytes r ≡ limitsOf mostBytes r'
 limits-alike mostBytes r r' a =
     λ i. record { bytes = mostBytes; vertices = min 4096 (a .owners i); edges = min 16384 (a .targets i) }
 
 -- what is told of rooms goes for all that have their lengths and the same words that are not used
 pub told-alike :
     (asks : Rules.Asks) (mostBytes : ℕ) (bytes : List ℕ) (r r' : Rooms) (after : Written) (o : Outcome) →
-    Alike r r' →
+    AlikeRooms r r' →
     Rules.Told asks mostBytes bytes r after o →
     Rules.Told asks mostBytes bytes r' after o
 told-alike asks mostBytes bytes r r' after o a told =
@@ -279,7 +279,7 @@ told-alike asks mostBytes bytes r r' after o a told =
 -- a byte that was refused decides
 pub stopped-told :
     (asks : Rules.Asks) (mostBytes : ℕ) (bytes : List ℕ) (r : Rooms) (after : Written) (k q : ℕ) →
-    Stopped mostBytes bytes (r .owners) (r .targets) k q →
+    PortionStopped mostBytes bytes (r .owners) (r .targets) k q →
     Wiped r after →
     Rules.Told asks mostBytes bytes r after (refusal k q)
 unfolding endOf

@@ -20,7 +20,7 @@ use Rattle.pgsolver_acts.specs.declared.state.State.{State}
 use Rattle.pgsolver_acts.specs.Shown.{stateOf}
 use Rattle.pgsolver_step.specs.declared.portion.Portion.{Portion}
 use Rattle.pgsolver_step.specs.declared.portion.Portion.the-variants.{Reading, Stuck, Beyond}
-use Rattle.pgsolver_step.specs.Steps.{Fitting, Holds, limits}
+use Rattle.pgsolver_step.specs.Steps.{Fitting, HoldsReading, limits}
 use Rattle.pgsolver_step.specs.Portions.{Remains, Ends, limitsIn, Within, Portions}
 use Rattle.pgsolver_portion.specs.declared.take.Taken.{Taken}
 use Rattle.pgsolver_portion.specs.declared.take.Taken.the-variants.{On, Refused}
@@ -30,26 +30,26 @@ abbrev pub runOver : ℕ → List ℕ → List ℕ → List ℕ → Run
 runOver mostBytes o t bytes = runFrom (limitsIn mostBytes o t) 0 (live atFirst) bytes
 
 -- these bytes were read, none of them was refused, and the state and the tables hold what they say
-pub record Reached (mostBytes : ℕ) (bytes : List ℕ) (place : ℕ) (s : State) (o p f t : List ℕ) : Type 0 where
+pub record BytesReached (mostBytes : ℕ) (bytes : List ℕ) (place : ℕ) (s : State) (o p f t : List ℕ) : Type 0 where
   pub small : (k : ℕ) → getD bytes k 0 < 256
   pub counted : place ≡ length bytes
   pub within : place ≤ mostBytes
   pub remains : Remains (limitsIn mostBytes o t) (runOver mostBytes o t bytes) s o p f t
 
 -- one of these bytes was refused
-pub record Stopped (mostBytes : ℕ) (bytes o t : List ℕ) (k place : ℕ) : Type 0 where
+pub record PortionStopped (mostBytes : ℕ) (bytes o t : List ℕ) (k place : ℕ) : Type 0 where
   pub small : (j : ℕ) → getD bytes j 0 < 256
   pub runs : runOver mostBytes o t bytes ≡ ended (refused k place)
 
 -- ---- what the functions promise
 
-pub record Begins (s : State) (o p f t : List ℕ) : Type 0 where
+pub record PortionBegins (s : State) (o p f t : List ℕ) : Type 0 where
   pub shown : s ≡ stateOf atFirst
   pub waits : Waits [] [] o p f t
 
 abbrev pub TakenAs : ℕ → List ℕ → ℕ → Taken → List ℕ → List ℕ → List ℕ → List ℕ → Type 0
-TakenAs mostBytes bytes place (On s) o p f t = Reached mostBytes bytes place s o p f t
-TakenAs mostBytes bytes place (Refused k q) o p f t = Stopped mostBytes bytes o t k q
+TakenAs mostBytes bytes place (On s) o p f t = BytesReached mostBytes bytes place s o p f t
+TakenAs mostBytes bytes place (Refused k q) o p f t = PortionStopped mostBytes bytes o t k q
 
 -- where bytes are left to read, the next place is at most the limit
 abbrev pub FitsAs : ℕ → ℕ → Taken → Type 0
@@ -64,7 +64,7 @@ ClearAs (Refused k q) o p f t o' p' f' t' = TablesZero o p f t o' p' f' t'
 pub record Takes (mostBytes place : ℕ) (s : State) (text o p f t : List ℕ) (r : Taken) (o' p' f' t' : List ℕ) : Type 0 where
   pub more :
       (bytes : List ℕ) →
-      Reached mostBytes bytes place s o p f t →
+      BytesReached mostBytes bytes place s o p f t →
       TakenAs mostBytes (bytes ++ text) (place + length text) r o' p' f' t'
   pub fits : place ≤ mostBytes → FitsAs mostBytes (place + length text) r
   pub clear : ClearAs r o p f t o' p' f' t'
@@ -90,7 +90,7 @@ pub begins :
     Fitting o p f →
     TablesZero o p f t o' p' f' t' →
     s ≡ stateOf atFirst →
-    Begins s o' p' f' t'
+    PortionBegins s o' p' f' t'
 unfolding targetsIn inText times
 begins s o p f t o' p' f' t' fits z shown =
     let lo = zeros-long o' o (z .owners) in
@@ -123,7 +123,7 @@ begins s o p f t o' p' f' t' fits z shown =
 
 -- where a reading begins no byte was read
 pub begins-reached :
-    (mostBytes : ℕ) (s : State) (o p f t : List ℕ) → Begins s o p f t → Reached mostBytes [] 0 s o p f t
+    (mostBytes : ℕ) (s : State) (o p f t : List ℕ) → PortionBegins s o p f t → BytesReached mostBytes [] 0 s o p f t
 unfolding runFrom
 begins-reached mostBytes s o p f t b =
     record {
@@ -159,7 +159,7 @@ module _ (mostBytes place : ℕ) (s : State) (text o p f t : List ℕ) (r : Port
   -- the run over the bytes so far and the portion is the portion's, from where they lead
   ends :
       (bytes : List ℕ) →
-      Reached mostBytes bytes place s o p f t →
+      BytesReached mostBytes bytes place s o p f t →
       (x : Portion) →
       r ≡ x →
       Ends (limitsIn mostBytes o' t') (runOver mostBytes o' t' (bytes ++ text)) x o' p' f' t'
@@ -181,9 +181,9 @@ module _ (mostBytes place : ℕ) (s : State) (text o p f t : List ℕ) (r : Port
       (bytes o'' t'' : List ℕ) (k q : ℕ) →
       length o'' ≡ length o' →
       length t'' ≡ length t' →
-      Reached mostBytes bytes place s o p f t →
+      BytesReached mostBytes bytes place s o p f t →
       runOver mostBytes o' t' (bytes ++ text) ≡ ended (refused k q) →
-      Stopped mostBytes (bytes ++ text) o'' t'' k q
+      PortionStopped mostBytes (bytes ++ text) o'' t'' k q
   stops bytes o'' t'' k q eo et h runs =
       record {
         small = small-append bytes text (h .small) small;

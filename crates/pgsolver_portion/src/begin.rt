@@ -6,7 +6,7 @@ ghost use mathlib.Core.Path.{_≡_};
 ghost use Rattle.grammar.specs.Machine.{atFirst};
 ghost use Rattle.pgsolver_acts.specs.Shown.{stateOf};
 ghost use Rattle.pgsolver_step.specs.Steps.{Fitting};
-ghost use Rattle.pgsolver_portion.specs.Reached.{Begins};
+ghost use Rattle.pgsolver_portion.specs.Reached.{PortionBegins};
 
 // Nothing is read yet.
 fn start() -> State
@@ -35,7 +35,7 @@ pub fn begin(
 ) -> State
     requires { ⌜ Fitting (now owners) (now priorities) (now offsets) ⌝ }
     ensures { λ r.
-        ⌜ Begins r (now (owners .exit)) (now (priorities .exit)) (now (offsets .exit)) (now (targets .exit)) ⌝ }
+        ⌜ PortionBegins r (now (owners .exit)) (now (priorities .exit)) (now (offsets .exit)) (now (targets .exit)) ⌝ }
 {
     clear_tables(owners, priorities, offsets, targets);
     start()

@@ -1,5 +1,2 @@
--- What a text holds when so much of a game is put into it.
-pub mod Written
-pub mod Targets
-pub mod Records
+-- What a text holds when a whole game is put into it.
 pub mod Texts

@@ -11,8 +11,8 @@ use Rattle.rules.specs.Pgsolver.{parityWord}
 use Rattle.rules.specs.Tables.{Tables, vertices, Accepted}
 use Rattle.rules.specs.Writing.{blank, lineEnd, recordsText, headerText, textOf, check33, check34, writingChecks, writtenText}
 use Rattle.rules.specs.Writing.{Writes}
-use Rattle.printing.specs.Puts.{Puts, puts-both}
-use Rattle.pgsolver_put.specs.Written.{Written}
+use Rattle.putting.specs.Puts.{Puts, puts-both}
+use Rattle.pgsolver_line.specs.Written.{PutWritten}
 
 -- ---- the text from its pieces
 
@@ -64,7 +64,7 @@ writes-empty t before ok empty =
 -- 34
 pub writes-short :
     (t : Tables) (before : List ℕ) →
-    Written t →
+    PutWritten t →
     length before < length (textOf t) →
     Writes t before before (record { number = 34; place = length (textOf t); count = 0 })
 unfolding Accepted check33 check34
@@ -74,7 +74,7 @@ writes-short t before w short =
     record { gives = rw all; leaves = rw all }
 
 -- none of them
-pub checks-pass : (t : Tables) (room : ℕ) → Written t → length (textOf t) ≤ room → writingChecks t room ≡ none
+pub checks-pass : (t : Tables) (room : ℕ) → PutWritten t → length (textOf t) ≤ room → writingChecks t room ≡ none
 unfolding Accepted check33 check34
 checks-pass t room w enough =
     rw (w .accepted, ne-eqb (vertices t) 0 (λ e. omega (arith, e, w .some)), le-ltb room (length (textOf t)) enough)
@@ -82,7 +82,7 @@ checks-pass t room w enough =
 -- an answer
 pub writes-answered :
     {r : ℕ} {before after : List ℕ} (t : Tables) →
-    Written t →
+    PutWritten t →
     length (textOf t) ≤ length before →
     Puts 0 (textOf t) before after r →
     Writes t before after (answered r)

@@ -1,2 +1,2 @@
-// A game put into a text that is long enough: one piece after another.
+// A game put into a text that is long enough: the header and the records, whose lines are in `pgsolver_line`.
 pub mod put;

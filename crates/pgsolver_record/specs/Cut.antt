@@ -3,7 +3,7 @@ use mathlib.Core.Path.{_≡_, refl, sym, ap, subst, _∙_}
 use Prim.Native.Nat.{ℕ}
 use mathlib.Core.List.{List}
 use Rattle.rules.specs.Outcome.{Outcome, Verdict, none, refused, _then_, Unless}
-use Rattle.rules.specs.Portions.{Meaning, Lent, Session, ClosingRecord, Closed, ClosedRecord, writtenIn, endChecks}
+use Rattle.rules.specs.Portions.{Meaning, LentBetween, Session, ClosingRecord, ClosedBy, ClosedRecord, writtenIn, endChecks}
 use Rattle.rules.specs.Portions.{EndsReading, EndsRecord}
 use Rattle.rules.specs.Reading.{WrittenRecord, ToldRecord, ReadsBy, ReadsText, ReadsRecord, roomChecks, game}
 use Rattle.rules.specs.Record.{keptRoom}
@@ -25,7 +25,7 @@ ended :
 ended S mostBytes bytes before after o fit whole passes closed =
     let ends : EndsReading S (before .closing) (after .closing) o =
     subst
-    (λ (v : Verdict). Unless v o (before .closing) (after .closing) (Closed S (before .closing) (after .closing) o)) (sym passes)
+    (λ (v : Verdict). Unless v o (before .closing) (after .closing) (ClosedBy S (before .closing) (after .closing) o)) (sym passes)
     (closed .closed) in
     record {
       told =
@@ -36,7 +36,7 @@ ended S mostBytes bytes before after o fit whole passes closed =
 
 -- The end gives and leaves what the rules say of reading a record from all the bytes that came at once, 9 and 10 among it.
 pub cut-record-anyhow :
-    {S : Meaning} {mostBytes : ℕ} {first : Lent} {bytes : List ℕ} (before after : ClosingRecord) (o : Outcome) →
+    {S : Meaning} {mostBytes : ℕ} {first : LentBetween} {bytes : List ℕ} (before after : ClosingRecord) (o : Outcome) →
     Session S mostBytes first bytes (before .closing .lent) →
     EndsRecord S before after o →
     ReadsRecord mostBytes bytes (writtenRecordIn before) (writtenRecordIn after) o

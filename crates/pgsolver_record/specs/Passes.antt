@@ -12,13 +12,13 @@ use lib.Seq.{take-at}
 use Rattle.rules.specs.Counting.{times}
 use Rattle.rules.specs.Outcome.{Outcome, Verdict, none, refused, given, givenAt, outcome, answered, _then_, Unless}
 use Rattle.rules.specs.Pgsolver.{Header, Entry}
-use Rattle.rules.specs.Portions.{Meaning, reading, Lent, roomsWith, endChecks, ClosingRecord, ClosedRecord, EndsRecord, writtenIn}
+use Rattle.rules.specs.Portions.{Meaning, reading, LentBetween, roomsWith, endChecks, ClosingRecord, ClosedRecord, EndsRecord, writtenIn}
 use Rattle.rules.specs.Reading.{Limits, Reads, beyond, stuck, whole, Rooms, Written, limitsOf, readingWords, roomChecks, padded}
 use Rattle.rules.specs.Reading.{written, wrongHighest, check31, readChecks, tablesRead, game, Told, keptBeside}
 use Rattle.rules.specs.Reading.{WrittenRecord, ToldRecord, ReadsRecord}
 use Rattle.rules.specs.Record.{Record, recordOf, tablesIn, recordChecks, freshCount, keptRoom}
 use Rattle.rules.specs.Tables.{Tables, tablesOf, tableChecks, Accepted}
-use Rattle.theory.specs.Edits.{Roomy, Passing, passes}
+use Rattle.theory.specs.Edits.{Roomy, EditPassing, passes}
 use Rattle.parity_game.specs.Laws.{Numbered, numbered-then, numbered-given, numbered-givenAt, numbered-tables, zero-none}
 use Rattle.parity_game.specs.Laws.{then-none, accepted-sound}
 
@@ -27,7 +27,7 @@ abbrev pub recordRead : Written → List ℕ → Record
 recordRead w kept =
     recordOf (w .n) (w .m) (w .rooms .owners) (w .rooms .priorities) (w .rooms .offsets) (w .rooms .targets) kept
 
-pub record Passed (l : Limits) (bytes : List ℕ) (r : Record) : Type 0 where
+pub record RecordPassed (l : Limits) (bytes : List ℕ) (r : Record) : Type 0 where
   pub header : Header
   pub entries : List Entry
   pub says : Reads l bytes none header entries
@@ -103,7 +103,7 @@ numbered-rooms r =
     numbered-then (given 9 0 sizes) (given 10 0 short) (numbered-given 9 0 sizes (omega arith))
     (numbered-given 10 0 short (omega arith))
 
-numbered-end : (l : Lent) (work : List ℕ) → Numbered (endChecks l work)
+numbered-end : (l : LentBetween) (work : List ℕ) → Numbered (endChecks l work)
 unfolding endChecks
 numbered-end l work =
     let short = ltb (length (l .state)) 32 in
@@ -131,7 +131,7 @@ told-passes :
     Told game mostBytes bytes rooms after o →
     kept ≡ keptBeside o (after .n) (after .rooms .priorities) →
     o .number ≡ 0 →
-    Passed (limitsOf mostBytes rooms) bytes (recordRead after kept)
+    RecordPassed (limitsOf mostBytes rooms) bytes (recordRead after kept)
 unfolding Accepted
 told-passes mostBytes bytes rooms after kept o told beside zero =
     let es = told .entries in
@@ -148,7 +148,7 @@ told-passes mostBytes bytes rooms after kept o told beside zero =
     told .leaves ∙ ap (λ (x : Verdict). written x (tablesRead es) rooms) pass in
     let fresh : kept ≡ freshCount (take (after .n) (after .rooms .priorities)) = rw (eq-eqb (o .number) 0 zero) at beside in
     let Goal : Written → Type 0 =
-    λ w. kept ≡ freshCount (take (w .n) (w .rooms .priorities)) → Passed (limitsOf mostBytes rooms) bytes (recordRead w kept) in
+    λ w. kept ≡ freshCount (take (w .n) (w .rooms .priorities)) → RecordPassed (limitsOf mostBytes rooms) bytes (recordRead w kept) in
     subst Goal (sym is)
     (λ counted.
     record {
@@ -166,7 +166,7 @@ pub read-record-passes :
     (mostBytes : ℕ) (bytes : List ℕ) (before after : WrittenRecord) (o : Outcome) →
     ReadsRecord mostBytes bytes before after o →
     o .number ≡ 0 →
-    Passed (limitsOf mostBytes (before .tables .rooms)) bytes (recordRead (after .tables) (after .kept))
+    RecordPassed (limitsOf mostBytes (before .tables .rooms)) bytes (recordRead (after .tables) (after .kept))
 read-record-passes mostBytes bytes before after o reads zero =
     let own = keptRoom (before .kept) then roomChecks (before .tables .rooms) in
     let it =
@@ -182,7 +182,7 @@ pub end-record-passes :
     EndsRecord S before after o →
     S (reading mostBytes bytes) (before .closing .lent) →
     o .number ≡ 0 →
-    Passed (limitsOf mostBytes (writtenIn (before .closing) .rooms)) bytes (recordRead (writtenIn (after .closing)) (after .kept))
+    RecordPassed (limitsOf mostBytes (writtenIn (before .closing) .rooms)) bytes (recordRead (writtenIn (after .closing)) (after .kept))
 end-record-passes S mostBytes bytes before after o ends stands zero =
     let end = endChecks (before .closing .lent) (before .closing .work) in
     let it =

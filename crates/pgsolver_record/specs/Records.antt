@@ -4,7 +4,7 @@ use mathlib.Core.Path.{_≡_, sym, subst, _∙_}
 use Prim.Native.Nat.{ℕ}
 use lib.ListN.{length}
 use Rattle.rules.specs.Outcome.{Outcome, Verdict, none, _then_, Unless}
-use Rattle.rules.specs.Portions.{Meaning, ClosingRecord, Closed, ClosedRecord, roomsWith, endChecks, EndsReading, EndsRecord}
+use Rattle.rules.specs.Portions.{Meaning, ClosingRecord, ClosedBy, ClosedRecord, roomsWith, endChecks, EndsReading, EndsRecord}
 use Rattle.rules.specs.Reading.{WrittenRecord, ToldRecord, ReadsBy, ReadsText, ReadsRecord, roomChecks, keptBeside, game, Told}
 use Rattle.rules.specs.Record.{keptRoom}
 use Rattle.parity_game.specs.Said.{refusal}
@@ -82,8 +82,8 @@ module _ (S : Meaning) (before : ClosingRecord) (k : ℕ) (says : numberSaid k �
   ends-record after o zero ends kept =
       let fit : all ≡ none = are ∙ number-none k zero in
       let rooms = then-none (keptRoom (before .kept)) lentChecks fit .1 in
-      let closed : Closed S (before .closing) (after .closing) o =
+      let closed : ClosedBy S (before .closing) (after .closing) o =
       subst
-      (λ (v : Verdict). Unless v o (before .closing) (after .closing) (Closed S (before .closing) (after .closing) o))
+      (λ (v : Verdict). Unless v o (before .closing) (after .closing) (ClosedBy S (before .closing) (after .closing) o))
       rooms ends in
       unless-fit all o before after (ClosedRecord S before after o) fit (record { closed = closed; kept = kept })

@@ -7,7 +7,7 @@ use borrow.Author.Tests.{eqb-true, ltb-true, ltb-false, lt-ltb, le-ltb, not-fals
 use lib.Dec.{eqb, ltb}
 use lib.ListN.{length}
 use Rattle.rules.specs.Outcome.{Outcome, Verdict, none, refused, given, _then_, Unless}
-use Rattle.rules.specs.Portions.{Lent, lentChecks}
+use Rattle.rules.specs.Portions.{LentBetween, lentChecks}
 use Rattle.basics.specs.Basics.{bool-cases, or-false-both}
 use Rattle.accepted.specs.Tables.{then-none, given-none}
 use Rattle.reading_rooms.specs.Said.{sizeChecks}
@@ -25,7 +25,7 @@ ltb-both a b c =
 
 -- the words of the state in the place of room for targets
 pub lent-checks :
-    (r : Lent) (v : Verdict) →
+    (r : LentBetween) (v : Verdict) →
     v ≡
     sizeChecks (length (r .owners)) (length (r .priorities)) (length (r .offsets)) 32 (length (r .owners) + length (r .state)) →
     lentChecks r ≡ v
@@ -40,7 +40,7 @@ lent-checks r v e =
     given 10 0 b)
     (ltb-both (length (r .owners)) (length (r .state)) 32))
 
-pub fit-lent : (r : Lent) → lentChecks r ≡ none → FitLent r
+pub fit-lent : (r : LentBetween) → lentChecks r ≡ none → FitLent r
 unfolding lentChecks
 fit-lent r passes =
     let sizes = not (eqb (length (r .priorities)) (length (r .owners))) in

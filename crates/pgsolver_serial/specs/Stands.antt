@@ -7,7 +7,7 @@ use lib.ListN.{length, getD, drop}
 use lib.Seq.{drop-drop}
 use Rattle.rules.specs.Outcome.{Outcome, none, refused, answered}
 use Rattle.rules.specs.Reading.{Limits}
-use Rattle.rules.specs.Portions.{SoFar, reading, over, Lent, Meaning, limitsWith, Kept, Further, Portioned}
+use Rattle.rules.specs.Portions.{SoFar, reading, over, LentBetween, Meaning, limitsWith, KeptBetween, Further, Portioned}
 use Rattle.grammar.specs.Machine.{live, ended}
 use Rattle.grammar.specs.SoFar.{run-so-far}
 use Rattle.reading_rooms.specs.Cleared.{TablesZero}
@@ -16,30 +16,30 @@ use Rattle.pgsolver_acts.specs.declared.state.State.{State}
 use Rattle.pgsolver_step.specs.Steps.{Fitting}
 use Rattle.pgsolver_portion.specs.declared.take.Taken.{Taken}
 use Rattle.pgsolver_portion.specs.declared.take.Taken.the-variants.{On, Refused}
-use Rattle.pgsolver_portion.specs.Reached.{Reached, Stopped, Begins, begins-reached, Takes}
-use Rattle.pgsolver_words.specs.Words.{stateIn, mostIn, placeIn, Keeps, Gives}
+use Rattle.pgsolver_portion.specs.Reached.{BytesReached, PortionStopped, PortionBegins, begins-reached, Takes}
+use Rattle.pgsolver_words.specs.Words.{stateIn, mostIn, placeIn, KeepsReading, Gives}
 
-abbrev pub lentOf : List ℕ → List ℕ → List ℕ → List ℕ → List ℕ → Lent
+abbrev pub lentOf : List ℕ → List ℕ → List ℕ → List ℕ → List ℕ → LentBetween
 lentOf s o p f t = record { state = s; owners = o; priorities = p; offsets = f; targets = t }
 
 -- 9 and 10 are not given
-pub record FitLent (r : Lent) : Type 0 where
+pub record FitLent (r : LentBetween) : Type 0 where
   pub fitting : Fitting (r .owners) (r .priorities) (r .offsets)
   pub long : 32 ≤ length (r .state)
 
 -- ---- what state and tables stand for
 
-pub record ReadingIn (mostBytes : ℕ) (bytes : List ℕ) (r : Lent) : Type 0 where
+pub record ReadingIn (mostBytes : ℕ) (bytes : List ℕ) (r : LentBetween) : Type 0 where
   pub kind : getD (r .state) 0 0 ≡ 0
   pub most : mostIn (r .state) ≡ mostBytes
   pub reached :
-      Reached mostBytes bytes (placeIn (r .state)) (stateIn (r .state)) (r .owners) (r .priorities) (r .offsets) (r .targets)
+      BytesReached mostBytes bytes (placeIn (r .state)) (stateIn (r .state)) (r .owners) (r .priorities) (r .offsets) (r .targets)
 
 -- the outcome in the words
 abbrev pub outcomeIn : List ℕ → Outcome
 outcomeIn s = record { number = getD s 1 0; place = getD s 2 0; count = 0 }
 
-pub record OverIn (g : Outcome) (n m : ℕ) (r : Lent) : Type 0 where
+pub record OverIn (g : Outcome) (n m : ℕ) (r : LentBetween) : Type 0 where
   pub kind : getD (r .state) 0 0 ≡ 1
   pub gives : outcomeIn (r .state) ≡ g
   pub vertices : getD (r .state) 3 0 ≡ n
@@ -51,19 +51,19 @@ Stands (over g n m) r = OverIn g n m r
 
 -- ---- what each part of a call makes of it
 
-pub record Starts (mostBytes : ℕ) (before after : Lent) : Type 0 where
+pub record Starts (mostBytes : ℕ) (before after : LentBetween) : Type 0 where
   pub stands : Stands (reading mostBytes []) after
-  pub kept : Kept before after
+  pub kept : KeptBetween before after
 
-pub record GoesOn (portion : List ℕ) (before after : Lent) (o : Outcome) : Type 0 where
+pub record GoesOn (portion : List ℕ) (before after : LentBetween) (o : Outcome) : Type 0 where
   pub further :
       (mostBytes : ℕ) (bytes : List ℕ) →
       ReadingIn mostBytes bytes before →
       Further Stands mostBytes (bytes ++ portion) before after o
-  pub kept : Kept before after
+  pub kept : KeptBetween before after
 
 -- tables keep their lengths
-pub record SameLengths (o p f t o' p' f' t' : List ℕ) : Type 0 where
+pub record SerialLengths (o p f t o' p' f' t' : List ℕ) : Type 0 where
   pub owners : length o' ≡ length o
   pub priorities : length p' ≡ length p
   pub offsets : length f' ≡ length f
@@ -75,10 +75,10 @@ beyond-13 s s' e = sym (drop-drop 19 13 s') ∙ ap (drop 19) e ∙ drop-drop 19 
 
 pub kept-all :
     (s o p f t s' o' p' f' t' : List ℕ) →
-    SameLengths o p f t o' p' f' t' →
+    SerialLengths o p f t o' p' f' t' →
     length s' ≡ length s →
     drop 13 s' ≡ drop 13 s →
-    Kept (lentOf s o p f t) (lentOf s' o' p' f' t')
+    KeptBetween (lentOf s o p f t) (lentOf s' o' p' f' t')
 kept-all s o p f t s' o' p' f' t' same long behind =
     record {
       owners = same .owners;
@@ -92,8 +92,8 @@ kept-all s o p f t s' o' p' f' t' same long behind =
 -- a reading that was kept is found
 kept-reading :
     (mostBytes : ℕ) (bytes : List ℕ) (place : ℕ) (x : State) (s s' o p f t : List ℕ) →
-    Reached mostBytes bytes place x o p f t →
-    Keeps mostBytes place x s s' →
+    BytesReached mostBytes bytes place x o p f t →
+    KeepsReading mostBytes place x s s' →
     ReadingIn mostBytes bytes (lentOf s' o p f t)
 kept-reading mostBytes bytes place x s s' o p f t h k =
     let at : place ≡ placeIn s' = omega (arith, k .at, k .bytes, h .within) in
@@ -101,18 +101,18 @@ kept-reading mostBytes bytes place x s s' o p f t h k =
       kind = k .kind;
       most = k .bytes;
       reached =
-          subst (λ (y : State). Reached mostBytes bytes (placeIn s') y o p f t) (sym (k .state))
-          (subst (λ (q : ℕ). Reached mostBytes bytes q x o p f t) at h);
+          subst (λ (y : State). BytesReached mostBytes bytes (placeIn s') y o p f t) (sym (k .state))
+          (subst (λ (q : ℕ). BytesReached mostBytes bytes q x o p f t) at h);
     }
 
 -- ---- start
 
 pub starts :
     (mostBytes : ℕ) (x : State) (s o p f t s' o' p' f' t' : List ℕ) →
-    SameLengths o p f t o' p' f' t' →
+    SerialLengths o p f t o' p' f' t' →
     length s' ≡ length s →
-    Begins x o' p' f' t' →
-    Keeps mostBytes 0 x s s' →
+    PortionBegins x o' p' f' t' →
+    KeepsReading mostBytes 0 x s s' →
     Starts mostBytes (lentOf s o p f t) (lentOf s' o' p' f' t')
 starts mostBytes x s o p f t s' o' p' f' t' same long begins keeps =
     record {
@@ -123,13 +123,13 @@ starts mostBytes x s o p f t s' o' p' f' t' same long begins keeps =
 
 -- ---- a portion
 
-module _ (portion s o p f t : List ℕ) (x : Taken) (o' p' f' t' s' : List ℕ) (same : SameLengths o p f t o' p' f' t')
+module _ (portion s o p f t : List ℕ) (x : Taken) (o' p' f' t' s' : List ℕ) (same : SerialLengths o p f t o' p' f' t')
     (long : length s' ≡ length s)
     (takes : Takes (mostIn s) (placeIn s) (stateIn s) portion o p f t x o' p' f' t') where
-  abbrev before : Lent
+  abbrev before : LentBetween
   before = lentOf s o p f t
 
-  abbrev after : Lent
+  abbrev after : LentBetween
   after = lentOf s' o' p' f' t'
 
   limits-same : limitsWith (mostIn s) after ≡ limitsWith (mostIn s) before
@@ -155,14 +155,14 @@ module _ (portion s o p f t : List ℕ) (x : Taken) (o' p' f' t' s' : List ℕ) 
   pub goes-on :
       (n : State) →
       x ≡ On n →
-      Keeps (mostIn s) (placeIn s + length portion) n s s' →
+      KeepsReading (mostIn s) (placeIn s + length portion) n s s' →
       GoesOn portion before after (answered 0)
   goes-on n is keeps =
       record {
         further =
             at-most (answered 0)
             (λ bytes h.
-            let now : Reached (mostIn s) (bytes ++ portion) (placeIn s + length portion) n o' p' f' t' =
+            let now : BytesReached (mostIn s) (bytes ++ portion) (placeIn s + length portion) n o' p' f' t' =
             told (On n) is .more bytes (h .reached) in
             let r = now .remains in
             record {
@@ -185,7 +185,7 @@ module _ (portion s o p f t : List ℕ) (x : Taken) (o' p' f' t' s' : List ℕ) 
         further =
             at-most (refusal k q)
             (λ bytes h.
-            let now : Stopped (mostIn s) (bytes ++ portion) o' t' k q = told (Refused k q) is .more bytes (h .reached) in
+            let now : PortionStopped (mostIn s) (bytes ++ portion) o' t' k q = told (Refused k q) is .more bytes (h .reached) in
             record {
               verdict = refused k q;
               so-far =
@@ -211,7 +211,7 @@ module _ (portion s o p f t : List ℕ) (x : Taken) (o' p' f' t' s' : List ℕ) 
       }
 
 module _ (portion s o p f t : List ℕ) where
-  abbrev lent : Lent
+  abbrev lent : LentBetween
   lent = lentOf s o p f t
 
   -- the outcome is there: nothing changes
@@ -224,7 +224,7 @@ module _ (portion s o p f t : List ℕ) where
       }
 
   pub portioned-on :
-      (after : Lent) (o : Outcome) →
+      (after : LentBetween) (o : Outcome) →
       (getD s 0 0 ≡ 1 → ⊥) →
       GoesOn portion lent after o →
       Portioned Stands portion lent after o

@@ -18,7 +18,7 @@ use Rattle.pgsolver_step.specs.declared.step.Step.{Step}
 use Rattle.pgsolver_step.specs.declared.step.Step.the-variants.{On, Off, Over}
 use Rattle.pgsolver_step.specs.declared.portion.Portion.{Portion}
 use Rattle.pgsolver_step.specs.declared.portion.Portion.the-variants.{Reading, Stuck, Beyond}
-use Rattle.pgsolver_step.specs.Steps.{Fitting, Room, Holds, Steps, limits}
+use Rattle.pgsolver_step.specs.Steps.{Fitting, LimitRoom, HoldsReading, Steps, limits}
 
 -- ---- what a portion promises
 
@@ -26,7 +26,7 @@ use Rattle.pgsolver_step.specs.Steps.{Fitting, Room, Holds, Steps, limit
 pub record Remains (l : Limits) (run : Run) (s : State) (o p f t : List ℕ) : Type 0 where
   pub machine : Machine
   pub runs : run ≡ live machine
-  pub holds : Holds l machine s o p f t
+  pub holds : HoldsReading l machine s o p f t
 
 abbrev pub Ends : Limits → Run → Portion → List ℕ → List ℕ → List ℕ → List ℕ → Type 0
 Ends l run (Reading s) o p f t = Remains l run s o p f t
@@ -47,7 +47,7 @@ Within mostBytes after (Beyond k) = k ≤ mostBytes
 pub record Portions (mostBytes place : ℕ) (s : State) (text o p f t : List ℕ) (r : Portion) (o' p' f' t' : List ℕ) : Type 0 where
   pub agrees :
       (m : Machine) →
-      Holds (limitsIn mostBytes o t) m s o p f t →
+      HoldsReading (limitsIn mostBytes o t) m s o p f t →
       Ends (limitsIn mostBytes o t) (runFrom (limitsIn mostBytes o t) place (live m) text) r o' p' f' t'
   pub within : place ≤ mostBytes → Within mostBytes (place + length text) r
 
@@ -57,7 +57,7 @@ pub portions :
     vertices ≡ min 4096 (length o) →
     edges ≡ min 16384 (length t) →
     ((m : Machine) →
-    Holds (limits mostBytes vertices edges) m s o p f t →
+    HoldsReading (limits mostBytes vertices edges) m s o p f t →
     Ends (limits mostBytes vertices edges) (runFrom (limits mostBytes vertices edges) place (live m) text) r o' p' f' t') →
     (place ≤ mostBytes → Within mostBytes (place + length text) r) →
     Portions mostBytes place s text o p f t r o' p' f' t'
@@ -67,7 +67,7 @@ portions mostBytes vertices edges place s text o p f t r o' p' f' t' few short a
           subst
           (λ (x : ℕ).
           (m : Machine) →
-          Holds (limits mostBytes x (min 16384 (length t))) m s o p f t →
+          HoldsReading (limits mostBytes x (min 16384 (length t))) m s o p f t →
           Ends (limits mostBytes x (min 16384 (length t)))
           (runFrom (limits mostBytes x (min 16384 (length t))) place (live m) text)
           r
@@ -79,7 +79,7 @@ portions mostBytes vertices edges place s text o p f t r o' p' f' t' few short a
           (subst
           (λ (x : ℕ).
           (m : Machine) →
-          Holds (limits mostBytes vertices x) m s o p f t →
+          HoldsReading (limits mostBytes vertices x) m s o p f t →
           Ends (limits mostBytes vertices x) (runFrom (limits mostBytes vertices x) place (live m) text) r o' p' f' t')
           short
           agrees);
@@ -166,19 +166,19 @@ stops-within mostBytes after _ k _ beyond early = omega arith
 -- ---- the loop
 
 -- the first i bytes of the text are read
-pub record Passed (mostBytes vertices edges place : ℕ) (s₀ : State) (text o₀ p₀ f₀ t₀ : List ℕ) (s : State) (at i : ℕ)
+pub record BytesPassed (mostBytes vertices edges place : ℕ) (s₀ : State) (text o₀ p₀ f₀ t₀ : List ℕ) (s : State) (at i : ℕ)
     (o p f t : List ℕ) : Type 0 where
   pub up-to : i ≤ length text
   pub place-now : at ≡ place + i
   pub capped : place ≤ mostBytes → at ≤ mostBytes
-  pub room : Room vertices edges o p f t
+  pub room : LimitRoom vertices edges o p f t
   pub same-owners : length o ≡ length o₀
   pub same-priorities : length p ≡ length p₀
   pub same-offsets : length f ≡ length f₀
   pub same-targets : length t ≡ length t₀
   pub agrees :
       (m : Machine) →
-      Holds (limits mostBytes vertices edges) m s₀ o₀ p₀ f₀ t₀ →
+      HoldsReading (limits mostBytes vertices edges) m s₀ o₀ p₀ f₀ t₀ →
       Remains (limits mostBytes vertices edges) (runFrom (limits mostBytes vertices edges) place (live m) (take i text)) s o p f t
 
 -- no byte is read yet
@@ -187,7 +187,7 @@ pub passed-none :
     Fitting o p f →
     vertices ≡ min 4096 (length o) →
     edges ≡ min 16384 (length t) →
-    Passed mostBytes vertices edges place s text o p f t s place 0 o p f t
+    BytesPassed mostBytes vertices edges place s text o p f t s place 0 o p f t
 unfolding runFrom
 passed-none mostBytes vertices edges place s text o p f t fitting few short =
     record {
@@ -204,7 +204,7 @@ passed-none mostBytes vertices edges place s text o p f t fitting few short =
     }
 
 module _ (mostBytes vertices edges place : ℕ) (s₀ : State) (text o₀ p₀ f₀ t₀ : List ℕ) (s : State) (at i : ℕ)
-    (o p f t : List ℕ) (passed : Passed mostBytes vertices edges place s₀ text o₀ p₀ f₀ t₀ s at i o p f t)
+    (o p f t : List ℕ) (passed : BytesPassed mostBytes vertices edges place s₀ text o₀ p₀ f₀ t₀ s at i o p f t)
     (below : i < length text) where
   abbrev lim : Limits
   lim = limits mostBytes vertices edges
@@ -238,7 +238,7 @@ module _ (mostBytes vertices edges place : ℕ) (s₀ : State) (text o₀ p₀ f
       length f' ≡ length f →
       length t' ≡ length t →
       Steps vertices edges s byte o p f t r o' p' f' t' →
-      Passed mostBytes vertices edges place s₀ text o₀ p₀ f₀ t₀ n (at + 1) (i + 1) o' p' f' t'
+      BytesPassed mostBytes vertices edges place s₀ text o₀ p₀ f₀ t₀ n (at + 1) (i + 1) o' p' f' t'
   passed-more r n o' p' f' t' is early lo lp lf lt said =
       let steps = told r (On n) o' p' f' t' is said in
       let room = passed .room in
@@ -280,7 +280,7 @@ module _ (mostBytes vertices edges place : ℕ) (s₀ : State) (text o₀ p₀ f
       at < mostBytes →
       Steps vertices edges s byte o p f t r o' p' f' t' →
       (m : Machine) →
-      Holds lim m s₀ o₀ p₀ f₀ t₀ →
+      HoldsReading lim m s₀ o₀ p₀ f₀ t₀ →
       Ends lim (runFrom lim place (live m) text) e o' p' f' t'
   passed-stops r _ _ o' p' f' t' stuck is early said m h =
       let steps = told r Off o' p' f' t' is said in
@@ -303,7 +303,7 @@ module _ (mostBytes vertices edges place : ℕ) (s₀ : State) (text o₀ p₀ f
   pub passed-past :
       mostBytes ≤ at →
       (m : Machine) →
-      Holds lim m s₀ o₀ p₀ f₀ t₀ →
+      HoldsReading lim m s₀ o₀ p₀ f₀ t₀ →
       runFrom lim place (live m) text ≡ ended (refused 32 at)
   passed-past late m h =
       let r = passed .agrees m h in
@@ -315,10 +315,10 @@ module _ (mostBytes vertices edges place : ℕ) (s₀ : State) (text o₀ p₀ f
 -- the whole portion is read
 pub passed-all :
     (mostBytes vertices edges place : ℕ) (s₀ : State) (text o₀ p₀ f₀ t₀ : List ℕ) (s : State) (at i : ℕ) (o p f t : List ℕ) →
-    Passed mostBytes vertices edges place s₀ text o₀ p₀ f₀ t₀ s at i o p f t →
+    BytesPassed mostBytes vertices edges place s₀ text o₀ p₀ f₀ t₀ s at i o p f t →
     i ≡ length text →
     (m : Machine) →
-    Holds (limits mostBytes vertices edges) m s₀ o₀ p₀ f₀ t₀ →
+    HoldsReading (limits mostBytes vertices edges) m s₀ o₀ p₀ f₀ t₀ →
     Remains (limits mostBytes vertices edges) (runFrom (limits mostBytes vertices edges) place (live m) text) s o p f t
 passed-all mostBytes vertices edges place s₀ text o₀ p₀ f₀ t₀ s at i o p f t passed end m h =
     let r = passed .agrees m h in

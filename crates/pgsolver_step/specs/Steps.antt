@@ -32,7 +32,7 @@ pub record Fitting (o p f : List ℕ) : Type 0 where
   pub one-more : length f ≡ length o + 1
 
 -- and the limits keep within them, and within document 01's
-pub record Room (vertices edges : ℕ) (o p f t : List ℕ) : Type 0 where
+pub record LimitRoom (vertices edges : ℕ) (o p f t : List ℕ) : Type 0 where
   pub fitting : Fitting o p f
   pub few : vertices ≤ 4096
   pub short : edges ≤ 16384
@@ -49,7 +49,7 @@ abbrev pub Closes : State → List ℕ → List ℕ → List ℕ → List ℕ �
 Closes s o p f o' p' f' = ClosesAt (s .identifier) (s .owner) (s .priority) (s .begins) o p f o' p' f'
 
 -- the state shows the machine, and the tables hold what it has read
-pub record Holds (l : Limits) (m : Machine) (s : State) (o p f t : List ℕ) : Type 0 where
+pub record HoldsReading (l : Limits) (m : Machine) (s : State) (o p f t : List ℕ) : Type 0 where
   pub shown : s ≡ stateOf m
   pub standing : Standing (m .phase) l m
   pub waits : Waits (m .entries) (m .current .targets) o p f t
@@ -58,7 +58,7 @@ pub record Holds (l : Limits) (m : Machine) (s : State) (o p f t : List ℕ) : T
 pub record Continues (l : Limits) (w : Went) (s : State) (o p f t : List ℕ) : Type 0 where
   pub next : Machine
   pub goes : w ≡ on next
-  pub holds : Holds l next s o p f t
+  pub holds : HoldsReading l next s o p f t
 
 abbrev pub Stepped : Limits → Went → Step → List ℕ → List ℕ → List ℕ → List ℕ → Type 0
 Stepped l w (On s) o p f t = Continues l w s o p f t
@@ -73,7 +73,7 @@ abbrev pub Steps :
     ℕ → ℕ → State → ℕ → List ℕ → List ℕ → List ℕ → List ℕ → Step → List ℕ → List ℕ → List ℕ → List ℕ → Type 0
 Steps vertices edges s b o p f t r o' p' f' t' =
     (bytes : ℕ) (m : Machine) →
-    Holds (limits bytes vertices edges) m s o p f t →
+    HoldsReading (limits bytes vertices edges) m s o p f t →
     Stepped (limits bytes vertices edges) (stepFrom (m .phase) (limits bytes vertices edges) m b (classOf b)) r o' p' f' t'
 
 -- ---- laws, one for each move
@@ -139,11 +139,11 @@ closes-waits es e o p f t o' p' f' h some few closes =
     (waits-passed es e o p f t h some few (ltb-false (e .identifier) (length o) past)))
     (bool-cases (ltb (e .identifier) (length o)))
 
-module _ (vertices edges b : ℕ) (s : State) (o p f t : List ℕ) (room : Room vertices edges o p f t) where
+module _ (vertices edges b : ℕ) (s : State) (o p f t : List ℕ) (room : LimitRoom vertices edges o p f t) where
   abbrev moveOn : Move
   moveOn = moveOf (actOn (classOf b) (s .phase)) s b vertices edges
 
-  module _ (bytes : ℕ) (m : Machine) (h : Holds (limits bytes vertices edges) m s o p f t) where
+  module _ (bytes : ℕ) (m : Machine) (h : HoldsReading (limits bytes vertices edges) m s o p f t) where
     abbrev lim : Limits
     lim = limits bytes vertices edges
 

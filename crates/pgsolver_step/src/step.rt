@@ -6,7 +6,7 @@ use pgsolver_moves::moves::advance;
 ghost use mathlib.Core.Path.{_≡_};
 ghost use Prim.Native.Nat.{min};
 ghost use lib.ListN.{length, set, getD};
-ghost use Rattle.pgsolver_step.specs.Steps.{Fitting, Room, Closes, Steps};
+ghost use Rattle.pgsolver_step.specs.Steps.{Fitting, LimitRoom, Closes, Steps};
 ghost use Rattle.pgsolver_step.specs.Waited.{wordNext};
 
 pub enum Step {
@@ -72,7 +72,7 @@ pub fn read_byte(
     offsets: &mut [u16],
     targets: &mut [u16],
 ) -> Step
-    requires { ⌜ Room vertices edges (now owners) (now priorities) (now offsets) (now targets) ⌝ }
+    requires { ⌜ LimitRoom vertices edges (now owners) (now priorities) (now offsets) (now targets) ⌝ }
     ensures { λ r.
         ⌜ Steps vertices edges s b (now (owners .entry)) (now (priorities .entry)) (now (offsets .entry))
         (now (targets .entry)) r (now (owners .exit)) (now (priorities .exit)) (now (offsets .exit))

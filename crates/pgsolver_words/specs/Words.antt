@@ -96,7 +96,7 @@ wordsOf most place phase said s =
     s .priority ∷ s .owner ∷ s .begins ∷ s .value ∷ []
 
 -- the words hold this reading, and those behind them stay
-pub record Keeps (most place : ℕ) (s : State) (before after : List ℕ) : Type 0 where
+pub record KeepsReading (most place : ℕ) (s : State) (before after : List ℕ) : Type 0 where
   pub kind : getD after 0 0 ≡ 0
   pub bytes : mostIn after ≡ most
   pub at : getD after 2 0 ≡ place
@@ -126,9 +126,9 @@ pub keeps :
     said ≡ flag (s .said) →
     SmallState s →
     after ≡ wordsOf most place phase said s ++ drop 13 before →
-    Keeps most place s before after
+    KeepsReading most place s before after
 keeps most place phase said s before after same is small e =
-    subst (λ (ws : List ℕ). Keeps most place s before ws) (sym e)
+    subst (λ (ws : List ℕ). KeepsReading most place s before ws) (sym e)
     (record {
       kind = refl;
       bytes = refl;

@@ -5,7 +5,7 @@ use pgsolver_acts::state::State;
 ghost use mathlib.Core.Path.{_≡_};
 ghost use Prim.Native.Nat.{_%_, _≤_};
 ghost use lib.ListN.{length};
-ghost use Rattle.pgsolver_words.specs.Words.{stateIn, placeIn, flag, Keeps, Gives};
+ghost use Rattle.pgsolver_words.specs.Words.{stateIn, placeIn, flag, KeepsReading, Gives};
 
 fn flag(said: bool) -> u64
     ensures { λ r. ⌜ r ≡ flag said ⌝ }
@@ -16,7 +16,7 @@ fn flag(said: bool) -> u64
 // Where a reading is.
 pub fn keep(words: &mut [u64], most_bytes: u64, place: u64, state: State)
     requires { ⌜ 32 ≤ length (now words) ⌝ }
-    ensures { λ _. ⌜ Keeps «most_bytes» place state (now (words .entry)) (now (words .exit)) ⌝ }
+    ensures { λ _. ⌜ KeepsReading «most_bytes» place state (now (words .entry)) (now (words .exit)) ⌝ }
 {
     let phase = state.phase;
     let kept = [

@@ -13,9 +13,9 @@ use Rattle.rules.specs.Reading.{Limits}
 use Rattle.rules.specs.Tables.{Tables, vertices, tableChecks, Accepted}
 use Rattle.rules.specs.Writing.{textOf, check33, check34, writingChecks, Writes}
 use Rattle.parity_game.specs.Laws.{Numbered, numbered-then, numbered-given, numbered-tables, zero-none, then-none, given-none}
-use Rattle.writing.specs.Written.{Keeps, ReadAgain, written-reads}
+use Rattle.writing.specs.Written.{KeepsLimits, ReadAgain, written-reads}
 use Rattle.writing.specs.Lengths.{text-bounded}
-use Rattle.pgsolver_put.specs.Written.{Written, above}
+use Rattle.pgsolver_line.specs.Written.{PutWritten, above}
 use Rattle.pgsolver_put.specs.Texts.{checks-pass}
 
 -- What writing gives and leaves is one thing: any two runs from the same entry agree.
@@ -41,7 +41,7 @@ module _ (t : Tables) (before after : List ℕ) (o : Outcome) (met : Writes t be
         (sym (ap (λ (x : Outcome). x .number) (met .gives)) ∙ fine)
 
     -- After an answer the tables are accepted and have a vertex,
-    pub answered-written : Written t
+    pub answered-written : PutWritten t
     unfolding Accepted check33
     answered-written =
         let one = then-none (tableChecks t) (check33 t then check34 t (length before)) passes in
@@ -56,11 +56,11 @@ module _ (t : Tables) (before after : List ℕ) (o : Outcome) (met : Writes t be
         rw (passes, met .leaves) (rw passes (take-append-seam (textOf t) (drop (length (textOf t)) before)))
 
     -- and it is read again as the same tables, in all limits that game and text keep.
-    pub answered-again : (l : Limits) → Keeps l t → ReadAgain l t
+    pub answered-again : (l : Limits) → KeepsLimits l t → ReadAgain l t
     answered-again l keeps = written-reads l t (answered-written .accepted) (answered-written .some) keeps
 
   -- 131,085 bytes are always enough for accepted tables with a vertex.
-  pub enough-room : Written t → 131085 ≤ length before → o ≡ answered (length (textOf t))
+  pub enough-room : PutWritten t → 131085 ≤ length before → o ≡ answered (length (textOf t))
   enough-room w room =
       met .gives ∙
       rw (checks-pass t (length before) w (omega (arith, text-bounded t (w .accepted))))

@@ -6,7 +6,7 @@ ghost use Rattle.rules.specs.Decimal.{decimal};
 ghost use Rattle.rules.specs.Tables.{tablesOf};
 ghost use Rattle.rules.specs.Writing.{textOf};
 ghost use Rattle.writing.specs.Lengths.{afterEach, recordBytes};
-ghost use Rattle.pgsolver_put.specs.Written.{Written};
+ghost use Rattle.pgsolver_line.specs.Written.{PutWritten};
 
 // The digits of a number.
 fn digits(value: u64) -> usize
@@ -44,7 +44,7 @@ fn record_length(v: usize, priority: u16, owner: u8, targets: &[u16]) -> usize
 
 // The whole text: the header and every record.
 pub fn text_length(owners: &[u8], priorities: &[u16], offsets: &[u16], targets: &[u16]) -> usize
-    requires { ⌜ Written (tablesOf (now owners) (now priorities) (now offsets) (now targets)) ⌝ }
+    requires { ⌜ PutWritten (tablesOf (now owners) (now priorities) (now offsets) (now targets)) ⌝ }
     ensures { λ r.
         ⌜ r
         ≡ length

@@ -12,7 +12,7 @@ use Rattle.rules.specs.Printing.{space, newline, dash, fileWord, winnerDigits}
 use Rattle.grammar.specs.Decimals.{decimal-short}
 use Rattle.printing.specs.declared.line.Counted.{Counted}
 use Rattle.printing.specs.declared.line.Counted.the-variants.{Needed, Over}
-use Rattle.printing.specs.Winners.{winners-long}
+use Rattle.putting.specs.Winners.{winners-long}
 
 abbrev pub countedBytes : Counted → List ℕ
 countedBytes (Needed k) = decimal k

@@ -1,13 +1,13 @@
 // The two lines that the program prints: what both engines gave, and a refusal.
-use crate::put::put_number;
-use crate::put::put_winners;
-use crate::put::put_word;
+use putting::put_number;
+use putting::put_winners;
+use putting::put_word;
 ghost use mathlib.Core.Path.{_≡_};
 ghost use Prim.Native.Nat.{_+_, _*_, _≤_};
 ghost use lib.ListN.{length};
 ghost use Rattle.rules.specs.Printing.{refusedLine};
 ghost use Rattle.rules.specs.Words.{setOf};
-ghost use Rattle.printing.specs.Puts.{Puts};
+ghost use Rattle.putting.specs.Puts.{Puts};
 ghost use Rattle.printing.specs.Line.{countedBytes, decidedBy, winnersBytes, lineBytes};
 
 // What an engine needed, or that it was more than its budget.

@@ -28,7 +28,7 @@ use Rattle.sets.specs.Same.{holds-same}
 use Rattle.solver.specs.Promises.{answered-one, answered-certified, answered-entries, answers-within, holds-alike}
 use Rattle.solver.specs.Promises.{one-result}
 use Rattle.promotion_rounds.specs.Shown.{Shows}
-use Rattle.promotion_rounds.specs.Rounds.{RoundDone}
+use Rattle.promotion_rounds.specs.RoundPromise.{RoundDone}
 
 -- the contract of `solve_priority_promotion`
 abbrev pub Promise : ℕ → Tables → Lent → Lent → Outcome → Type 0

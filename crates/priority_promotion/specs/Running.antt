@@ -17,14 +17,14 @@ use Rattle.predecessors.specs.Table.{SoundEdges}
 use Rattle.area.specs.Area.{setAt, entryAt}
 use Rattle.attractor.specs.Attracted.{Listed, edges-sound}
 use Rattle.solver.specs.Preparing.{Preparable, Prepared}
-use Rattle.solver.specs.Outputs.{wonFrom, Found}
-use Rattle.kept_numbers.specs.Reading.{Counted}
+use Rattle.solver.specs.Outputs.{wonFrom, WinnersFound}
+use Rattle.kept_numbers.specs.Reading.{FreshlyCounted}
 use Rattle.promotion_levels.specs.Nesting.{outside-all}
 use Rattle.promotion_levels.specs.Layout.{heldAt, wonAt, levelsAt, endAt, deep, depthIn, levelIn, entryIn}
 use Rattle.promotion_levels.specs.Places.{level-high}
-use Rattle.promotion_begin.specs.Beginning.{Beginnable, Begun}
-use Rattle.promotion_rounds.specs.Solve.{Reached, Ended, none-left, ended-needed, ended-over}
-use Rattle.priority_promotion.specs.Starting.{tables-room, begin-ready, begun-reached}
+use Rattle.promotion_begin.specs.FirstLevel.{StartBeginnable, Begun}
+use Rattle.promotion_rounds.specs.SolveAll.{RoundsReached, Ended, none-left, ended-needed, ended-over}
+use Rattle.priority_promotion.specs.FirstState.{tables-room, begin-ready, begun-reached}
 
 -- there is a first level
 some-levels : (n : ℕ) → 0 < deep n
@@ -71,8 +71,8 @@ module _ (owners priorities offsets targets : List ℕ) (ok : Accepted (tablesOf
       -- what `begin` asks for
       pub run-beginnable :
           {kept : List ℕ} →
-          Counted (tablesOf owners priorities offsets targets) kept →
-          Beginnable priorities (length targets) s held levels (getD kept 257 0) w1
+          FreshlyCounted (tablesOf owners priorities offsets targets) kept →
+          StartBeginnable priorities (length targets) s held levels (getD kept 257 0) w1
       run-beginnable counted =
           begin-ready owners priorities offsets targets ok s size w1 levels-at (prepared .full) counted held-is
           (rw (prepared .long) tables-fit)
@@ -95,7 +95,7 @@ module _ (owners priorities offsets targets : List ℕ) (ok : Accepted (tablesOf
       pub run-reached :
           {w2 : List ℕ} {current : ℕ} →
           Begun priorities offsets targets s current w1 w2 →
-          Reached owners priorities offsets targets s current (length owners) 0 w2
+          RoundsReached owners priorities offsets targets s current (length owners) 0 w2
       run-reached = begun-reached owners priorities offsets targets ok s size w1 levels-at (prepared .full)
 
 module _ {owners priorities offsets targets : List ℕ} {s budget at many made : ℕ} {w2 w3 : List ℕ}
@@ -136,14 +136,14 @@ module _ {owners priorities offsets targets : List ℕ} {s budget at many made :
 
       -- **What the rounds have found stands in the work area.**
       pub run-found :
-          Found (tablesOf owners priorities offsets targets) (wonIn (tablesOf owners priorities offsets targets))
+          WinnersFound (tablesOf owners priorities offsets targets) (wonIn (tablesOf owners priorities offsets targets))
           (entriesIn (tablesOf owners priorities offsets targets)) s
           (heldAt (length owners) (length targets) s + s) w3
       unfolding gameOf
       run-found =
           subst
           (λ (k : ℕ).
-          Found t (afterRounds (gameOf t) k .won) (afterRounds (gameOf t) k .entries) s (heldAt vs es s + s) w3)
+          WinnersFound t (afterRounds (gameOf t) k .won) (afterRounds (gameOf t) k .entries) s (heldAt vs es s + s) w3)
           run-rounds
           (record {
             accepted = ended .reached .accepted;

@@ -1,7 +1,9 @@
 // The solver, on accepted tables and their kept numbers: it checks all that it is lent, works in the first W words of
 // the work area, writes only when it answers, and leaves those words 0.
 use area::Area;
+use kept_numbers::HIGHEST;
 use parity_game::Answer;
+use parity_game::Priority;
 use promotion_begin::begin;
 use promotion_levels::depth_at;
 use promotion_levels::held_at;
@@ -15,7 +17,7 @@ ghost use Rattle.rules.specs.Promotion.{afterRounds, roundsNeeded};
 ghost use Rattle.rules.specs.Solver.{Solves};
 ghost use Rattle.rules.specs.Tables.{gameOf, tablesOf};
 ghost use Rattle.parity_game.specs.Said.{said};
-ghost use Rattle.kept_numbers.specs.Reading.{Counted};
+ghost use Rattle.kept_numbers.specs.Reading.{FreshlyCounted};
 ghost use Rattle.solver.specs.Running.{Runnable, Runs};
 
 // The work itself, in W words, which are left 0.
@@ -33,7 +35,7 @@ fn run(
 ) -> Ran
     requires { ⌜ Runnable (tablesOf (now owners) (now priorities) (now offsets) (now targets))
         (now even) (now odd) (now strategy) (now work) ×
-        Counted (tablesOf (now owners) (now priorities) (now offsets) (now targets)) (now kept) ⌝ }
+        FreshlyCounted (tablesOf (now owners) (now priorities) (now offsets) (now targets)) (now kept) ⌝ }
     ensures { λ r.
         ⌜ (let t =
         tablesOf (now (owners .entry)) (now (priorities .entry)) (now (offsets .entry)) (now (targets .entry)) in
@@ -52,8 +54,8 @@ fn run(
     let held = held_at(n, m, s);
     let levels = levels_at(n, depth_at(held, s));
     solver::prepare(offsets, targets, n, s, work, levels);
-    let top = kept[257] as usize;
-    let highest = begin(priorities, m, s, work, held, levels, top);
+    let top = kept[HIGHEST] as usize;
+    let highest = begin(priorities, m, s, work, held, levels, Priority(top));
     let start = State {
         current: highest,
         unsolved: n,
@@ -81,7 +83,7 @@ pub fn solve_priority_promotion(
     strategy: &mut [u16],
     work: &mut [u64],
 ) -> Answer
-    requires { ⌜ Counted (tablesOf (now owners) (now priorities) (now offsets) (now targets)) (now kept) ⌝ }
+    requires { ⌜ FreshlyCounted (tablesOf (now owners) (now priorities) (now offsets) (now targets)) (now kept) ⌝ }
     ensures { λ r.
         ⌜ (let t =
         tablesOf (now (owners .entry)) (now (priorities .entry)) (now (offsets .entry)) (now (targets .entry)) in

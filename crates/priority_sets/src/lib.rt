@@ -3,6 +3,6 @@
 mod sets_of;
 
 pub use sets_of::behind_sets;
+pub use sets_of::make;
 pub use sets_of::meet;
 pub use sets_of::set_at;
-pub use sets_of::sort;

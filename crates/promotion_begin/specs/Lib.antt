@@ -1,2 +1,2 @@
 -- What `begin` asks for and leaves: the first state of priority promotion.
-pub mod Beginning
+pub mod FirstLevel

@@ -8,7 +8,7 @@ ghost use Prim.Native.Nat.{ℕ};
 ghost use lib.ListN.{length};
 ghost use Rattle.predecessors.specs.Table.{SoundEdges};
 ghost use Rattle.attractor.specs.Attracted.{Listed};
-ghost use Rattle.promotion_begin.specs.Beginning.{Beginnable, Begun};
+ghost use Rattle.promotion_begin.specs.FirstLevel.{StartBeginnable, Begun};
 
 // The table of predecessors stands already, and the first level, whose priorities are at most `top`. Its vertices have
 // their priorities as regions and no entries.
@@ -19,9 +19,9 @@ pub fn begin(
     work: &mut [u64],
     held: usize,
     levels: usize,
-    top: usize,
+    top: Priority,
 ) -> Priority
-    requires { ⌜ Beginnable (now priorities) m s held levels top (now work) ⌝ }
+    requires { ⌜ StartBeginnable (now priorities) m s held levels (top .0) (now work) ⌝ }
     ensures { λ r.
         ⌜ ((offsets targets : List ℕ) → length targets ≡ m →
         SoundEdges (length (now (priorities .entry))) offsets targets →
@@ -31,6 +31,6 @@ pub fn begin(
     let n = priorities.len();
     let first = Area { n, m, s }.free();
     sets::clear(work, held + s, 2 * s);
-    priority_sets::sort(priorities, s, work, first);
+    priority_sets::make(priorities, s, work, first);
     descend(priorities, m, s, work, held, levels, 0, top)
 }

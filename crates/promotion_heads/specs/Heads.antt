@@ -18,14 +18,14 @@ use Rattle.theory.specs.PromotionRegions.{Placed}
 use Rattle.theory.specs.PromotionTests.{region-in}
 use Rattle.theory.specs.PromotionRounds.{attractedRegion, attracted-gained, attracted-rest}
 use Rattle.theory.specs.PromotionStanding.{placed-here, here-region}
-use Rattle.theory.specs.PromotionInside.{Entered, StaysOrHead, entered-attracted}
+use Rattle.theory.specs.PromotionInside.{EntriesInside, StaysOrHead, entered-attracted}
 use Rattle.theory.specs.PromotionInvariant.{Invariant}
 use Rattle.theory.specs.PromotionExists.{rules-attracted}
 use Rattle.theory.specs.PromotionChosen.{after-invariant}
 use Rattle.theory.specs.PromotionTable.{openAt, open-read, region-read, remaining-read}
 
 module _ {g : Game} (total : Total g) (few : g .size ≤ noEntry) (s : Regions) (placed : Placed g (remaining g s) (s .region) (s .current))
-    {σ σ' : ℕ → ℕ} (entered : Entered g (remaining g s) (s .region) (s .current) σ) (drawn : AttractedEntries g s σ σ')
+    {σ σ' : ℕ → ℕ} (entered : EntriesInside g (remaining g s) (s .region) (s .current) σ) (drawn : AttractedEntries g s σ σ')
   where
     -- an own vertex of R goes on in R by its entry, or is a head that has none
     stays :

@@ -20,10 +20,10 @@ use Rattle.predecessors.specs.Table.{SoundEdges}
 use Rattle.area.specs.Area.{entries, free, setAt}
 use Rattle.attractor.specs.Attracted.{Listed, listed-kept}
 use Rattle.priority_sets.specs.Sorting.{SetsOf}
-use Rattle.promotion_levels.specs.Nesting.{regionOf, Nesting, Proper, inside-all, few-levels, levels-below, lowered-nests, lowered-region}
-use Rattle.promotion_levels.specs.Nesting.{lowered-proper, afresh-nests, afresh-region, afresh-proper}
-use Rattle.promotion_levels.specs.Layout.{heldAt, wonAt, depthAt, topsAt, deep, levelsAt, levelAt, endAt, depthIn, topIn, levelIn, heldIn, regionIn, entryIn, Ready}
-use Rattle.promotion_levels.specs.Places.{next-level, sets-kept}
+use Rattle.promotion_places.specs.Nesting.{regionOf, Nesting, Proper, inside-all, few-levels, levels-below, lowered-nests, lowered-region}
+use Rattle.promotion_places.specs.Nesting.{lowered-proper, afresh-nests, afresh-region, afresh-proper}
+use Rattle.promotion_places.specs.Layout.{heldAt, wonAt, depthAt, topsAt, deep, levelsAt, levelAt, endAt, depthIn, topIn, levelIn, heldIn, regionIn, entryIn, Ready}
+use Rattle.promotion_places.specs.Places.{next-level, sets-kept}
 use Rattle.promotion_levels.specs.Descending.{Descends, Descended}
 use Rattle.promotion_levels.specs.Going.{listed-again, sorted-again, last-is, held-again, most-is, met-is}
 

@@ -7,22 +7,19 @@ use Prim.Native.Nat.{ℕ, _+_, _-_, _*_, _≤_, _<_}
 use native.Mathlib.Nat.{mul-le-mul-right, add-mul}
 use native.Mathlib.Omega.{arith}
 use lib.Dec.{eqb}
-use lib.ListN.{length, getD, take, drop, set, length-set, length-take}
+use lib.ListN.{length, getD, set, length-set}
 use lib.Seq.{getD-set-same, getD-set-other}
-use Rattle.rules.specs.Counting.{Set}
 use Rattle.rules.specs.Tables.{words}
-use Rattle.rules.specs.Words.{noEntry, setOf}
+use Rattle.rules.specs.Words.{noEntry}
 use Rattle.basics.specs.Greatest.{greatest-le}
 use Rattle.area.specs.Area.{entries, free, setAt}
-use Rattle.area.specs.Lent.{part-set, words-few}
 use Rattle.area.specs.SetsAt.{set-kept}
 use Rattle.area.specs.Walked.{Beside}
-use Rattle.area.specs.Walking.{lent-part}
 use Rattle.priority_sets.specs.Sorting.{SetsOf, sets-stay}
-use Rattle.highest_priority.specs.Parts.{highestOf, SearchableTo}
-use Rattle.promotion_levels.specs.Layout.{heldAt, depthAt, topsAt, deep, levelsAt, levelAt, endAt}
-use Rattle.promotion_levels.specs.Layout.{depthIn, topIn, levelIn, heldIn}
-use Rattle.promotion_levels.specs.Beginning.{Beginnable, Begun}
+use Rattle.highest_priority.specs.Parts.{highestOf, Searchable}
+use Rattle.promotion_places.specs.Layout.{heldAt, depthAt, topsAt, deep, levelsAt, levelAt, endAt}
+use Rattle.promotion_places.specs.Layout.{depthIn, topIn, levelIn, heldIn}
+use Rattle.promotion_levels.specs.LevelBegins.{LevelBeginnable, LevelBegun}
 
 -- what `descend` asks for: the next level has room, and no priority of level k is above `bound`
 pub record Descends (priorities : List ℕ) (m s held levels k bound : ℕ) (work : List ℕ) : Type 0 where
@@ -115,157 +112,146 @@ module _ {priorities : List ℕ} {m s held levels k bound : ℕ} {work : List �
     pub descend-second : {depth : ℕ} → depth ≡ held + 3 * s → (p : ℕ) → depth < length (set work (depth + 1 + k) p)
     descend-second {depth} at p = omega (arith, at, length-set work (depth + 1 + k) p, descend-marks, descend-room)
 
-    -- the words of level k, as the code lends them
-    level-lent :
-        setOf (take ((levels + k * s + s) - (levels + k * s)) (drop (levels + k * s) work)) ≡ levelIn n m s work k
-    level-lent =
-        part-set n s (levels + k * s) work (given .size) ∙
-        ap (λ (at : ℕ). setAt n (at + k * s) work) (given .levels-is)
-
-    pub descend-searchable :
-        SearchableTo priorities bound (take ((levels + k * s + s) - (levels + k * s)) (drop (levels + k * s) work))
+    -- level k can be searched
+    pub descend-searchable : Searchable priorities s (levels + k * s) bound work
     descend-searchable =
+        rw (given .levels-is)
         record {
-          searchable =
+          walkable =
               record {
-                few =
-                    rw (lent-part n s (levels + k * s) work (given .size))
-                    (let few = words-few n (given .few) in
-                    omega (arith, length-take (words n) (drop (levels + k * s) work)));
-                below = λ v h. given .below v (ap (λ (S : Set). S v) (sym level-lent) ∙ h);
+                size = given .size;
+                few = given .few;
+                high = omega (arith, level-room, given .size);
+                below = given .below;
+                out = λ i low high. tt;
               };
-          under = λ v h. given .under v (ap (λ (S : Set). S v) (sym level-lent) ∙ h);
+          under = given .under;
         }
 
-    module _ {p : ℕ}
-        (found :
-        p ≡
-        highestOf priorities
-        (setOf (take ((levels + k * s + s) - (levels + k * s)) (drop (levels + k * s) work))))
-      where
-        is-highest : p ≡ highestOf priorities (levelIn n m s work k)
-        is-highest = found ∙ ap (highestOf priorities) level-lent
+    module _ {p : ℕ} (found : p ≡ highestOf priorities (setAt (length priorities) (levels + k * s) work)) where
+      is-highest : p ≡ highestOf priorities (levelIn n m s work k)
+      is-highest = rw (given .levels-is) at found
 
-        pub descend-small : p < 256
-        descend-small =
-            omega (
-              arith,
-              is-highest,
-              greatest-le n (levelIn n m s work k) (λ v. getD priorities v 0) bound (λ v l h. given .under v h),
-              given .small,
-            )
+      pub descend-small : p < 256
+      descend-small =
+          omega (
+            arith,
+            is-highest,
+            greatest-le n (levelIn n m s work k) (λ v. getD priorities v 0) bound (λ v l h. given .under v h),
+            given .small,
+          )
 
-        abbrev now : List ℕ
-        now = marked (depthAt n m s) k p work
+      abbrev now : List ℕ
+      now = marked (depthAt n m s) k p work
 
-        marked-long : length now ≡ length work
-        marked-long =
-            length-set (set work (topsAt n m s + k) p) (depthAt n m s) k ∙ length-set work (topsAt n m s + k) p
+      marked-long : length now ≡ length work
+      marked-long =
+          length-set (set work (topsAt n m s + k) p) (depthAt n m s) k ∙ length-set work (topsAt n m s + k) p
 
-        marked-rest :
-            (i : ℕ) → (i ≡ depthAt n m s → ⊥) → (i ≡ topsAt n m s + k → ⊥) → getD now i 0 ≡ getD work i 0
-        marked-rest i d t =
-            getD-set-other (set work (topsAt n m s + k) p) (depthAt n m s) i k 0 d ∙
-            getD-set-other work (topsAt n m s + k) i p 0 t
+      marked-rest :
+          (i : ℕ) → (i ≡ depthAt n m s → ⊥) → (i ≡ topsAt n m s + k → ⊥) → getD now i 0 ≡ getD work i 0
+      marked-rest i d t =
+          getD-set-other (set work (topsAt n m s + k) p) (depthAt n m s) i k 0 d ∙
+          getD-set-other work (topsAt n m s + k) i p 0 t
 
-        -- every level stays
-        marked-level : (j v : ℕ) → levelIn n m s now j v ≡ levelIn n m s work j v
-        marked-level j =
-            set-kept n (levelAt n m s j) work now
-            (λ i low high.
-            marked-rest i (λ e. omega (arith, given .depth)) (λ e. omega (arith, given .depth)))
+      -- every level stays
+      marked-level : (j v : ℕ) → levelIn n m s now j v ≡ levelIn n m s work j v
+      marked-level j =
+          set-kept n (levelAt n m s j) work now
+          (λ i low high.
+          marked-rest i (λ e. omega (arith, given .depth)) (λ e. omega (arith, given .depth)))
 
-        beginnable : Beginnable n m p s (heldAt n m s) base (entries n m) now
-        beginnable =
+      beginnable : LevelBeginnable n m p s (heldAt n m s) base (entries n m) now
+      beginnable =
+          record {
+            placeable =
+                record { size = given .size; few = given .few; few-edges = given .few-edges; small = descend-small };
+            sorted = omega arith;
+            given = omega arith;
+            order = omega arith;
+            room = omega (arith, level-room, marked-long);
+            below = λ v h. given .below v (sym (marked-level k v) ∙ h);
+          }
+
+      module _ {depth row : ℕ} (at : depth ≡ held + 3 * s) (here : row ≡ entries (length priorities) m) where
+        pub descend-beginnable : LevelBeginnable n m p s held (levels + k * s) row (marked depth k p work)
+        descend-beginnable =
+            subst₂ (λ (d e : ℕ). LevelBeginnable n m p s held (levels + k * s) e (marked d k p work)) (sym at) (sym here)
+            (subst₂ (λ (h l : ℕ). LevelBeginnable n m p s h (l + k * s) (entries n m) (marked (h + 3 * s) k p work))
+            (sym (given .held-is))
+            (sym (given .levels-is))
+            beginnable)
+
+        -- **Level k is the current one.**
+        pub descended :
+            {after : List ℕ} →
+            ((xs : List ℕ) →
+            SetsOf n xs n (free n m) (marked depth k p work) →
+            LevelBegun n xs p s held (levels + k * s) row (marked depth k p work) after) →
+            Descended priorities m s k p work after
+        descended {after} gives =
             record {
-              placeable =
-                  record { size = given .size; few = given .few; few-edges = given .few-edges; small = descend-small };
-              sorted = omega arith;
-              given = omega arith;
-              order = omega arith;
-              room = omega (arith, level-room, marked-long);
-              below = λ v h. given .below v (sym (marked-level k v) ∙ h);
+              long = began .long ∙ marked-long;
+              highest = is-highest;
+              top =
+                  stays (topsAt n m s + k) (inr (omega arith)) (inr (omega arith)) (inl (omega (arith, given .depth))) ∙
+                  getD-set-other (set work (topsAt n m s + k) p) (depthAt n m s) (topsAt n m s + k) k 0 (λ e. omega arith) ∙
+                  getD-set-same work (topsAt n m s + k) p 0 (omega (arith, level-room, given .depth));
+              depth =
+                  stays (depthAt n m s) (inr (omega arith)) (inr (omega arith)) (inl (omega arith)) ∙
+                  getD-set-same (set work (topsAt n m s + k) p) (depthAt n m s) k 0
+                  (omega (arith, length-set work (topsAt n m s + k) p, level-room));
+              tops =
+                  λ j l.
+                  stays (topsAt n m s + j) (inr (omega arith)) (inr (omega arith)) (inl (omega (arith, given .depth))) ∙
+                  marked-rest (topsAt n m s + j) (λ e. omega arith) (λ e. omega arith);
+              levels = λ j v l. level-stays j v l ∙ marked-level j v;
+              last =
+                  λ v.
+                  ap (λ (at : ℕ). setAt n at after v) (next-place s (levelsAt n m s) k) ∙
+                  began .last v ∙
+                  ap (λ (b : Bool). b && not (eqb (getD priorities v 0) p)) (marked-level k v);
+              region = λ v. began .region v ∙ ap (λ (b : Bool). b && eqb (getD priorities v 0) p) (marked-level k v);
+              forgotten = began .forgotten;
+              others =
+                  λ v l h.
+                  began .others v l h ∙ marked-rest (entries n m + v) (λ e. omega arith) (λ e. omega arith);
+              rest =
+                  λ i e h d t b.
+                  began .rest i e h (rw (next-place s (levelsAt n m s) k) at b) ∙ marked-rest i d t;
             }
+          where
+            sets : SetsOf n priorities n (free n m) (marked depth k p work)
+            sets =
+                sets-stay n priorities n (free n m) work (marked depth k p work)
+                (λ i low high.
+                getD-set-other (set work (depth + 1 + k) p) depth i k 0
+                (λ e. omega (arith, at, given .held-is, given .size)) ∙
+                getD-set-other work (depth + 1 + k) i p 0 (λ e. omega (arith, at, given .held-is, given .size)))
+                (given .sorted)
 
-        module _ {depth row : ℕ} (at : depth ≡ held + 3 * s) (here : row ≡ entries (length priorities) m) where
-          pub descend-beginnable : Beginnable n m p s held (levels + k * s) row (marked depth k p work)
-          descend-beginnable =
-              subst₂ (λ (d e : ℕ). Beginnable n m p s held (levels + k * s) e (marked d k p work)) (sym at) (sym here)
-              (subst₂ (λ (h l : ℕ). Beginnable n m p s h (l + k * s) (entries n m) (marked (h + 3 * s) k p work))
-              (sym (given .held-is))
-              (sym (given .levels-is))
-              beginnable)
+            began : LevelBegun n priorities p s (heldAt n m s) base (entries n m) now after
+            began =
+                subst₂ (λ (h l : ℕ). LevelBegun n priorities p s h (l + k * s) (entries n m) (marked (h + 3 * s) k p work) after)
+                (given .held-is)
+                (given .levels-is)
+                (subst₂ (λ (d e : ℕ). LevelBegun n priorities p s held (levels + k * s) e (marked d k p work) after) at here
+                (gives priorities sets))
 
-          -- **Level k is the current one.**
-          pub descended :
-              {after : List ℕ} →
-              ((xs : List ℕ) →
-              SetsOf n xs n (free n m) (marked depth k p work) →
-              Begun n xs p s held (levels + k * s) row (marked depth k p work) after) →
-              Descended priorities m s k p work after
-          descended {after} gives =
-              record {
-                long = began .long ∙ marked-long;
-                highest = is-highest;
-                top =
-                    stays (topsAt n m s + k) (inr (omega arith)) (inr (omega arith)) (inl (omega (arith, given .depth))) ∙
-                    getD-set-other (set work (topsAt n m s + k) p) (depthAt n m s) (topsAt n m s + k) k 0 (λ e. omega arith) ∙
-                    getD-set-same work (topsAt n m s + k) p 0 (omega (arith, level-room, given .depth));
-                depth =
-                    stays (depthAt n m s) (inr (omega arith)) (inr (omega arith)) (inl (omega arith)) ∙
-                    getD-set-same (set work (topsAt n m s + k) p) (depthAt n m s) k 0
-                    (omega (arith, length-set work (topsAt n m s + k) p, level-room));
-                tops =
-                    λ j l.
-                    stays (topsAt n m s + j) (inr (omega arith)) (inr (omega arith)) (inl (omega (arith, given .depth))) ∙
-                    marked-rest (topsAt n m s + j) (λ e. omega arith) (λ e. omega arith);
-                levels = λ j v l. level-stays j v l ∙ marked-level j v;
-                last =
-                    λ v.
-                    ap (λ (at : ℕ). setAt n at after v) (next-place s (levelsAt n m s) k) ∙
-                    began .last v ∙
-                    ap (λ (b : Bool). b && not (eqb (getD priorities v 0) p)) (marked-level k v);
-                region = λ v. began .region v ∙ ap (λ (b : Bool). b && eqb (getD priorities v 0) p) (marked-level k v);
-                forgotten = began .forgotten;
-                others =
-                    λ v l h.
-                    began .others v l h ∙ marked-rest (entries n m + v) (λ e. omega arith) (λ e. omega arith);
-                rest =
-                    λ i e h d t b.
-                    began .rest i e h (rw (next-place s (levelsAt n m s) k) at b) ∙ marked-rest i d t;
-              }
-            where
-              sets : SetsOf n priorities n (free n m) (marked depth k p work)
-              sets =
-                  sets-stay n priorities n (free n m) work (marked depth k p work)
-                  (λ i low high.
-                  getD-set-other (set work (depth + 1 + k) p) depth i k 0
-                  (λ e. omega (arith, at, given .held-is, given .size)) ∙
-                  getD-set-other work (depth + 1 + k) i p 0 (λ e. omega (arith, at, given .held-is, given .size)))
-                  (given .sorted)
+            -- words that no part of the beginning touches
+            stays :
+                (i : ℕ) →
+                Beside n (entries n m) i →
+                Beside s (heldAt n m s) i →
+                Beside s (base + s) i →
+                getD after i 0 ≡ getD now i 0
+            stays = began .rest
 
-              began : Begun n priorities p s (heldAt n m s) base (entries n m) now after
-              began =
-                  subst₂ (λ (h l : ℕ). Begun n priorities p s h (l + k * s) (entries n m) (marked (h + 3 * s) k p work) after)
-                  (given .held-is)
-                  (given .levels-is)
-                  (subst₂ (λ (d e : ℕ). Begun n priorities p s held (levels + k * s) e (marked d k p work) after) at here
-                  (gives priorities sets))
-
-              -- words that no part of the beginning touches
-              stays :
-                  (i : ℕ) →
-                  Beside n (entries n m) i →
-                  Beside s (heldAt n m s) i →
-                  Beside s (base + s) i →
-                  getD after i 0 ≡ getD now i 0
-              stays = began .rest
-
-              level-stays : (j v : ℕ) → j ≤ k → levelIn n m s after j v ≡ levelIn n m s now j v
-              level-stays j v l =
-                  set-kept n (levelAt n m s j) now after
-                  (λ i low high.
-                  let apart = levels-apart s (levelsAt n m s) j (k + 1) (omega arith) in
-                  stays i (inr (omega arith)) (inr (omega arith))
-                  (inl (omega (arith, given .size, next-place s (levelsAt n m s) k))))
-                  v
+            level-stays : (j v : ℕ) → j ≤ k → levelIn n m s after j v ≡ levelIn n m s now j v
+            level-stays j v l =
+                set-kept n (levelAt n m s j) now after
+                (λ i low high.
+                let apart = levels-apart s (levelsAt n m s) j (k + 1) (omega arith) in
+                stays i (inr (omega arith)) (inr (omega arith))
+                (inl (omega (arith, given .size, next-place s (levelsAt n m s) k))))
+                v

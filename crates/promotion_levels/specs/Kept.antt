@@ -9,9 +9,9 @@ use Rattle.rules.specs.Counting.{Set}
 use Rattle.area.specs.Area.{free}
 use Rattle.area.specs.SetsAt.{set-kept}
 use Rattle.attractor.specs.Attracted.{listed-kept}
-use Rattle.promotion_levels.specs.Nesting.{regionOf, Nesting, Proper}
-use Rattle.promotion_levels.specs.Layout.{heldAt, depthAt, topsAt, levelAt, depthIn, topIn, levelIn, heldIn, regionIn, Ready}
-use Rattle.promotion_levels.specs.Places.{sets-kept}
+use Rattle.promotion_places.specs.Nesting.{regionOf, Nesting, Proper}
+use Rattle.promotion_places.specs.Layout.{heldAt, depthAt, topsAt, levelAt, depthIn, topIn, levelIn, heldIn, regionIn, Ready}
+use Rattle.promotion_places.specs.Places.{sets-kept}
 
 module _ {n : ℕ} {priorities offsets targets : List ℕ} {s : ℕ} {w0 : List ℕ} (w1 : List ℕ)
     (ready : Ready n priorities offsets targets s w0)

@@ -14,14 +14,14 @@ use Rattle.rules.specs.Tables.{Tables, vertices, edgesIn, gameOf, Accepted}
 use Rattle.theory.specs.Players.{same-true, true-same}
 use Rattle.accepted.specs.Tables.{accepted-sound, accepted-few}
 use Rattle.theory.specs.Attractor.{Fits}
-use Rattle.theory.specs.AttractorRank.{Certificate, same-certificate, same-pull}
+use Rattle.theory.specs.AttractorRank.{Ranked, same-certificate, same-pull}
 use Rattle.theory.specs.Distance.{nearest}
 use Rattle.theory.specs.DistanceEntries.{same-entry}
 use Rattle.area.specs.Area.{entryAt}
 use Rattle.attractor.specs.Attracted.{Nested, Attracted, insideOf, targetOf, result, own-is}
 
 pub record Pulled (g : Game) (a : Player) (V' T S : Set) (σ σ' : ℕ → ℕ) : Type 0 where
-  pub certificate : Certificate g a V' T S
+  pub certificate : Ranked g a V' T S
   pub near : (v : ℕ) → certificate .pull v ≡ nearest g a V' T v
   pub entered : (v : ℕ) → S v ≡ true → T v ≡ false → g .owner v ≡ a → σ' v ≡ certificate .pull v
   pub kept : (v : ℕ) → v < g .size → (S v ≡ true → T v ≡ false → g .owner v ≡ a → ⊥) → σ' v ≡ σ v

@@ -3,12 +3,12 @@ use mathlib.Core.Bool.{Bool, true, false, _&&_, _||_, not, cond}
 use mathlib.Core.List.{List}
 use mathlib.Core.Logic.{_⊎_, inl, inr, ⊎-elim}
 use mathlib.Core.Path.{_≡_, refl, sym, ap, ap₂, subst, _∙_}
-use Prim.Native.Nat.{ℕ, _+_, _-_, _*_, _%_, _≤_, _<_, max}
+use Prim.Native.Nat.{ℕ, _+_, _-_, _*_, _≤_, _<_, max}
 use native.Mathlib.Omega.{arith}
 use lib.ListN.{length, getD}
 use Rattle.rules.specs.Counting.{Set}
-use Rattle.rules.specs.Game.{Player, Even, Odd, Game, parity, playerOf, same}
-use Rattle.rules.specs.Tables.{Tables, words, gameOf, Accepted, tablesOf}
+use Rattle.rules.specs.Game.{Player, Even, Odd, Game, parity, same}
+use Rattle.rules.specs.Tables.{words, gameOf, Accepted, tablesOf}
 use Rattle.rules.specs.Attractor.{attractor}
 use Rattle.basics.specs.Basics.{bool-cases, clash, not-true-is-false, lt-or-ge}
 use Rattle.theory.specs.Players.{same-true}
@@ -62,15 +62,6 @@ pub record Dominated (owners priorities offsets targets : List ℕ) (s p held le
       (i < levels) ⊎ (levels + s ≤ i) →
       getD after i 0 ≡ getD before i 0
 
--- the place that the code picks
-pub won-picked :
-    (s held p won : ℕ) →
-    ((p % 2 ≡ 0) × (won ≡ held + s)) ⊎ ((p % 2 ≡ 0 → ⊥) × (won ≡ held + 2 * s)) →
-    won ≡ wonBehind s held (parity p)
-won-picked s held p won (inl (e, is)) = is ∙ sym (ap (λ (x : ℕ). wonBehind s held (playerOf x)) e)
-won-picked s held p won (inr (d, is)) =
-    let one : p % 2 ≡ 1 = omega (arith, d) in is ∙ sym (ap (λ (x : ℕ). wonBehind s held (playerOf x)) one)
-
 module _ {owners offsets targets : List ℕ} {s held levels : ℕ} {w0 : List ℕ}
     (given : DominionReady owners offsets targets s held levels w0) (p : ℕ)
   where
@@ -100,8 +91,8 @@ module _ {owners offsets targets : List ℕ} {s held levels : ℕ} {w0 : List �
     won-apart Even Odd e = inr (omega (arith, size))
     won-apart Odd Even e = inl (omega (arith, size))
 
-    pub attract-ready : Attractable owners offsets targets (p % 2) levels held w0
-    attract-ready =
+    pub attract-ready : {alpha : ℕ} → alpha ≤ 1 → Attractable owners offsets targets alpha levels held w0
+    attract-ready side =
         record {
           placed =
               record {
@@ -114,18 +105,21 @@ module _ {owners offsets targets : List ℕ} {s held levels : ℕ} {w0 : List �
           nested = given .nested;
           edges = given .edges;
           listed = given .listed;
-          side = omega arith;
+          side = side;
         }
 
     module _ (priorities : List ℕ) (ok : Accepted (tablesOf owners priorities offsets targets))
-        {w1 : List ℕ} {looks : ℕ}
-        (c1 : Attracted (tablesOf owners priorities offsets targets) (parity p) levels held w0 w1 looks)
+        {drawer : Player} (own : drawer ≡ parity p) {w1 : List ℕ} {looks : ℕ}
+        (made1 : Attracted (tablesOf owners priorities offsets targets) drawer levels held w0 w1 looks)
       where
         abbrev g : Game
         g = gameOf (tablesOf owners priorities offsets targets)
 
         abbrev a : Player
         a = parity p
+
+        c1 : Attracted (tablesOf owners priorities offsets targets) a levels held w0 w1 looks
+        c1 = rw own at made1
 
         abbrev D : Set
         D = attractor g a (setAt n levels w0) (setAt n held w0)

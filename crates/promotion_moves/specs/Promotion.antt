@@ -2,8 +2,8 @@
 use mathlib.Core.Bool.{Bool, true, false, _&&_, not, cond, and-false}
 use mathlib.Core.List.{List}
 use mathlib.Core.Logic.{_⊎_, inl, inr, ⊎-elim}
-use mathlib.Core.Path.{_≡_, refl, sym, ap, ap₂, subst, _∙_}
-use Prim.Native.Nat.{ℕ, suc, _+_, _-_, _*_, _≤_, _<_}
+use mathlib.Core.Path.{_≡_, sym, ap, ap₂, subst, _∙_}
+use Prim.Native.Nat.{ℕ, suc, _+_, _-_, _≤_, _<_}
 use native.Mathlib.Nat.{le-refl}
 use native.Mathlib.Omega.{arith}
 use borrow.Author.Tests.{not-true}
@@ -14,13 +14,13 @@ use Rattle.rules.specs.Counting.{Set}
 use Rattle.rules.specs.Game.{Even}
 use Rattle.rules.specs.Tables.{words}
 use Rattle.rules.specs.Words.{noEntry}
-use Rattle.basics.specs.Basics.{bool-cases, clash, and-left, and-right}
+use Rattle.basics.specs.Basics.{bool-cases, and-right}
 use Rattle.area.specs.Area.{entries, free, setAt}
 use Rattle.area.specs.SetsAt.{set-kept, set-reduced}
 use Rattle.sets.specs.After.{Combined}
 use Rattle.attractor.specs.Attracted.{listed-kept}
-use Rattle.promotion_levels.specs.Nesting.{regionOf, Nesting, inside-all, outside-all, below-is, promoted-nests, promoted-region, promoted-proper}
-use Rattle.promotion_levels.specs.Layout.{heldAt, wonAt, depthAt, topsAt, deep, levelsAt, levelAt, endAt, depthIn, topIn, levelIn, heldIn, regionIn, entryIn, Ready}
+use Rattle.promotion_levels.specs.Nesting.{regionOf, Nesting, outside-all, below-is, promoted-nests, promoted-region, promoted-proper}
+use Rattle.promotion_levels.specs.Layout.{heldAt, wonAt, depthAt, topsAt, levelAt, depthIn, topIn, levelIn, heldIn, regionIn, entryIn, Ready}
 use Rattle.promotion_levels.specs.Places.{next-level, level-apart, level-high, level-kept, sets-kept}
 use Rattle.promotion_levels.specs.Without.{WithoutAt}
 

@@ -1,4 +1,6 @@
 // R is a dominion.
+use parity_game::Player;
+use parity_game::Priority;
 ghost use mathlib.Core.List.{List};
 ghost use Prim.Native.Nat.{ℕ};
 ghost use Rattle.rules.specs.Tables.{Accepted, tablesOf};
@@ -9,7 +11,7 @@ pub fn solve_dominion(
     owners: &[u8],
     offsets: &[u16],
     targets: &[u16],
-    p: usize,
+    p: Priority,
     s: usize,
     work: &mut [u64],
     held: usize,
@@ -19,12 +21,15 @@ pub fn solve_dominion(
     ensures { λ r.
         ⌜ ((priorities : List ℕ) →
         Accepted (tablesOf (now (owners .entry)) priorities (now (offsets .entry)) (now (targets .entry))) →
-        Dominated (now (owners .entry)) priorities (now (offsets .entry)) (now (targets .entry)) s p held levels
+        Dominated (now (owners .entry)) priorities (now (offsets .entry)) (now (targets .entry)) s (p .0) held levels
         (now (work .entry)) (now (work .exit))) ⌝ }
 {
-    let alpha = (p % 2) as u8;
-    attractor::attract(owners, offsets, targets, alpha, work, levels, held);
-    let won = if p % 2 == 0 { held + s } else { held + 2 * s };
+    let player = Player::from_priority(p);
+    attractor::attract(owners, offsets, targets, player.index(), work, levels, held);
+    let won = match player {
+        Player::Even => held + s,
+        Player::Odd => held + 2 * s,
+    };
     sets::union_with(work, won, held, s);
     sets::difference_with(work, levels, held, s);
 }

@@ -1,4 +1,6 @@
 // The entries when R closes.
+use area::NO_ENTRY;
+use parity_game::VertexIndex;
 use successors::inside::lowest_inside;
 use walk::Members;
 use walk::Next;
@@ -14,17 +16,19 @@ fn fill_entry(
     work: &mut [u64],
     held: usize,
     entries: usize,
-    v: usize,
+    v: VertexIndex,
 )
-    requires { ⌜ Fillable (now owners) (now offsets) (now targets) s held entries v (now work) ⌝ }
+    requires { ⌜ Fillable (now owners) (now offsets) (now targets) s held entries (v .0) (now work) ⌝ }
     ensures { λ r.
-        ⌜ Filled (now (owners .entry)) (now (offsets .entry)) (now (targets .entry)) alpha held entries v
+        ⌜ Filled (now (owners .entry)) (now (offsets .entry)) (now (targets .entry)) alpha held entries (v .0)
         (now (work .entry)) (now (work .exit)) ⌝ }
 {
-    if owners[v] == alpha {
-        if work[entries + v] == 65535 {
+    let at = v.0;
+    if owners[at] == alpha {
+        let entry = entries + at;
+        if work[entry] == NO_ENTRY {
             let w = lowest_inside(owners.len(), offsets, targets, v, &work[held..held + s]);
-            work[entries + v] = w;
+            work[entry] = w;
         }
     }
 }
@@ -46,23 +50,13 @@ pub fn assign_missing_strategies(
         ⌜ FilledAll (now (owners .entry)) (now (offsets .entry)) (now (targets .entry)) alpha heads held entries
         (now (work .entry)) (now (work .exit)) ⌝ }
 {
-    let mut walk = Members::new(&work[heads..heads + s]);
+    let mut walk = Members::new(work, heads, s);
     loop {
-        let next = walk.next(&work[heads..heads + s]);
-        let Next::Member(index, rest) = next else {
+        let next = walk.next(work, heads, s);
+        let Next::Member(v, rest) = next else {
             return;
         };
-        fill_entry(
-            owners,
-            offsets,
-            targets,
-            alpha,
-            s,
-            work,
-            held,
-            entries,
-            index.0,
-        );
+        fill_entry(owners, offsets, targets, alpha, s, work, held, entries, v);
         walk = rest;
     }
 }

@@ -4,26 +4,26 @@ use mathlib.Core.Bool.{Bool, true, false, _&&_, not, cond, and-false}
 use mathlib.Core.List.{List}
 use mathlib.Core.Logic.{_⊎_, inl, inr, ⊎-elim}
 use mathlib.Core.Path.{_≡_, refl, sym, ap, ap₂, subst, _∙_}
-use Prim.Native.Nat.{ℕ, suc, _+_, _%_, _≤_, _<_}
+use Prim.Native.Nat.{ℕ, suc, _+_, _≤_, _<_}
 use native.Mathlib.Nat.{le-refl}
 use native.Mathlib.Omega.{arith}
 use borrow.Author.Tests.{not-true, lt-ltb}
 use lib.Dec.{eqb, ltb}
 use lib.ListN.{length, getD}
 use Rattle.rules.specs.Counting.{Set}
-use Rattle.rules.specs.Game.{Game, Even, parity}
+use Rattle.rules.specs.Game.{Player, Game, Even, parity}
 use Rattle.rules.specs.Tables.{Tables, words, gameOf, Accepted, tablesOf}
 use Rattle.rules.specs.Words.{noEntry}
 use Rattle.rules.specs.Attractor.{attractor}
 use Rattle.rules.specs.Promotion.{unsolved}
 use Rattle.basics.specs.Basics.{bool-cases, clash, not-true-is-false, not-false-is-true, and-left, and-right, lt-or-ge}
 use Rattle.theory.specs.PromotionBasics.{atRegion, upTo}
-use Rattle.theory.specs.PromotionEntries.{Attracts}
+use Rattle.theory.specs.PromotionEntries.{AttractsEntries}
 use Rattle.sets.specs.Laws.{bit-other}
 use Rattle.area.specs.Area.{entries, free, setAt, wordsAt}
 use Rattle.area.specs.SetsAt.{set-kept}
 use Rattle.attractor.specs.Attracted.{Nested, Attractable, Attracted, listed-kept}
-use Rattle.priority_sets.specs.Sorting.{SetsOf, Placeable, setOfPriority, set-room}
+use Rattle.priority_sets.specs.Sorting.{SetsOf, PriorityPlaceable, setOfPriority, set-room}
 use Rattle.priority_sets.specs.Meeting.{Meets, Met, met-set}
 use Rattle.promotion_levels.specs.Nesting.{regionOf, Nesting, inside-all, falls-all}
 use Rattle.promotion_levels.specs.Nesting.{drawn-nests, drawn-region, drawn-proper}
@@ -67,7 +67,7 @@ pub record Queried (owners priorities offsets targets : List ℕ) (s p : ℕ) (b
       let m = length targets in
       let g = gameOf (tablesOf owners priorities offsets targets) in
       let T = regionIn n m s priorities before in
-      Attracts g (unsolved g T) T p (heldIn n m s after) (entryIn n m s before) (entryIn n m s after)
+      AttractsEntries g (unsolved g T) T p (heldIn n m s after) (entryIn n m s before) (entryIn n m s after)
   -- R's heads, of priority p, stand two levels further on
   pub heads :
       (v : ℕ) →
@@ -158,8 +158,8 @@ module _ (owners priorities : List ℕ) {offsets targets : List ℕ} (ok : Accep
     nested0 : Nested n X H w0
     nested0 = record { below = λ v i. in-small k v (omega arith) i; part = part0 }
 
-    pub attract-ready : Attractable owners offsets targets (p % 2) X H w0
-    attract-ready =
+    pub attract-ready : {alpha : ℕ} → alpha ≤ 1 → Attractable owners offsets targets alpha X H w0
+    attract-ready side =
         record {
           placed =
               record {
@@ -172,7 +172,7 @@ module _ (owners priorities : List ℕ) {offsets targets : List ℕ} (ok : Accep
           nested = nested0;
           edges = ready .edges;
           listed = ready .listed;
-          side = omega arith;
+          side = side;
         }
 
     module _ {w1 : List ℕ} {looks : ℕ} (c1 : Attracted t (parity p) X H w0 w1 looks) where
@@ -308,7 +308,7 @@ module _ (owners priorities : List ℕ) {offsets targets : List ℕ} (ok : Accep
         small2 : (v : ℕ) → R v ≡ true → v < n
         small2 v i = in-small k v (omega arith) (part2 v i)
 
-        attracts2 : Attracts g (unsolved g T) T p R (entryIn n m s w0) (entryIn n m s w2)
+        attracts2 : AttractsEntries g (unsolved g T) T p R (entryIn n m s w0) (entryIn n m s w2)
         unfolding gameOf
         attracts2 =
             record {
@@ -402,10 +402,10 @@ module _ {owners offsets targets : List ℕ} {s p held base : ℕ} {w0 : List �
         let behind = next-level n′ m′ s (suc (depthIn n′ m′ s w0)) in
         omega (arith, q .base-is, q .room)
 
-    pub given-attract : Attractable owners offsets targets (p % 2) base held w0
-    given-attract =
-        rw (q .current, q .base-is, q .held-is)
-        (attract-ready owners (q .priorities) (q .accepted) (q .ready) room-behind)
+    pub given-attract : {alpha : ℕ} → alpha ≤ 1 → Attractable owners offsets targets alpha base held w0
+    given-attract side =
+        rw (q .base-is, q .held-is)
+        (attract-ready owners (q .priorities) (q .accepted) (q .ready) room-behind side)
 
     -- the places of `without`
     pub given-fits : (base + s + s + s ≤ length w0) × (held + s ≤ base)
@@ -415,7 +415,7 @@ module _ {owners offsets targets : List ℕ} {s p held base : ℕ} {w0 : List �
         (omega (arith, q .base-is), omega (arith, q .base-is, q .held-is))
 
     -- and of the heads
-    pub given-place : Placeable (length owners) (length targets) s p
+    pub given-place : PriorityPlaceable (length owners) (length targets) s p
     given-place =
         record {
           size = q .ready .size;
@@ -438,16 +438,17 @@ module _ {owners offsets targets : List ℕ} {s p held base : ℕ} {w0 : List �
         }
 
     module _ (priorities : List ℕ) (ok : Accepted (tablesOf owners priorities offsets targets))
-        (ready : Ready (length owners) priorities offsets targets s w0) {w1 w2 w3 : List ℕ} {looks of : ℕ}
+        (ready : Ready (length owners) priorities offsets targets s w0) {w1 w2 w3 : List ℕ} {a : Player} {looks of : ℕ}
       where
         pub given-queried :
-            Attracted (tablesOf owners priorities offsets targets) (parity p) base held w0 w1 looks →
+            a ≡ parity p →
+            Attracted (tablesOf owners priorities offsets targets) a base held w0 w1 looks →
             ((n : ℕ) → s ≡ words n → WithoutAt n (base + s) base held w1 w2) →
             of ≡ setOfPriority (words (length owners)) (free (length owners) (length targets)) p →
             Met (base + s + s) held of s w2 w3 →
             Queried owners priorities offsets targets s p w0 w3
-        given-queried c1 c2 is c3 =
-            let drawn = rw (q .current, q .base-is, q .held-is) at c1 in
+        given-queried own c1 c2 is c3 =
+            let drawn = rw (own, q .current, q .base-is, q .held-is) at c1 in
             let made = rw (q .base-is, q .held-is, ← y-is owners priorities ok ready room-behind) at (c2 (length owners) (ready .size)) in
             let met = rw (q .base-is, q .held-is, is, q .current, ← z-is owners priorities ok ready room-behind) at c3 in
             rw (q .current) (queried owners priorities ok ready room-behind drawn made met)

@@ -1,4 +1,6 @@
 // R is drawn in, and its heads are set apart.
+use parity_game::Player;
+use parity_game::Priority;
 ghost use mathlib.Core.List.{List};
 ghost use Prim.Native.Nat.{ℕ};
 ghost use Rattle.rules.specs.Tables.{Accepted, tablesOf};
@@ -12,24 +14,24 @@ pub fn query(
     owners: &[u8],
     offsets: &[u16],
     targets: &[u16],
-    p: usize,
+    p: Priority,
     s: usize,
     work: &mut [u64],
     held: usize,
     base: usize,
 )
-    requires { ⌜ QueryReady (now owners) (now offsets) (now targets) s p held base (now work) ⌝ }
+    requires { ⌜ QueryReady (now owners) (now offsets) (now targets) s (p .0) held base (now work) ⌝ }
     ensures { λ r.
         ⌜ ((priorities : List ℕ) →
         Accepted (tablesOf (now (owners .entry)) priorities (now (offsets .entry)) (now (targets .entry))) →
         Ready (length (now (owners .entry))) priorities (now (offsets .entry)) (now (targets .entry)) s
         (now (work .entry)) →
-        Queried (now (owners .entry)) priorities (now (offsets .entry)) (now (targets .entry)) s p
+        Queried (now (owners .entry)) priorities (now (offsets .entry)) (now (targets .entry)) s (p .0)
         (now (work .entry)) (now (work .exit))) ⌝ }
 {
-    let alpha = (p % 2) as u8;
+    let alpha = Player::from_priority(p).index();
     attractor::attract(owners, offsets, targets, alpha, work, base, held);
     promotion_levels::without(s, work, base + s, base, held);
-    let of = priority_sets::set_at(owners.len(), targets.len(), s, p);
+    let of = priority_sets::set_at(owners.len(), targets.len(), s, p.0);
     priority_sets::meet(work, base + s + s, held, of, s);
 }

@@ -16,8 +16,8 @@ use Rattle.predecessors.specs.Stages.{sumTo}
 use Rattle.promotion_levels.specs.Nesting.{unsolved-is}
 use Rattle.promotion_levels.specs.Layout.{levelIn, regionIn, Ready}
 use Rattle.promotion_rounds.specs.Shown.{Shows}
-use Rattle.promotion_rounds.specs.Rounds.{RoundReady, RoundDone}
-use Rattle.promotion_rounds.specs.Solve.{Reached, left-is}
+use Rattle.promotion_rounds.specs.RoundPromise.{RoundReady, RoundDone}
+use Rattle.promotion_rounds.specs.SolveAll.{RoundsReached, left-is}
 
 -- how many vertices each of the regions 0 to 255 has by the levels, added up
 abbrev pub countsIn : ℕ → ℕ → ℕ → List ℕ → List ℕ → ℕ
@@ -82,7 +82,7 @@ module _ (owners priorities offsets targets : List ℕ) (s : ℕ) where
   -- **so in every state that the loop reaches, the first and the last included,**
   pub reached-add-up :
       {at many made : ℕ} {work : List ℕ} →
-      Reached owners priorities offsets targets s at many made work →
+      RoundsReached owners priorities offsets targets s at many made work →
       AddUp owners priorities offsets targets s (afterRounds (gameOf (tablesOf owners priorities offsets targets)) made) many work
   reached-add-up reached = shown-add-up (reached .shows)
 

@@ -15,7 +15,7 @@ use Rattle.rules.specs.Game.{Game, parity}
 use Rattle.rules.specs.Tables.{Tables, gameOf, Accepted, tablesOf}
 use Rattle.rules.specs.Words.{noEntry}
 use Rattle.basics.specs.Basics.{bool-cases, and-intro, and-left, and-right}
-use Rattle.theory.specs.PromotionEntries.{Fills}
+use Rattle.theory.specs.PromotionEntries.{ClosesEntries}
 use Rattle.area.specs.Area.{entries, free, setAt}
 use Rattle.successors.specs.Lowest.{endIn}
 use Rattle.promotion_levels.specs.Nesting.{inside-all}
@@ -135,7 +135,7 @@ module _ (owners : List ℕ) {priorities offsets targets : List ℕ} (ok : Accep
             gameOf (tablesOf owners priorities offsets targets) .owner v ≡ parity p →
             entryIn (length owners) (length targets) s w1 v ≡ noEntry →
             gameOf (tablesOf owners priorities offsets targets) .priority v ≡ p) →
-            Fills (gameOf (tablesOf owners priorities offsets targets)) (parity p) R
+            ClosesEntries (gameOf (tablesOf owners priorities offsets targets)) (parity p) R
             (entryIn (length owners) (length targets) s w1) (entryIn (length owners) (length targets) s w2)
         unfolding gameOf lowestIn
         filled-entries own {R} is head-is but-heads =

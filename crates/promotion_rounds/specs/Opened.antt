@@ -16,7 +16,7 @@ use Rattle.rules.specs.Promotion.{Regions, unsolved, regionSet, isOpen, roundOf
 use Rattle.basics.specs.Basics.{some-elim, and-right, count-cong}
 use Rattle.accepted.specs.Tables.{accepted-sound, accepted-priority}
 use Rattle.basics.specs.Greatest.{greatest-cong, greatest-bounds, greatest-le}
-use Rattle.theory.specs.PromotionEntries.{RoundEntries, opened, Attracts, AttractedEntries}
+use Rattle.theory.specs.PromotionEntries.{RoundEntries, opened, AttractsEntries, AttractedEntries}
 use Rattle.theory.specs.PromotionTests.{unsolved-below, region-in}
 use Rattle.theory.specs.PromotionRounds.{attractedRegion, lowerVertices}
 use Rattle.theory.specs.PromotionStanding.{Standing, open-goes-down}
@@ -36,10 +36,10 @@ use Rattle.promotion_rounds.specs.Shown.{Shows}
 -- entries count below n alone
 pub attracts-as :
     {g : Game} {X : Set} {q : ℕ → ℕ} {p : ℕ} {R : Set} {σ σ' σ'' : ℕ → ℕ} →
-    Attracts g X q p R σ σ' →
+    AttractsEntries g X q p R σ σ' →
     ((v : ℕ) → v < g .size → σ'' v ≡ σ' v) →
     ((v : ℕ) → R v ≡ true → v < g .size) →
-    Attracts g X q p R σ σ''
+    AttractsEntries g X q p R σ σ''
 attracts-as a same small =
     record {
       certificate = a .certificate;

@@ -17,7 +17,7 @@ use Rattle.rules.specs.Promotion.{Regions, regionSet, isOpen, roundOf, afterRou
 use Rattle.basics.specs.Basics.{bool-cases, not-true-is-false, and-intro, and-left, and-right, lt-or-ge, some-intro, some-elim}
 use Rattle.basics.specs.Basics.{false-some, someOf-intro, someOf-elim, lowest-none, lowest-unique, count-cong}
 use Rattle.theory.specs.Players.{same-false, false-same}
-use Rattle.theory.specs.PromotionEntries.{mover, RoundEntries, promotes, AttractedEntries, Fills}
+use Rattle.theory.specs.PromotionEntries.{mover, RoundEntries, promotes, AttractedEntries, ClosesEntries}
 use Rattle.theory.specs.PromotionRounds.{attractedRegion}
 use Rattle.theory.specs.PromotionTable.{openAt, leadsUp, nextAbove, open-read, some-way-read, table-promotes, promoted-entries-read}
 use Rattle.area.specs.Area.{setAt}
@@ -25,8 +25,8 @@ use Rattle.area.specs.SetsAt.{set-kept}
 use Rattle.promotion_levels.specs.Nesting.{inside-all, falls-all, here-is}
 use Rattle.promotion_levels.specs.Layout.{heldAt, wonAt, depthAt, levelsAt, levelAt, endAt, depthIn, topIn, levelIn, heldIn, regionIn, entryIn, Ready}
 use Rattle.promotion_levels.specs.Pulled.{owner-number, number-owner}
-use Rattle.promotion_tests.specs.Highest.{HighestLevel}
-use Rattle.promotion_tests.specs.ByRegions.{LowestAbove, ReachesAbove, regionBefore, highest-lowest}
+use Rattle.promotion_escape.specs.Highest.{HighestLevel}
+use Rattle.promotion_escape.specs.ByRegions.{LowestAbove, ReachesAbove, regionBefore, highest-lowest}
 use Rattle.promotion_moves.specs.Promotion.{PromotedTo, region-promoted, entry-promoted, ready-promoted, won-promoted, top-promoted, left-promoted}
 use Rattle.promotion_rounds.specs.Shown as shown
 use Rattle.promotion_rounds.specs.Shown.{Shows}
@@ -64,7 +64,7 @@ module _ {owners priorities offsets targets : List ℕ} (ok : Accepted (tablesOf
     (afterRounds (gameOf (tablesOf owners priorities offsets targets)) made)
     (entryIn (length owners) (length targets) s w0) σ)
     (filled :
-    Fills (gameOf (tablesOf owners priorities offsets targets))
+    ClosesEntries (gameOf (tablesOf owners priorities offsets targets))
     (mover (afterRounds (gameOf (tablesOf owners priorities offsets targets)) made))
     (regionSet (gameOf (tablesOf owners priorities offsets targets))
     (afterRounds (gameOf (tablesOf owners priorities offsets targets)) made)) σ

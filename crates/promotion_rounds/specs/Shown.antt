@@ -26,7 +26,7 @@ use Rattle.promotion_levels.specs.Layout.{heldAt, wonAt, levelAt, depthIn, topI
 use Rattle.promotion_levels.specs.Places.{solved-above}
 use Rattle.promotion_levels.specs.Pulled.{owner-test}
 use Rattle.promotion_region.specs.Query.{Queried}
-use Rattle.promotion_tests.specs.Opening.{isOpenIn}
+use Rattle.promotion_open.specs.Opening.{isOpenIn}
 
 -- a head of R that passes a test
 head-first : (a b c : Bool) → ((a && b) && c) ≡ (b && (a && c))

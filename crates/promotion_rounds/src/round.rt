@@ -2,6 +2,8 @@
 use area::Area;
 use highest_priority::one_less;
 use parity_game::Priority;
+use parity_game::TOP;
+use promotion_escape::best_escape;
 use promotion_levels::depth_at;
 use promotion_levels::descend;
 use promotion_levels::held_at;
@@ -9,10 +11,9 @@ use promotion_levels::levels_at;
 use promotion_moves::dominion::solve_dominion;
 use promotion_moves::fill::assign_missing_strategies;
 use promotion_moves::promote::promote;
+use promotion_open::is_open;
 use promotion_region::query;
-use promotion_tests::escape::best_escape;
-use promotion_tests::open::is_open;
-ghost use Rattle.promotion_rounds.specs.Rounds.{RoundReady, RoundDone};
+ghost use Rattle.promotion_rounds.specs.RoundPromise.{RoundReady, RoundDone};
 
 // The current priority, how many vertices are unsolved, and the rounds made.
 pub struct State {
@@ -45,39 +46,28 @@ pub fn round(
     let levels = levels_at(n, depth);
     let k = work[depth] as usize;
     let base = levels + k * s;
-    let p = state.current.0;
-    let alpha = (p % 2) as u8;
-    let rounds = state.rounds + 1;
+    let p = state.current;
+    let alpha = (p.0 % 2) as u8;
     let below = base + s;
     let heads = below + s;
+    let mut after = state;
+    after.rounds += 1;
     query(owners, offsets, targets, p, s, work, held, base);
     if is_open(owners, offsets, targets, alpha, s, work, heads, held, below) {
-        let bound = one_less(p);
-        let current = descend(priorities, m, s, work, held, levels, k + 1, bound);
-        return State {
-            current,
-            unsolved: state.unsolved,
-            rounds,
-        };
+        after.current = descend(priorities, m, s, work, held, levels, k + 1, one_less(p));
+        return after;
     }
     let entry = Area { n, m, s }.entries();
     assign_missing_strategies(owners, offsets, targets, alpha, s, work, heads, held, entry);
     let j = best_escape(owners, offsets, targets, alpha, s, work, held, levels, k);
     if 0 < j {
-        let q = work[depth + j] as usize;
+        let higher = Priority(work[depth + j] as usize);
         promote(s, work, held, depth, levels + (j - 1) * s, j - 1);
-        return State {
-            current: Priority(q),
-            unsolved: state.unsolved,
-            rounds,
-        };
+        after.current = higher;
+        return after;
     }
     solve_dominion(owners, offsets, targets, p, s, work, held, levels);
-    let current = descend(priorities, m, s, work, held, levels, 0, 255);
-    let left = sets::size(&work[levels..levels + s]);
-    State {
-        current,
-        unsolved: left,
-        rounds,
-    }
+    after.current = descend(priorities, m, s, work, held, levels, 0, Priority(TOP));
+    after.unsolved = sets::size(&work[levels..levels + s]);
+    after
 }

@@ -1,7 +1,7 @@
 // Rounds one after another.
 use crate::round::State;
 ghost use Prim.Native.Nat.{_≤_};
-ghost use Rattle.promotion_rounds.specs.Solve.{Reached, Ended};
+ghost use Rattle.promotion_rounds.specs.SolveAll.{RoundsReached, Ended};
 
 // Until all vertices are solved, or the budget is used up.
 pub fn solve(
@@ -14,7 +14,7 @@ pub fn solve(
     work: &mut [u64],
     start: State,
 ) -> State
-    requires { ⌜ (Reached (now owners) (now priorities) (now offsets) (now targets) s
+    requires { ⌜ (RoundsReached (now owners) (now priorities) (now offsets) (now targets) s
         (start .current .0) (start .unsolved) (start .rounds) (now work)) ×
         (start .rounds ≤ budget) ⌝ }
     ensures { λ r.

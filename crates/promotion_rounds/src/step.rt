@@ -1,7 +1,7 @@
 // The thin round: the small state lent and changed, as the Rust's solver is worked on through `&mut self`.
 use crate::round::State;
 use crate::round::round;
-ghost use Rattle.promotion_rounds.specs.Rounds.{RoundReady, RoundDone};
+ghost use Rattle.promotion_rounds.specs.RoundPromise.{RoundReady, RoundDone};
 
 impl State {
     // One round more.

@@ -43,7 +43,7 @@ pub record HeldUnder (priorities : List ℕ) (s base height : ℕ) (work : List 
   pub under : (v : ℕ) → setAt (length priorities) base work v ≡ true → getD priorities v 0 < height
 
 -- accepted tables with their predecessor table, V below n, and room for the level and the next V
-pub record Ready (t : Tables) (s base : ℕ) (work : List ℕ) : Type 0 where
+pub record OpinionReady (t : Tables) (s base : ℕ) (work : List ℕ) : Type 0 where
   pub accepted : Accepted t
   pub table : Listed (vertices t) (t .offsets) (t .targets) work
   pub size : s ≡ words (vertices t)
@@ -52,14 +52,14 @@ pub record Ready (t : Tables) (s base : ℕ) (work : List ℕ) : Type 0 where
   pub below : (v : ℕ) → onLevel t base work v ≡ true → v < vertices t
 
 -- the predecessor table stays, and every free word below a place
-pub record Stays (t : Tables) (top : ℕ) (before after : List ℕ) : Type 0 where
+pub record OpinionStays (t : Tables) (top : ℕ) (before after : List ℕ) : Type 0 where
   pub long : length after ≡ length before
   pub table : (i : ℕ) → i < vertices t + 1 + edgesIn t → getD after i 0 ≡ getD before i 0
   pub lower : (i : ℕ) → free (vertices t) (edgesIn t) ≤ i → i < top → getD after i 0 ≡ getD before i 0
 
 -- V stays, and V without what p's player draws to priority p stands at the next level
 pub record TopCut (t : Tables) (p base : ℕ) (before after : List ℕ) : Type 0 where
-  pub stays : Stays t (base + words (vertices t)) before after
+  pub stays : OpinionStays t (base + words (vertices t)) before after
   pub rest :
       (v : ℕ) →
       onLevel t (nextLevel (words (vertices t)) base) after v ≡
@@ -70,7 +70,7 @@ pub record TopCut (t : Tables) (p base : ℕ) (before after : List ℕ) : Type 0
 -- a player's set that was found at the next level lies in V, for tables with any priorities
 pub record Droppable (owners offsets targets : List ℕ) (alpha s base : ℕ) (work : List ℕ) : Type 0 where
   pub priorities : List ℕ
-  pub ready : Ready (tablesOf owners priorities offsets targets) s base work
+  pub ready : OpinionReady (tablesOf owners priorities offsets targets) s base work
   pub player : alpha ≤ 1
   pub part :
       (v : ℕ) →
@@ -79,7 +79,7 @@ pub record Droppable (owners offsets targets : List ℕ) (alpha s base : ℕ) (w
 
 -- V has lost what the player draws to that set
 pub record Dropped (t : Tables) (c : Player) (base : ℕ) (before after : List ℕ) : Type 0 where
-  pub stays : Stays t base before after
+  pub stays : OpinionStays t base before after
   pub left :
       (v : ℕ) →
       onLevel t base after v ≡

@@ -2,8 +2,8 @@
 use mathlib.Core.Bool.{Bool, true, false, _&&_, not}
 use mathlib.Core.List.{List}
 use mathlib.Core.Logic.{_⊎_, inl, inr}
-use mathlib.Core.Path.{_≡_, refl, sym, ap, ap₂, subst₂, fun-ext, _∙_}
-use Prim.Native.Nat.{ℕ, _+_, _-_, _*_, _%_, _≤_, _<_}
+use mathlib.Core.Path.{_≡_, sym, ap, ap₂, fun-ext, _∙_}
+use Prim.Native.Nat.{ℕ, _+_, _-_, _*_, _≤_, _<_}
 use native.Mathlib.Omega.{arith}
 use borrow.Author.Tests.{not-true, not-false}
 use lib.Dec.{eqb}
@@ -14,7 +14,7 @@ use Rattle.rules.specs.Tables.{Tables, gameOf, vertices, edgesIn, words, Accept
 use Rattle.rules.specs.Attractor.{attractor}
 use Rattle.rules.specs.Words.{setOf}
 use Rattle.rules.specs.Zielonka.{withPriority}
-use Rattle.sets.specs.After.{Parts, Combined, Cleared, other}
+use Rattle.sets.specs.After.{Combined, Cleared, other}
 use Rattle.sets.specs.Laws.{bit-other, no-member}
 use Rattle.theory.specs.Attractor.{attractor-below}
 use Rattle.basics.specs.Basics.{lt-or-ge, and-left, not-true-is-false, some-elim}
@@ -26,11 +26,11 @@ use Rattle.area.specs.Walking.{lent-part}
 use Rattle.attractor.specs.Attracted.{Attractable, Attracted}
 use Rattle.attractor.specs.Attracted.{listed-kept}
 use Rattle.predecessors.specs.Table.{SoundEdges}
-use Rattle.highest_priority.specs.Parts.{Searchable, SearchableTo, Collects, Collected}
-use Rattle.quasi_level.specs.Level.{nextLevel, onLevel, drawnAt, Held, HeldUnder, Ready, Stays, TopCut, Droppable, Dropped}
+use Rattle.highest_priority.specs.Parts.{Searchable, Collects, Collected}
+use Rattle.quasi_level.specs.Level.{nextLevel, onLevel, drawnAt, Held, HeldUnder, OpinionReady, OpinionStays, TopCut, Droppable, Dropped}
 
 -- what stays over two steps
-pub stays-on : {t : Tables} {top : ℕ} {x y z : List ℕ} → Stays t top x y → Stays t top y z → Stays t top x z
+pub stays-on : {t : Tables} {top : ℕ} {x y z : List ℕ} → OpinionStays t top x y → OpinionStays t top y z → OpinionStays t top x z
 stays-on a b =
     record {
       long = b .long ∙ a .long;
@@ -39,7 +39,7 @@ stays-on a b =
     }
 
 -- and below a lower place
-pub stays-under : {t : Tables} {top low : ℕ} {x y : List ℕ} → low ≤ top → Stays t top x y → Stays t low x y
+pub stays-under : {t : Tables} {top low : ℕ} {x y : List ℕ} → low ≤ top → OpinionStays t top x y → OpinionStays t low x y
 stays-under l a = record { long = a .long; table = a .table; lower = λ i f h. a .lower i f (omega arith) }
 
 -- a set whose words stay
@@ -47,7 +47,7 @@ pub level-stays :
     {t : Tables} {top base : ℕ} {x y : List ℕ} →
     free (vertices t) (edgesIn t) ≤ base →
     base + words (vertices t) ≤ top →
-    Stays t top x y →
+    OpinionStays t top x y →
     (v : ℕ) →
     onLevel t base y v ≡ onLevel t base x v
 level-stays {t} {base = base} {x = x} {y = y} low high a =
@@ -59,7 +59,7 @@ combined-stays :
     free (vertices t) (edgesIn t) ≤ top →
     top ≤ into →
     Combined f into from s x y →
-    Stays t top x y
+    OpinionStays t top x y
 combined-stays low l c =
     record {
       long = c .long;
@@ -72,7 +72,7 @@ cleared-stays :
     free (vertices t) (edgesIn t) ≤ top →
     top ≤ at →
     Cleared at s x y →
-    Stays t top x y
+    OpinionStays t top x y
 cleared-stays low l c =
     record {
       long = c .long;
@@ -83,12 +83,12 @@ cleared-stays low l c =
 attracted-stays :
     {t : Tables} {c : Player} {within top looks : ℕ} {x y : List ℕ} →
     Attracted t c within top x y looks →
-    Stays t top x y
+    OpinionStays t top x y
 attracted-stays d = record { long = d .long; table = d .table; lower = λ i f h. d .rest i f (inl h) }
 
 -- what a piece asks for stays
 pub ready-stays :
-    {t : Tables} {s base : ℕ} {x y : List ℕ} → Stays t (base + words (vertices t)) x y → Ready t s base x → Ready t s base y
+    {t : Tables} {s base : ℕ} {x y : List ℕ} → OpinionStays t (base + words (vertices t)) x y → OpinionReady t s base x → OpinionReady t s base y
 ready-stays {t} {base = base} {x = x} {y = y} stays r =
     record {
       accepted = r .accepted;
@@ -116,7 +116,7 @@ sound-edges t ok =
 -- what `attract` asks for
 attractable :
     {t : Tables} {s base alpha : ℕ} {w : List ℕ} →
-    Ready t s base w →
+    OpinionReady t s base w →
     alpha ≤ 1 →
     ((v : ℕ) → drawnAt t base w v ≡ true → onLevel t base w v ≡ true) →
     Attractable (t .owners) (t .offsets) (t .targets) alpha base (base + s) w
@@ -162,14 +162,14 @@ drawn-held {t} {c} {base} {x = x} {y = y} drawn v = go (lt-or-ge v (vertices t))
 
 -- ---- the first cut
 
-module _ {t : Tables} {s base : ℕ} {w₀ w₁ : List ℕ} (ready : Ready t s base w₀) (cleared : Cleared (base + s) s w₀ w₁) where
+module _ {t : Tables} {s base : ℕ} {w₀ w₁ : List ℕ} (ready : OpinionReady t s base w₀) (cleared : Cleared (base + s) s w₀ w₁) where
   size : s ≡ words (vertices t)
   size = ready .size
 
   long : length (t .priorities) ≡ vertices t
   long = accepted-sound t (ready .accepted) .priority-each
 
-  stays₁ : Stays t (base + words (vertices t)) w₀ w₁
+  stays₁ : OpinionStays t (base + words (vertices t)) w₀ w₁
   stays₁ = cleared-stays (omega (arith, ready .low)) (omega (arith, size)) cleared
 
   -- what `collect` asks for
@@ -190,7 +190,7 @@ module _ {t : Tables} {s base : ℕ} {w₀ w₁ : List ℕ} (ready : Ready t s b
       })
 
   module _ {p : ℕ} {w₂ : List ℕ} (collected : Collected (t .priorities) p base (base + s) w₁ w₂) where
-    stays₂ : Stays t (base + words (vertices t)) w₀ w₂
+    stays₂ : OpinionStays t (base + words (vertices t)) w₀ w₂
     stays₂ =
         stays-on stays₁
         (record {
@@ -235,10 +235,10 @@ module _ {t : Tables} {s base : ℕ} {w₀ w₁ : List ℕ} (ready : Ready t s b
         reduced′ : Combined _-_ (base + 8 * words (vertices t)) (base + words (vertices t)) (words (vertices t)) w₄ w₅
         reduced′ = rw size at reduced
 
-        drawn-stays : Stays t (base + words (vertices t)) w₂ w₃
+        drawn-stays : OpinionStays t (base + words (vertices t)) w₂ w₃
         drawn-stays = attracted-stays drawn′
 
-        above : Stays t (base + words (vertices t)) w₃ w₅
+        above : OpinionStays t (base + words (vertices t)) w₃ w₅
         above =
             stays-on (combined-stays (omega (arith, ready .low)) (omega arith) copied′)
             (combined-stays (omega (arith, ready .low)) (omega arith) reduced′)
@@ -278,7 +278,7 @@ module _ {owners offsets targets : List ℕ} {alpha s base : ℕ} {w₀ w₁ : L
     copied₁ : Combined other (base + words (length owners)) (base + 8 * words (length owners)) (words (length owners)) w₀ w₁
     copied₁ = rw size₁ at copied
 
-    stays-copied : (priorities : List ℕ) → Stays (tablesOf owners priorities offsets targets) (base + words (length owners)) w₀ w₁
+    stays-copied : (priorities : List ℕ) → OpinionStays (tablesOf owners priorities offsets targets) (base + words (length owners)) w₀ w₁
     stays-copied priorities = combined-stays (omega (arith, droppable .ready .low)) (omega arith) copied₁
 
     level-copied :
@@ -335,7 +335,7 @@ module _ {owners offsets targets : List ℕ} {alpha s base : ℕ} {w₀ w₁ : L
         reduced′ : Combined _-_ base (base + words (length owners)) (words (length owners)) w₂ w₃
         reduced′ = rw size₁ at reduced
 
-        drawn-stays : Stays (tablesOf owners priorities offsets targets) (base + words (length owners)) w₁ w₂
+        drawn-stays : OpinionStays (tablesOf owners priorities offsets targets) (base + words (length owners)) w₁ w₂
         drawn-stays = attracted-stays drawn′
 
 -- ---- a set of the work area that is lent, empty or not
@@ -364,17 +364,22 @@ module _ {n s at : ℕ} {w : List ℕ} (held : Held n s at w) where
       let few = words-few n (held .few) in
       rw held-lent (omega (arith, length-take (words n) (drop at w)))
 
-  held-searchable : Searchable n (take ((at + s) - at) (drop at w))
-  held-searchable = record { few = held-few; below = rw held-lent (held .below) }
-
 -- a set below a height can be searched
 pub held-under :
     {priorities : List ℕ} {s at height top : ℕ} {w : List ℕ} →
     HeldUnder priorities s at height w →
     top ≡ height - 1 →
-    SearchableTo priorities top (take ((at + s) - at) (drop at w))
-held-under {priorities} {s} {at} {w = w} h is =
+    Searchable priorities s at top w
+held-under h is =
+    let held = h .held in
     record {
-      searchable = held-searchable (h .held);
-      under = rw (lent-part (length priorities) s at w (h .held .size)) (λ v m. omega (arith, h .under v m));
+      walkable =
+          record {
+            size = held .size;
+            few = held .few;
+            high = omega (arith, held .high, held .size);
+            below = held .below;
+            out = λ i low high. tt;
+          };
+      under = λ v m. omega (arith, h .under v m);
     }

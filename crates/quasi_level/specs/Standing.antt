@@ -23,7 +23,7 @@ pub record AfterNothing (passes : Passes) (sub : Sharp) (half : ℕ) (r : Passes
   pub keeps : r .keeps ≡ passes .keeps
   pub drops : r .drops ≡ sub .keeps
 
-pub record Ended (passes : Passes) (mine full size : ℕ) (r : Sharp) : Type 0 where
+pub record LevelEnded (passes : Passes) (mine full size : ℕ) (r : Sharp) : Type 0 where
   pub keeps : r .keeps ≡ (passes .keeps || eqb mine size)
   pub drops : r .drops ≡ (passes .drops || eqb full size)
 

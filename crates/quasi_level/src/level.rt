@@ -12,7 +12,7 @@ ghost use Rattle.area.specs.Area.{setAt, sizeAt};
 ghost use Rattle.highest_priority.specs.Parts.{highestOf};
 ghost use Rattle.rules.specs.Game.{playerOf};
 ghost use Rattle.rules.specs.Tables.{Accepted, tablesOf};
-ghost use Rattle.quasi_level.specs.Level.{Held, HeldUnder, Ready, TopCut, Droppable, Dropped, Settled, GaveUp, TurnedOver};
+ghost use Rattle.quasi_level.specs.Level.{Held, HeldUnder, OpinionReady, TopCut, Droppable, Dropped, Settled, GaveUp, TurnedOver};
 
 // The size of V.
 pub fn size_at(n: usize, s: usize, work: &[u64], base: usize) -> usize
@@ -35,8 +35,8 @@ pub fn highest_at(
         ⌜ r .0 ≡ highestOf (now (priorities .entry))
         (setAt (length (now (priorities .entry))) base (now (work .entry))) ⌝ }
 {
-    let top = highest_priority::one_less(height);
-    highest_priority::get_highest_prio(priorities, &work[base..base + s], top)
+    let top = highest_priority::one_less(Priority(height));
+    highest_priority::get_highest_prio(priorities, work, base, s, top)
 }
 
 // U: the vertices of V with priority p; A: the attractor of U for p's player. V without A goes to the next level.
@@ -50,7 +50,7 @@ pub fn attract_top(
     work: &mut [u64],
     base: usize,
 )
-    requires { ⌜ Ready (tablesOf (now owners) (now priorities) (now offsets) (now targets)) s base (now work) ⌝ }
+    requires { ⌜ OpinionReady (tablesOf (now owners) (now priorities) (now offsets) (now targets)) s base (now work) ⌝ }
     ensures { λ r.
         ⌜ TopCut (tablesOf (now (owners .entry)) (now (priorities .entry)) (now (offsets .entry))
         (now (targets .entry))) (p .0) base (now (work .entry)) (now (work .exit)) ⌝ }

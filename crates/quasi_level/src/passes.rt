@@ -2,7 +2,7 @@
 // finds nothing, then one at full precision, then passes at half again until one finds nothing.
 ghost use mathlib.Core.Path.{_≡_};
 ghost use Rattle.separation.specs.Stages.{firstStage, precisionAt};
-ghost use Rattle.quasi_level.specs.Standing.{Began, AfterFound, AfterNothing, Ended};
+ghost use Rattle.quasi_level.specs.Standing.{Began, AfterFound, AfterNothing, LevelEnded};
 
 // An answer keeps all dominions of its own player, and drops all of the other's, whatever their size.
 pub struct Sharp {
@@ -99,7 +99,7 @@ impl Passes {
     }
     // How sharp what is left of V is at the end: a precision that was cut to the size of V was full.
     pub fn sharpness(self, mine: usize, full: usize, size: usize) -> Sharp
-        ensures { λ r. ⌜ Ended self mine full size r ⌝ }
+        ensures { λ r. ⌜ LevelEnded self mine full size r ⌝ }
     {
         Sharp {
             keeps: self.keeps || mine == size,

@@ -57,13 +57,13 @@ numbered-checks t l =
     (numbered-check10 _ _ _))
 
 -- past the checks
-pub record Passed (t : Tables) (even odd work : ℕ) : Type 0 where
+pub record OpinionPassed (t : Tables) (even odd work : ℕ) : Type 0 where
   pub accepted : Accepted t
   pub even-size : even ≡ words (vertices t)
   pub odd-size : odd ≡ words (vertices t)
   pub work-size : opinionWords (vertices t) (edgesIn t) ≤ work
 
-pub checks-passed : (t : Tables) (even odd work : ℕ) → checksBy t even odd work ≡ none → Passed t even odd work
+pub checks-passed : (t : Tables) (even odd work : ℕ) → checksBy t even odd work ≡ none → OpinionPassed t even odd work
 unfolding Accepted opinionCheck10
 checks-passed t even odd work e =
     let n = vertices t in

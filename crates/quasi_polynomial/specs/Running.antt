@@ -21,7 +21,7 @@ use Rattle.basics.specs.Basics.{not-true-is-false, and-left}
 use Rattle.theory.specs.Bits.{Bits, narrow-holds}
 use Rattle.accepted.specs.Tables.{accepted-total}
 use Rattle.theory.specs.Zielonka.{everywhere-below, everywhere-total}
-use Rattle.kept_numbers.specs.Reading.{Counted, kept-bounds, kept-small}
+use Rattle.kept_numbers.specs.Reading.{FreshlyCounted, kept-bounds, kept-small}
 use Rattle.sets.specs.After.{Combined, other}
 use Rattle.sets.specs.Laws.{other-bit}
 use Rattle.area.specs.Area.{free, setAt, wordsAt}
@@ -35,8 +35,8 @@ use Rattle.separation.specs.Opinion.{opinion-wins}
 use Rattle.quasi_level.specs.Level.{onLevel}
 use Rattle.quasi_level.specs.Pieces.{sound-edges}
 use Rattle.quasi_level.specs.declared.passes.Sharp.{Sharp}
-use Rattle.quasi_solvers.specs.Calling.{Called, Solved}
-use Rattle.quasi_polynomial.specs.Checks.{Passed}
+use Rattle.quasi_solvers.specs.Calling.{OpinionCalled, SmallDominions}
+use Rattle.quasi_polynomial.specs.Checks.{OpinionPassed}
 
 -- a height for priorities up to `top`, for which W words have room
 pub record Height (top high : ℕ) : Type 0 where
@@ -45,7 +45,7 @@ pub record Height (top high : ℕ) : Type 0 where
   pub odd : high % 2 ≡ 1
 
 -- what `run` asks for: accepted tables with every priority below the height, sets of the right sizes, and W words
-pub record Runnable (t : Tables) (high : ℕ) (even odd work : List ℕ) : Type 0 where
+pub record OpinionRunnable (t : Tables) (high : ℕ) (even odd work : List ℕ) : Type 0 where
   pub accepted : Accepted t
   pub under : (v : ℕ) → v < vertices t → getD (t .priorities) v 0 < high
   pub most : high ≤ 257
@@ -67,7 +67,7 @@ unfolding opinionWords workWords
 levels-fit n m =
     let wide : 4 * words n ≤ 8 * (n + 2) * words n = mul-le-mul-right (words n) (omega arith) in omega arith
 
-module _ {t : Tables} {high : ℕ} {even odd w₀ : List ℕ} (given : Runnable t high even odd w₀)
+module _ {t : Tables} {high : ℕ} {even odd w₀ : List ℕ} (given : OpinionRunnable t high even odd w₀)
     {first : ℕ} (place : first ≡ free (vertices t) (edgesIn t))
   where
     abbrev n : ℕ
@@ -114,7 +114,7 @@ module _ {t : Tables} {high : ℕ} {even odd w₀ : List ℕ} (given : Runnable 
             prepared .full v
 
         -- what the solver for Even asks for
-        pub run-called : Called t Even (first + length even) high w₂
+        pub run-called : OpinionCalled t Even (first + length even) high w₂
         unfolding gameOf
         run-called =
             record {
@@ -137,7 +137,7 @@ module _ {t : Tables} {high : ℕ} {even odd w₀ : List ℕ} (given : Runnable 
             }
 
         module _ {w₃ w₄ : List ℕ} {r : Sharp}
-            (solved : Solved t Even (first + length even) (vertices t) (vertices t) w₂ w₃ r)
+            (solved : SmallDominions t Even (first + length even) (vertices t) (vertices t) w₂ w₃ r)
             (reduced : Combined _-_ first (first + length even) (length even) w₃ w₄)
           where
             reduced′ : Combined _-_ first (first + words (vertices t)) (words (vertices t)) w₃ w₄
@@ -252,11 +252,11 @@ opinion-answered t before after passed o work =
 pub run-ready :
     (t : Tables) (w : ℕ) (even odd work : List ℕ) →
     w ≡ opinionWords (vertices t) (edgesIn t) →
-    Passed t (length even) (length odd) (length work) →
+    OpinionPassed t (length even) (length odd) (length work) →
     {kept : List ℕ} {high : ℕ} →
-    Counted t kept →
+    FreshlyCounted t kept →
     Height (getD kept 257 0) high →
-    Runnable t high even odd (take (w - 0) (drop 0 work))
+    OpinionRunnable t high even odd (take (w - 0) (drop 0 work))
 run-ready t w even odd work is p counted height =
     record {
       accepted = p .accepted;

@@ -3,6 +3,7 @@
 use crate::checks::check_lent;
 use crate::checks::opinion_words;
 use area::Area;
+use kept_numbers::HIGHEST;
 use parity_game::Answer;
 use quasi_solvers::solve_even;
 ghost use mathlib.Core.Path.{_≡_};
@@ -11,8 +12,8 @@ ghost use lib.ListN.{length, replicate};
 ghost use Rattle.rules.specs.SecondOpinion.{GivesOpinion};
 ghost use Rattle.rules.specs.Tables.{tablesOf};
 ghost use Rattle.parity_game.specs.Said.{said};
-ghost use Rattle.kept_numbers.specs.Reading.{Counted};
-ghost use Rattle.quasi_polynomial.specs.Running.{Height, Runnable, Opinion};
+ghost use Rattle.kept_numbers.specs.Reading.{FreshlyCounted};
+ghost use Rattle.quasi_polynomial.specs.Running.{Height, OpinionRunnable, Opinion};
 
 // The lowest odd number above the highest priority.
 fn first_height(top: usize) -> usize
@@ -35,7 +36,7 @@ fn run(
     odd: &mut [u64],
     work: &mut [u64],
 )
-    requires { ⌜ Runnable (tablesOf (now owners) (now priorities) (now offsets) (now targets)) high
+    requires { ⌜ OpinionRunnable (tablesOf (now owners) (now priorities) (now offsets) (now targets)) high
         (now even) (now odd) (now work) ⌝ }
     ensures { λ _.
         ⌜ (now (work .exit) ≡ replicate (length (now (work .entry))) 0) ×
@@ -67,7 +68,7 @@ pub fn solve_quasi_polynomial(
     odd: &mut [u64],
     work: &mut [u64],
 ) -> Answer
-    requires { ⌜ Counted (tablesOf (now owners) (now priorities) (now offsets) (now targets)) (now kept) ⌝ }
+    requires { ⌜ FreshlyCounted (tablesOf (now owners) (now priorities) (now offsets) (now targets)) (now kept) ⌝ }
     ensures { λ r.
         ⌜ GivesOpinion
         (tablesOf (now (owners .entry)) (now (priorities .entry)) (now (offsets .entry)) (now (targets .entry)))
@@ -82,7 +83,7 @@ pub fn solve_quasi_polynomial(
         return r;
     }
     let w = opinion_words(n, m);
-    let high = first_height(kept[257] as usize);
+    let high = first_height(kept[HIGHEST] as usize);
     run(
         owners,
         priorities,

@@ -11,12 +11,12 @@ use Rattle.attractor.specs.Attracted.{Listed}
 use Rattle.theory.specs.AttractorComplement.{TotalIn}
 use Rattle.separation.specs.Separates.{Separates}
 use Rattle.separation.specs.Stages.{raised}
-use Rattle.quasi_level.specs.Level.{onLevel, Stays}
+use Rattle.quasi_level.specs.Level.{onLevel, OpinionStays}
 use Rattle.quasi_level.specs.declared.passes.Sharp.{Sharp}
 
 -- accepted tables with their predecessor table, V total and below n, every priority in V below the height, which has the
 -- opponent's parity, and room for a level of eight sets for each height down to 0
-pub record Called (t : Tables) (a : Player) (base height : ℕ) (work : List ℕ) : Type 0 where
+pub record OpinionCalled (t : Tables) (a : Player) (base height : ℕ) (work : List ℕ) : Type 0 where
   pub accepted : Accepted t
   pub table : Listed (vertices t) (t .offsets) (t .targets) work
   pub low : free (vertices t) (edgesIn t) ≤ base
@@ -27,8 +27,8 @@ pub record Called (t : Tables) (a : Player) (base height : ℕ) (work : List ℕ
   pub turn : parity height ≡ opponent a
 
 -- what is left of V parts the small dominions of the two players, and where the answer is sharp all of them
-pub record Solved (t : Tables) (a : Player) (base own other : ℕ) (before after : List ℕ) (r : Sharp) : Type 0 where
-  pub stays : Stays t base before after
+pub record SmallDominions (t : Tables) (a : Player) (base own other : ℕ) (before after : List ℕ) (r : Sharp) : Type 0 where
+  pub stays : OpinionStays t base before after
   pub parts :
       Separates (gameOf t) a (onLevel t base before)
       (raised (vertices t) (r .keeps) own)

@@ -30,16 +30,16 @@ use Rattle.area.specs.SetsAt.{set-kept, set-cleared, set-copied-here, set-reduc
 use Rattle.attractor.specs.Attracted.{listed-kept}
 use Rattle.separation.specs.Separates.{Separates, separates-over, gives-up, gives-up-empty, precision-cut, passed-over}
 use Rattle.separation.specs.Passing.{Pass, found-inside}
-use Rattle.separation.specs.Stages.{raised, precisionAt, nextStage, Standing, stage-begins, stage-found, stage-nothing}
+use Rattle.separation.specs.Stages.{raised, precisionAt, nextStage, StagesStanding, stage-begins, stage-found, stage-nothing}
 use Rattle.separation.specs.Stages.{stage-found-rises, stage-nothing-rises, cut-enough}
 use Rattle.highest_priority.specs.Parts.{highestOf}
-use Rattle.quasi_level.specs.Level.{nextLevel, onLevel, Held, HeldUnder, Ready, Stays, TopCut}
+use Rattle.quasi_level.specs.Level.{nextLevel, onLevel, Held, HeldUnder, OpinionReady, OpinionStays, TopCut}
 use Rattle.quasi_level.specs.Level.{Droppable, Dropped, FoundSome, FoundNothing, Settled, GaveUp, TurnedOver}
 use Rattle.quasi_level.specs.Pieces.{stays-on, stays-under, level-stays}
-use Rattle.quasi_level.specs.Standing.{Began, AfterFound, AfterNothing, Ended}
+use Rattle.quasi_level.specs.Standing.{Began, AfterFound, AfterNothing, LevelEnded}
 use Rattle.quasi_level.specs.declared.passes.Passes.{Passes}
 use Rattle.quasi_level.specs.declared.passes.Sharp.{Sharp}
-use Rattle.quasi_solvers.specs.Calling.{Called, Solved}
+use Rattle.quasi_solvers.specs.Calling.{OpinionCalled, SmallDominions}
 
 -- ---- numbers
 
@@ -93,10 +93,10 @@ parity-odd p no′ = let e : p % 2 ≡ 1 = omega (arith, no′) in ap playerOf e
 -- ---- the level
 
 -- nothing has changed
-pub stays-same : {t : Tables} {top : ℕ} {w : List ℕ} → Stays t top w w
+pub stays-same : {t : Tables} {top : ℕ} {w : List ℕ} → OpinionStays t top w w
 stays-same = record { long = refl; table = λ i l. refl; lower = λ i f l. refl }
 
-module _ {t : Tables} {a : Player} {base height : ℕ} {w₀ : List ℕ} (called : Called t a base height w₀)
+module _ {t : Tables} {a : Player} {base height : ℕ} {w₀ : List ℕ} (called : OpinionCalled t a base height w₀)
     {s : ℕ} (size : s ≡ words (vertices t))
   where
     -- V stands at the base
@@ -128,7 +128,7 @@ module _ {t : Tables} {a : Player} {base height : ℕ} {w₀ : List ℕ} (called
         mine ≡ min own size′ →
         mine ≡ 0 →
         GaveUp size′ s base w₀ w₁ r →
-        Solved t a base own other w₀ w₁ r
+        SmallDominions t a base own other w₀ w₁ r
     unfolding raised gameOf
     called-gives-up {size′} {mine} {own} {other} {w₁} {r} counted cut none gave =
         record {
@@ -208,7 +208,7 @@ module _ {t : Tables} {a : Player} {base height : ℕ} {w₀ : List ℕ} (called
         copied′ : Combined other (base + 8 * words (vertices t)) base (words (vertices t)) w₀ w₁
         copied′ = rw size at copied
 
-        above : Stays t (base + words (vertices t)) w₀ w₁
+        above : OpinionStays t (base + words (vertices t)) w₀ w₁
         above =
             record {
               long = copied′ .long;
@@ -221,7 +221,7 @@ module _ {t : Tables} {a : Player} {base height : ℕ} {w₀ : List ℕ} (called
             ap (λ (k : ℕ). onLevel t (base + 8 * k) w₁ v) size ∙
             set-copied-here (vertices t) (base + 8 * words (vertices t)) base w₀ w₁ copied′ v
 
-        pub turned-called : Called t (opponent a) (base + 8 * s) (p + 1) w₁
+        pub turned-called : OpinionCalled t (opponent a) (base + 8 * s) (p + 1) w₁
         turned-called =
             record {
               accepted = called .accepted;
@@ -238,9 +238,9 @@ module _ {t : Tables} {a : Player} {base height : ℕ} {w₀ : List ℕ} (called
 
         pub turned-solved :
             {own other : ℕ} {w₂ w₃ : List ℕ} {turned r : Sharp} →
-            Solved t (opponent a) (base + 8 * s) other own w₁ w₂ turned →
+            SmallDominions t (opponent a) (base + 8 * s) other own w₁ w₂ turned →
             TurnedOver s base w₂ w₃ turned r →
-            Solved t a base own other w₀ w₃ r
+            SmallDominions t a base own other w₀ w₃ r
         turned-solved {own} {other} {w₂} {w₃} {turned} {r} solved over =
             record {
               stays =
@@ -270,21 +270,21 @@ module _ {t : Tables} {a : Player} {base height : ℕ} {w₀ : List ℕ} (called
 -- ---- the passes
 
 -- how the passes stand over the work area
-pub record Going (t : Tables) (a : Player) (base mine full half : ℕ) (w₀ : List ℕ) (passes : Passes) (w : List ℕ) : Type 0 where
-  pub stays : Stays t base w₀ w
+pub record PassesGoing (t : Tables) (a : Player) (base mine full half : ℕ) (w₀ : List ℕ) (passes : Passes) (w : List ℕ) : Type 0 where
+  pub stays : OpinionStays t base w₀ w
   pub standing :
-      Standing (gameOf t) a mine full half (onLevel t base w₀) (passes .stage) (passes .keeps) (passes .drops) (onLevel t base w)
+      StagesStanding (gameOf t) a mine full half (onLevel t base w₀) (passes .stage) (passes .keeps) (passes .drops) (onLevel t base w)
 
 -- what falls from pass to pass: the size of V, and the stages that are left
 abbrev pub toGo : ℕ → ℕ → List ℕ → Passes → ℕ
 toGo n base w passes = 4 * sizeAt n base w + (3 - passes .stage)
 
-module _ {t : Tables} {a : Player} {base height : ℕ} {w₀ : List ℕ} (called : Called t a base height w₀)
+module _ {t : Tables} {a : Player} {base height : ℕ} {w₀ : List ℕ} (called : OpinionCalled t a base height w₀)
     {s : ℕ} (size : s ≡ words (vertices t)) {p : ℕ} (top : Top (gameOf t) (onLevel t base w₀) (parity p) p)
     {mine full half : ℕ}
   where
     -- at first
-    pub going-first : {passes : Passes} → Began half passes → Going t a base mine full half w₀ passes w₀
+    pub going-first : {passes : Passes} → Began half passes → PassesGoing t a base mine full half w₀ passes w₀
     unfolding gameOf
     going-first {passes} began =
         record {
@@ -293,7 +293,7 @@ module _ {t : Tables} {a : Player} {base height : ℕ} {w₀ : List ℕ} (called
               rw (began .stage, began .keeps, began .drops) (stage-begins (called .below) (called .total));
         }
 
-    module _ {passes : Passes} {w : List ℕ} (going : Going t a base mine full half w₀ passes w) where
+    module _ {passes : Passes} {w : List ℕ} (going : PassesGoing t a base mine full half w₀ passes w) where
       inside : (v : ℕ) → onLevel t base w v ≡ true → onLevel t base w₀ v ≡ true
       inside = going .standing .narrowed .inside
 
@@ -301,7 +301,7 @@ module _ {t : Tables} {a : Player} {base height : ℕ} {w₀ : List ℕ} (called
       below v q = called .below v (inside v q)
 
       -- what the first cut asks for
-      pub going-ready : Ready t s base w
+      pub going-ready : OpinionReady t s base w
       going-ready =
           record {
             accepted = called .accepted;
@@ -333,7 +333,7 @@ module _ {t : Tables} {a : Player} {base height : ℕ} {w₀ : List ℕ} (called
         fits = record { part = λ v q. and-left (onLevel t base w v) _ q; below = below }
 
         -- what the solver below asks for
-        pub going-called : Called t (opponent a) (base + 8 * s) p w₁
+        pub going-called : OpinionCalled t (opponent a) (base + 8 * s) p w₁
         going-called =
             record {
               accepted = called .accepted;
@@ -371,9 +371,9 @@ module _ {t : Tables} {a : Player} {base height : ℕ} {w₀ : List ℕ} (called
                 (without-right (onLevel t base w) A v in-rest) in
                 omega (arith, differs)
 
-        module _ {k : ℕ} {w₂ : List ℕ} {sub : Sharp} (solved : Solved t (opponent a) (base + 8 * s) k mine w₁ w₂ sub) where
+        module _ {k : ℕ} {w₂ : List ℕ} {sub : Sharp} (solved : SmallDominions t (opponent a) (base + 8 * s) k mine w₁ w₂ sub) where
           -- V stays
-          stays₂ : Stays t (base + words (vertices t)) w w₂
+          stays₂ : OpinionStays t (base + words (vertices t)) w w₂
           stays₂ = stays-on (cut .stays) (stays-under (omega (arith, size)) (solved .stays))
 
           level₂ : (v : ℕ) → onLevel t base w₂ v ≡ onLevel t base w v
@@ -424,7 +424,7 @@ module _ {t : Tables} {a : Player} {base height : ℕ} {w₀ : List ℕ} (called
           next-set : (v : ℕ) → onLevel t (nextLevel (words (vertices t)) base) w₂ v ≡ S v
           next-set v = ap (λ (j : ℕ). onLevel t (base + 8 * j) w₂ v) (sym size)
 
-          below₀ : Stays t base w₀ w₂
+          below₀ : OpinionStays t base w₀ w₂
           below₀ = stays-on (going .stays) (stays-under (omega arith) stays₂)
 
           module _ (early : passes .stage < 3) {w₃ : List ℕ} {r : Passes} where
@@ -439,7 +439,7 @@ module _ {t : Tables} {a : Player} {base height : ℕ} {w₀ : List ℕ} (called
                 half ≡ full / 2 →
                 k ≡ precisionAt (passes .stage) half full →
                 Settled t (opponent a) base w₂ w₃ sub passes half r →
-                Going t a base mine full half w₀ r w₃
+                PassesGoing t a base mine full half w₀ r w₃
             unfolding gameOf
             going-on halved at (inl f) =
                 record {
@@ -447,7 +447,7 @@ module _ {t : Tables} {a : Player} {base height : ℕ} {w₀ : List ℕ} (called
                   standing =
                       subst
                       (λ (X : Set).
-                      Standing (gameOf t) a mine full half (onLevel t base w₀) (r .stage) (r .keeps) (r .drops) X)
+                      StagesStanding (gameOf t) a mine full half (onLevel t base w₀) (r .stage) (r .keeps) (r .drops) X)
                       (sym (fun-ext (left f)))
                       (rw (f .stand .stage, f .stand .keeps, f .stand .drops)
                       (stage-found (omega arith) (passes .stage) (sub .keeps) (sub .drops) early (going .standing)
@@ -460,7 +460,7 @@ module _ {t : Tables} {a : Player} {base height : ℕ} {w₀ : List ℕ} (called
                       rw (f .same)
                       (subst
                       (λ (X : Set).
-                      Standing (gameOf t) a mine full half (onLevel t base w₀) (r .stage) (r .keeps) (r .drops) X)
+                      StagesStanding (gameOf t) a mine full half (onLevel t base w₀) (r .stage) (r .keeps) (r .drops) X)
                       (sym (fun-ext level₂))
                       (rw (f .stand .stage, f .stand .keeps, f .stand .drops)
                       (stage-nothing (omega arith) (passes .stage) (sub .keeps) (sub .drops) early (going .standing)
@@ -523,8 +523,8 @@ module _ {t : Tables} {a : Player} {base height : ℕ} {w₀ : List ℕ} (called
           size′ ≡ sizeAt (vertices t) base w₀ →
           mine ≡ min own size′ →
           full ≡ min other size′ →
-          Ended passes mine full size′ r →
-          Solved t a base own other w₀ w r
+          LevelEnded passes mine full size′ r →
+          SmallDominions t a base own other w₀ w r
       unfolding gameOf
       going-ends {own} {other} {size′} {r} late counted cut₁ cut₂ ended =
           let st = going .standing in

@@ -14,7 +14,7 @@ ghost use mathlib.Core.Path.{_≡_};
 ghost use Prim.Native.Nat.{min};
 ghost use Rattle.rules.specs.Game.{Even, Odd};
 ghost use Rattle.rules.specs.Tables.{tablesOf};
-ghost use Rattle.quasi_solvers.specs.Calling.{Called, Solved};
+ghost use Rattle.quasi_solvers.specs.Calling.{OpinionCalled, SmallDominions};
 
 fn least(a: usize, b: usize) -> usize
     ensures { λ r. ⌜ r ≡ min a b ⌝ }
@@ -34,10 +34,10 @@ pub fn solve_even(
     even: usize,
     odd: usize,
 ) -> Sharp
-    requires { ⌜ Called (tablesOf (now owners) (now priorities) (now offsets) (now targets)) Even base height
+    requires { ⌜ OpinionCalled (tablesOf (now owners) (now priorities) (now offsets) (now targets)) Even base height
         (now work) ⌝ }
     ensures { λ r.
-        ⌜ Solved (tablesOf (now (owners .entry)) (now (priorities .entry)) (now (offsets .entry))
+        ⌜ SmallDominions (tablesOf (now (owners .entry)) (now (priorities .entry)) (now (offsets .entry))
         (now (targets .entry))) Even base even odd (now (work .entry)) (now (work .exit)) r ⌝ }
 {
     let s = parity_game::set_words(owners.len());
@@ -87,10 +87,10 @@ pub fn solve_odd(
     even: usize,
     odd: usize,
 ) -> Sharp
-    requires { ⌜ Called (tablesOf (now owners) (now priorities) (now offsets) (now targets)) Odd base height
+    requires { ⌜ OpinionCalled (tablesOf (now owners) (now priorities) (now offsets) (now targets)) Odd base height
         (now work) ⌝ }
     ensures { λ r.
-        ⌜ Solved (tablesOf (now (owners .entry)) (now (priorities .entry)) (now (offsets .entry))
+        ⌜ SmallDominions (tablesOf (now (owners .entry)) (now (priorities .entry)) (now (offsets .entry))
         (now (targets .entry))) Odd base odd even (now (work .entry)) (now (work .exit)) r ⌝ }
 {
     let s = parity_game::set_words(owners.len());

@@ -7,7 +7,7 @@ use borrow.Author.Tests.{eqb-true, eq-eqb, ne-eqb, lt-ltb, le-ltb, not-false}
 use lib.Dec.{eqb, ltb}
 use lib.ListN.{length}
 use Rattle.rules.specs.Outcome.{Verdict, none, refused, given, _then_}
-use Rattle.rules.specs.Portions.{Lent, roomsWith, endChecks}
+use Rattle.rules.specs.Portions.{LentBetween, roomsWith, endChecks}
 use Rattle.rules.specs.Reading.{Rooms, roomChecks}
 use Rattle.rules.specs.Record.{keptRoom}
 use Rattle.parity_game.specs.Laws.{then-assoc, then-none, given-none}
@@ -40,7 +40,7 @@ unfolding keptRoom
 record-sizes kept r = ap (λ (v : Verdict). keptSize (length kept) then v) (size-checks r)
 
 pub end-sizes :
-    (kept : List ℕ) (l : Lent) (work : List ℕ) →
+    (kept : List ℕ) (l : LentBetween) (work : List ℕ) →
     (keptRoom kept then endChecks l work) ≡
     ((keptSize (length kept) then sizesOf (roomsWith l work)) then stateSize (length (l .state)))
 unfolding keptRoom endChecks

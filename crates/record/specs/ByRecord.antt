@@ -10,7 +10,7 @@ use Rattle.rules.specs.Tables.{Tables, tablesOf, Accepted}
 use Rattle.parity_game.specs.declared.answer.Answer.{Answer}
 use Rattle.parity_game.specs.Said.{said}
 use Rattle.parity_game.specs.Laws.{zero-none}
-use Rattle.theory.specs.Edits.{Roomy, Passing, passing}
+use Rattle.theory.specs.Edits.{Roomy, EditPassing, passing}
 use Rattle.record.specs.Laws.{numbered-record, part-front, part-fronts}
 
 -- the tables as a door lends them: the parts from 0 on

@@ -3,6 +3,8 @@
 // count of them.
 use parity_game::Answer;
 use parity_game::BAD_SIZE;
+use parity_game::MOST_EDGES;
+use parity_game::MOST_VERTICES;
 use parity_game::TABLE_LENGTHS;
 use parity_game::TOO_MANY_EDGES;
 use parity_game::TOO_MANY_VERTICES;
@@ -27,7 +29,7 @@ fn check_sizes(
         ⌜ said r
         ≡ outcome (check1 n then room2 n owners priorities offsets then room3 m targets) (answered 0) ⌝ }
 {
-    if 4096 < n {
+    if MOST_VERTICES < n {
         return Answer::Refused(TOO_MANY_VERTICES);
     }
     if owners < n {
@@ -39,7 +41,7 @@ fn check_sizes(
     if offsets < n + 1 {
         return Answer::Refused(TABLE_LENGTHS);
     }
-    if 16384 < m {
+    if MOST_EDGES < m {
         return Answer::Refused(TOO_MANY_EDGES);
     }
     if targets < m {

@@ -5,6 +5,8 @@ mod said;
 mod text;
 
 use libc::STDOUT_FILENO;
+use replay_solvers::solitaire_differs;
+use replay_solvers::solver_differs;
 
 // On one line: where the next begins, and 1 for each solver that differs.
 struct Line {
@@ -36,37 +38,14 @@ fn judge(
         &mut kept,
     );
     let answer = said::read_said(list, from, n);
-    let zielonka = replay_solvers::solver_differs(
-        false,
-        owners,
-        priorities,
-        offsets,
-        targets,
-        &kept,
-        answer,
-    );
-    let promotion = replay_solvers::solver_differs(
-        true,
-        owners,
-        priorities,
-        offsets,
-        targets,
-        &kept,
-        answer,
-    );
-    let solitaire = replay_solvers::solitaire_differs(
-        owners,
-        priorities,
-        offsets,
-        targets,
-        &kept,
-        answer,
-    );
+    let zielonka = solver_differs(false, owners, priorities, offsets, targets, &kept, answer);
+    let promotion = solver_differs(true, owners, priorities, offsets, targets, &kept, answer);
+    let solitaire = solitaire_differs(owners, priorities, offsets, targets, &kept, answer);
     Line {
         next: end,
-        zielonka: zielonka,
-        promotion: promotion,
-        solitaire: solitaire,
+        zielonka,
+        promotion,
+        solitaire,
     }
 }
 

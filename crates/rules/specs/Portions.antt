@@ -25,7 +25,7 @@ pub data Progress : Type 0 where
   over : Outcome → ℕ → ℕ → Progress
 
 -- what is handed from call to call
-pub record Lent : Type 0 where
+pub record LentBetween : Type 0 where
   pub state : List ℕ
   pub owners : List ℕ
   pub priorities : List ℕ
@@ -33,32 +33,32 @@ pub record Lent : Type 0 where
   pub targets : List ℕ
 
 abbrev pub Meaning : Type 1
-Meaning = Progress → Lent → Type 0
+Meaning = Progress → LentBetween → Type 0
 
 -- the words of the state that are used
 abbrev pub stateWords : ℕ
 stateWords = 32
 
-abbrev pub roomsWith : Lent → List ℕ → Rooms
+abbrev pub roomsWith : LentBetween → List ℕ → Rooms
 roomsWith r work =
     record { owners = r .owners; priorities = r .priorities; offsets = r .offsets; targets = r .targets; work = work }
 
-abbrev pub limitsWith : ℕ → Lent → Limits
+abbrev pub limitsWith : ℕ → LentBetween → Limits
 limitsWith mostBytes r = limitsOf mostBytes (roomsWith r [])
 
 -- 9: rooms that do not fit each other; 10: a state that is too short
-unfoldable pub lentChecks : Lent → Verdict
+unfoldable pub lentChecks : LentBetween → Verdict
 lentChecks r =
     given 9 0
     (not (eqb (length (r .priorities)) (length (r .owners))) || not (eqb (length (r .offsets)) (length (r .owners) + 1))) then
     given 10 0 (ltb (length (r .state)) stateWords)
 
 -- at the end 10 is also a work area that is too short
-unfoldable pub endChecks : Lent → List ℕ → Verdict
+unfoldable pub endChecks : LentBetween → List ℕ → Verdict
 endChecks r work = roomChecks (roomsWith r work) then given 10 0 (ltb (length (r .state)) stateWords)
 
 -- every call keeps the lengths, and the words of the state that are not used
-pub record Kept (before after : Lent) : Type 0 where
+pub record KeptBetween (before after : LentBetween) : Type 0 where
   pub owners : length (after .owners) ≡ length (before .owners)
   pub priorities : length (after .priorities) ≡ length (before .priorities)
   pub offsets : length (after .offsets) ≡ length (before .offsets)
@@ -67,7 +67,7 @@ pub record Kept (before after : Lent) : Type 0 where
   pub behind : drop stateWords (after .state) ≡ drop stateWords (before .state)
 
 -- every entry of the tables is zero
-pub record Emptied (before after : Lent) : Type 0 where
+pub record Emptied (before after : LentBetween) : Type 0 where
   pub owners : after .owners ≡ replicate (length (before .owners)) 0
   pub priorities : after .priorities ≡ replicate (length (before .priorities)) 0
   pub offsets : after .offsets ≡ replicate (length (before .offsets)) 0
@@ -75,43 +75,43 @@ pub record Emptied (before after : Lent) : Type 0 where
 
 -- ---- start
 
-pub record Started (S : Meaning) (mostBytes : ℕ) (before after : Lent) (o : Outcome) : Type 0 where
+pub record Started (S : Meaning) (mostBytes : ℕ) (before after : LentBetween) (o : Outcome) : Type 0 where
   pub gives : o ≡ answered 0
   pub stands : S (reading mostBytes []) after
-  pub kept : Kept before after
+  pub kept : KeptBetween before after
 
-abbrev pub StartsText : Meaning → ℕ → Lent → Lent → Outcome → Type 0
+abbrev pub StartsText : Meaning → ℕ → LentBetween → LentBetween → Outcome → Type 0
 StartsText S mostBytes before after o = Unless (lentChecks before) o before after (Started S mostBytes before after o)
 
 -- ---- a portion
 
 -- 30 and 32 are given by the portion in which their byte stands, every entry is zero at once, and the outcome is there
-abbrev pub Goes : Meaning → ℕ → List ℕ → Lent → Lent → Outcome → Verdict → Type 0
+abbrev pub Goes : Meaning → ℕ → List ℕ → LentBetween → LentBetween → Outcome → Verdict → Type 0
 Goes S mostBytes bytes before after o none = (o ≡ answered 0) × S (reading mostBytes bytes) after
 Goes S mostBytes bytes before after o (refused k p) =
     (o ≡ outcome (refused k p) (answered 0)) × Emptied before after × S (over o 0 0) after
 
-pub record Further (S : Meaning) (mostBytes : ℕ) (bytes : List ℕ) (before after : Lent) (o : Outcome) : Type 0 where
+pub record Further (S : Meaning) (mostBytes : ℕ) (bytes : List ℕ) (before after : LentBetween) (o : Outcome) : Type 0 where
   pub verdict : Verdict
   pub so-far : SoFar (limitsWith mostBytes before) bytes verdict
   pub goes : Goes S mostBytes bytes before after o verdict
 
 -- after a refusal or the end a portion changes nothing and gives that outcome again
-pub record Portioned (S : Meaning) (portion : List ℕ) (before after : Lent) (o : Outcome) : Type 0 where
+pub record Portioned (S : Meaning) (portion : List ℕ) (before after : LentBetween) (o : Outcome) : Type 0 where
   pub further :
       (mostBytes : ℕ) (bytes : List ℕ) →
       S (reading mostBytes bytes) before →
       Further S mostBytes (bytes ++ portion) before after o
   pub again : (g : Outcome) (n m : ℕ) → S (over g n m) before → (o ≡ g) × (after ≡ before)
-  pub kept : Kept before after
+  pub kept : KeptBetween before after
 
-abbrev pub ReadsPortion : Meaning → List ℕ → Lent → Lent → Outcome → Type 0
+abbrev pub ReadsPortion : Meaning → List ℕ → LentBetween → LentBetween → Outcome → Type 0
 ReadsPortion S portion before after o = Unless (lentChecks before) o before after (Portioned S portion before after o)
 
 -- ---- the end
 
 pub record Closing : Type 0 where
-  pub lent : Lent
+  pub lent : LentBetween
   pub work : List ℕ
   pub n : ℕ
   pub m : ℕ
@@ -128,7 +128,7 @@ pub record Announced (S : Meaning) (mostBytes : ℕ) (bytes : List ℕ) (before 
   pub stands : S (over o (after .n) (after .m)) (after .lent)
 
 -- where an outcome is there already it is given again, with n and m; state and tables stay
-pub record Closed (S : Meaning) (before after : Closing) (o : Outcome) : Type 0 where
+pub record ClosedBy (S : Meaning) (before after : Closing) (o : Outcome) : Type 0 where
   pub ends :
       (mostBytes : ℕ) (bytes : List ℕ) →
       S (reading mostBytes bytes) (before .lent) →
@@ -144,11 +144,11 @@ pub record Closed (S : Meaning) (before after : Closing) (o : Outcome) : Type 0 
         n = n;
         m = m;
       })
-  pub kept : Kept (before .lent) (after .lent)
+  pub kept : KeptBetween (before .lent) (after .lent)
   pub behind : drop (usedIn before) (after .work) ≡ drop (usedIn before) (before .work)
 
 abbrev pub EndsReading : Meaning → Closing → Closing → Outcome → Type 0
-EndsReading S before after o = Unless (endChecks (before .lent) (before .work)) o before after (Closed S before after o)
+EndsReading S before after o = Unless (endChecks (before .lent) (before .work)) o before after (ClosedBy S before after o)
 
 -- a closing with the kept numbers of a record
 pub record ClosingRecord : Type 0 where
@@ -156,7 +156,7 @@ pub record ClosingRecord : Type 0 where
   pub kept : List ℕ
 
 pub record ClosedRecord (S : Meaning) (before after : ClosingRecord) (o : Outcome) : Type 0 where
-  pub closed : Closed S (before .closing) (after .closing) o
+  pub closed : ClosedBy S (before .closing) (after .closing) o
   pub kept : after .kept ≡ keptBeside o (after .closing .n) (after .closing .lent .priorities)
 
 -- the public function: 9 is also a kept that is not 258 long; called again it writes kept again, with n and m
@@ -168,14 +168,14 @@ EndsRecord S before after o =
 -- ---- all together
 
 -- a start and then portions, each handed what the call before it left: the bytes that came, and what is lent now
-pub data Session (S : Meaning) (mostBytes : ℕ) (first : Lent) : List ℕ → Lent → Type 0 where
+pub data Session (S : Meaning) (mostBytes : ℕ) (first : LentBetween) : List ℕ → LentBetween → Type 0 where
   started :
-      (after : Lent) (o : Outcome) →
+      (after : LentBetween) (o : Outcome) →
       lentChecks first ≡ none →
       StartsText S mostBytes first after o →
       Session S mostBytes first [] after
   portion :
-      (bytes p : List ℕ) (before after : Lent) (o : Outcome) →
+      (bytes p : List ℕ) (before after : LentBetween) (o : Outcome) →
       Session S mostBytes first bytes before →
       ReadsPortion S p before after o →
       Session S mostBytes first (bytes ++ p) after

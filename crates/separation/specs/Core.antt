@@ -21,7 +21,7 @@ use Rattle.theory.specs.Walks.{Relation, Among, walk-map, reach-stays, stays, h
 use Rattle.theory.specs.Orbit.{comes-back}
 use Rattle.theory.specs.Dominion.{Inside, Dominion, owner-cases, dominion-without, held-trap, held-narrower}
 use Rattle.theory.specs.Attractor.{Fits, attractor-is}
-use Rattle.theory.specs.AttractorRank.{Certificate, attractor-certificate}
+use Rattle.theory.specs.AttractorRank.{Ranked, attractor-certificate}
 use Rattle.theory.specs.AttractorComplement.{TotalIn, own-stays-out, trap-missed}
 
 -- the game that is left when b has fixed σ, with a choosing at every vertex
@@ -152,7 +152,7 @@ module _ {g : Game} {a : Player} {V' D : Set} {σ : ℕ → ℕ} {h : ℕ}
 
     -- where the core is empty, each vertex of D has a step on, and outside U one that sinks to U
     module _ (all : (v : ℕ) → D v ≡ true → reaching v ≡ true) where
-      certificate : Certificate fixed a D U reaching
+      certificate : Ranked fixed a D U reaching
       certificate = attractor-certificate fixed a D U fits
 
       Onward : ℕ → ℕ → Type 0

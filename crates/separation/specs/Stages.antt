@@ -106,7 +106,7 @@ nextStage stage found sharp half =
 
 -- how the passes over V stand at a stage: whether all of a's dominions were kept, and at the end whether all of the opponent's
 -- were dropped
-pub record Standing
+pub record StagesStanding
     (g : Game)
     (a : Player)
     (own full half : ℕ)
@@ -124,7 +124,7 @@ pub record Standing
 module _ {g : Game} {a : Player} {own full half : ℕ} {V₀ V' : Set} {keeps drops : Bool}
     (m : Narrowed g a (raised (g .size) keeps own) V₀ V')
   where
-    at-0 : Standing g a own full half V₀ 0 keeps drops V'
+    at-0 : StagesStanding g a own full half V₀ 0 keeps drops V'
     at-0 =
         record {
           known = omega arith;
@@ -134,7 +134,7 @@ module _ {g : Game} {a : Player} {own full half : ℕ} {V₀ V' : Set} {keeps dr
           ended = λ e. absurd (omega arith);
         }
 
-    at-1 : Barren g a V' half → Standing g a own full half V₀ 1 keeps drops V'
+    at-1 : Barren g a V' half → StagesStanding g a own full half V₀ 1 keeps drops V'
     at-1 barren =
         record {
           known = omega arith;
@@ -144,7 +144,7 @@ module _ {g : Game} {a : Player} {own full half : ℕ} {V₀ V' : Set} {keeps dr
           ended = λ e. absurd (omega arith);
         }
 
-    at-2 : Halved g a full half V₀ V' → Standing g a own full half V₀ 2 keeps drops V'
+    at-2 : Halved g a full half V₀ V' → StagesStanding g a own full half V₀ 2 keeps drops V'
     at-2 halved =
         record {
           known = omega arith;
@@ -156,7 +156,7 @@ module _ {g : Game} {a : Player} {own full half : ℕ} {V₀ V' : Set} {keeps dr
 
     at-3 :
         Separates g a V₀ (raised (g .size) keeps own) (raised (g .size) drops full) V' →
-        Standing g a own full half V₀ 3 keeps drops V'
+        StagesStanding g a own full half V₀ 3 keeps drops V'
     at-3 ended =
         record {
           known = omega arith;
@@ -172,7 +172,7 @@ halved-on :
     Narrowed g a (raised (g .size) keeps own) V₀ V' →
     ((v : ℕ) → V' v ≡ true → v < g .size) →
     Halved g a full half V₀ V' →
-    Standing g a own full half V₀ (cond (eqb half 0) 3 2) keeps false V'
+    StagesStanding g a own full half V₀ (cond (eqb half 0) 3 2) keeps false V'
 unfolding raised
 halved-on {g} {a} {half = half} {V' = V'} m below halved =
     ⊎-elim
@@ -196,7 +196,7 @@ pub stage-begins :
     {g : Game} {a : Player} {own full half : ℕ} {V' : Set} →
     ((v : ℕ) → V' v ≡ true → v < g .size) →
     TotalIn g V' →
-    Standing g a own full half V' (firstStage half) true false V'
+    StagesStanding g a own full half V' (firstStage half) true false V'
 unfolding firstStage
 stage-begins {g} {a} {half = half} {V' = V'} below total =
     ⊎-elim
@@ -230,9 +230,9 @@ module _ {g : Game} {a : Player} {own full half : ℕ} {V₀ V' S : Set} (enough
   pub stage-found :
       (stage : ℕ) {keeps drops : Bool} (sharp kept : Bool) →
       stage < 3 →
-      Standing g a own full half V₀ stage keeps drops V' →
+      StagesStanding g a own full half V₀ stage keeps drops V' →
       Pass g a (raised (g .size) kept own) (raised (g .size) sharp (precisionAt stage half full)) V' S →
-      Standing g a own full half V₀ (nextStage stage true sharp half) (keeps && kept) false
+      StagesStanding g a own full half V₀ (nextStage stage true sharp half) (keeps && kept) false
       (without V' (attractor g (opponent a) V' S))
   unfolding precisionAt nextStage
   stage-found zero {keeps} sharp kept l st pass = at-0 (narrowed-sharp own keeps kept (st .narrowed) (pass-narrows pass))
@@ -259,10 +259,10 @@ module _ {g : Game} {a : Player} {own full half : ℕ} {V₀ V' S : Set} (enough
   pub stage-nothing :
       (stage : ℕ) {keeps drops : Bool} (sharp kept : Bool) →
       stage < 3 →
-      Standing g a own full half V₀ stage keeps drops V' →
+      StagesStanding g a own full half V₀ stage keeps drops V' →
       Pass g a (raised (g .size) kept own) (raised (g .size) sharp (precisionAt stage half full)) V' S →
       ((v : ℕ) → S v ≡ false) →
-      Standing g a own full half V₀ (nextStage stage false sharp half) keeps sharp V'
+      StagesStanding g a own full half V₀ (nextStage stage false sharp half) keeps sharp V'
   unfolding precisionAt nextStage raised
   stage-nothing stage true kept l st pass nothing = at-3 (st .narrowed) (ends-full (st .narrowed) (pass-barren pass nothing))
   stage-nothing zero false kept l st pass nothing = at-1 (st .narrowed) (pass-barren pass nothing)

@@ -14,9 +14,9 @@ use lib.ListN.{length, getD, take, drop, replicate, length-replicate, getD-repli
 use lib.Seq.{getD-take, getD-drop, ext-getD}
 use Rattle.rules.specs.Counting.{some, every, count, times, everyOf}
 use Rattle.rules.specs.Words.{digit, bit, setOf}
-use Rattle.sets.specs.After.{Put, Combined, Cleared, Filled}
+use Rattle.set_bits.specs.After.{Put, Combined, Cleared, Filled}
 use Rattle.basics.specs.Basics.{every-elim, some-false, count-cong, count-on, count-first}
-use Rattle.sets.specs.Digits.{digit-lt, digit-zero}
+use Rattle.set_bits.specs.Digits.{digit-lt, digit-zero}
 use Rattle.sets.specs.Whole.{bit-lt, flag-of-digit}
 
 -- ---- bits and membership

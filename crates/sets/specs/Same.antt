@@ -9,7 +9,7 @@ use lib.Seq.{ext-getD}
 use Rattle.rules.specs.Counting.{Set}
 use Rattle.rules.specs.Words.{bit, Holds}
 use Rattle.basics.specs.Basics.{lt-or-ge}
-use Rattle.sets.specs.Digits.{digits-tell}
+use Rattle.set_bits.specs.Digits.{digits-tell}
 use Rattle.sets.specs.Laws.{bit-of-set}
 use Rattle.sets.specs.Whole.{bit-at}
 

@@ -15,7 +15,7 @@ use lib.Pow.{field, mod-mod-pow}
 use Rattle.rules.specs.Counting.{some, every, count}
 use Rattle.rules.specs.Words.{digit, bit, setOf}
 use Rattle.basics.specs.Basics.{bool-cases, every-intro, every-elim, false-some, some-false, count-cong, count-first}
-use Rattle.sets.specs.Digits.{digit-lt, digit-low, digit-up, digit-zero, digits-tell}
+use Rattle.set_bits.specs.Digits.{digit-lt, digit-low, digit-up, digit-zero, digits-tell}
 
 -- the bits of word i
 pub bit-at : (xs : List ℕ) (i k : ℕ) → k < 64 → bit xs (64 * i + k) ≡ digit (getD xs i 0) k

@@ -54,7 +54,7 @@ numbered-checks t v l =
     (numbered-then (check44 (vertices t) v) (check45 (vertices t) _ _) (numbered-check44 _ _) (numbered-check45 _ _ _))))
 
 -- past the checks
-pub record Passed (t : Tables) (v path cycle work : ℕ) : Type 0 where
+pub record LoopPassed (t : Tables) (v path cycle work : ℕ) : Type 0 where
   pub accepted : Accepted t
   pub work-size : workWords (vertices t) (edgesIn t) ≤ work
   pub one-owner : check11 (vertices t) (t .owners) ≡ none
@@ -73,7 +73,7 @@ check45-none n path cycle e =
     (given-none 45 0 (ltb path (2 * n) || ltb cycle (2 * n)) e) in
     (ltb-false path (2 * n) a, ltb-false cycle (2 * n) b)
 
-pub checks-passed : (t : Tables) (v path cycle work : ℕ) → checksBy t v path cycle work ≡ none → Passed t v path cycle work
+pub checks-passed : (t : Tables) (v path cycle work : ℕ) → checksBy t v path cycle work ≡ none → LoopPassed t v path cycle work
 unfolding Accepted
 checks-passed t v path cycle work e =
     let n = vertices t in

@@ -20,7 +20,7 @@ use Rattle.theory.specs.Loop.{run-solitaire, solitaire-run}
 use Rattle.theory.specs.Solitaire.{accepted-one-owner, solitaire-wins, wins-solitaire, solitaire-rest}
 use Rattle.accepted.specs.Tables.{accepted-total}
 use Rattle.parity_game.specs.Said.{refusal}
-use Rattle.show_loop.specs.Checks.{Passed, checks-passed}
+use Rattle.show_loop.specs.Checks.{LoopPassed, checks-passed}
 use Rattle.show_loop.specs.Running.{lentOf}
 
 -- what 46 leaves
@@ -30,7 +30,7 @@ NoLoop t v before after o =
 
 module _ (t : Tables) (v : ℕ) (before after : LentRun) (o : Outcome) (p : ShowsLoop t v before after o)
     (ok : loopChecks t v before ≡ none) where
-  passed : Passed t v (length (before .path)) (length (before .cycle)) (length (before .work))
+  passed : LoopPassed t v (length (before .path)) (length (before .cycle)) (length (before .work))
   passed = checks-passed t v (length (before .path)) (length (before .cycle)) (length (before .work)) ok
 
   -- **Past the checks there is a run in the lists, or 46, by whether the vertex is in the solitaire set.**

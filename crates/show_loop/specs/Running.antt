@@ -31,16 +31,16 @@ use Rattle.predecessors.specs.Table.{Predecessors}
 use Rattle.predecessors.specs.Whole.{accepted-edges}
 use Rattle.attractor.specs.Attracted.{own-is}
 use Rattle.search_rows.specs.Rows.{behind}
-use Rattle.depth_first.specs.Graph.{Graph, graph, gameIn, Leads, SoundGraph, keeping}
-use Rattle.depth_first.specs.Leading.{link, leads}
+use Rattle.search_links.specs.Graph.{Graph, graph, gameIn, Leads, SoundGraph, keeping}
+use Rattle.search_links.specs.Leading.{link, leads}
 use Rattle.subgame.specs.Parity.{predecessor-rows, graph-sound, game-of}
 use Rattle.loop_search.specs.Finding.{Unled}
 use Rattle.solitaire_game.specs.Running.{rows-fit, sole-owner-small}
-use Rattle.show_loop.specs.Checks.{Passed}
+use Rattle.show_loop.specs.Checks.{LoopPassed}
 use Rattle.show_loop.specs.Writing.{Wrote, Goable, Went, path-some}
 
 -- what `run` asks for: accepted tables of one owner, a vertex, lists with room, and W words
-pub record Runnable (t : Tables) (v : ℕ) (path cycle work : List ℕ) : Type 0 where
+pub record LoopRunnable (t : Tables) (v : ℕ) (path cycle work : List ℕ) : Type 0 where
   pub accepted : Accepted t
   pub one-owner : check11 (vertices t) (t .owners) ≡ none
   pub vertex : v < vertices t
@@ -58,7 +58,7 @@ pub record RunWritten (t : Tables) (v : ℕ) (path path′ cycle cycle′ : List
   pub path-length : on ≡ length vs
   pub cycle-length : round ≡ length ws
 
-pub record Ran (t : Tables) (v : ℕ) (work work′ path path′ cycle cycle′ : List ℕ) (on round : ℕ) : Type 0 where
+pub record LoopRan (t : Tables) (v : ℕ) (work work′ path path′ cycle cycle′ : List ℕ) (on round : ℕ) : Type 0 where
   pub zeros : work′ ≡ replicate (length work) 0
   pub ran :
       ((solitaire (gameOf t) (soleOwner t) v ≡ false) × (path′ ≡ path) × (cycle′ ≡ cycle) × (on ≡ 0)) ⊎
@@ -160,12 +160,12 @@ module _ (t : Tables) (accepted : Accepted t) where
           cycle-length = w .cycle-length;
         }
 
-module _ (t : Tables) (v : ℕ) (path cycle w₀ : List ℕ) (given : Runnable t v path cycle w₀) (owner : ℕ)
+module _ (t : Tables) (v : ℕ) (path cycle w₀ : List ℕ) (given : LoopRunnable t v path cycle w₀) (owner : ℕ)
     (is : owner ≡ getD (t .owners) 0 0) where
   fits : behind (vertices t) (edgesIn t) + vertices t ≤ length w₀
   fits = omega (arith, rows-fit (vertices t) (edgesIn t), given .room)
 
-  pub build-ready : Table.Ready (vertices t) (t .offsets) (t .targets) w₀
+  pub build-ready : Table.TableReady (vertices t) (t .offsets) (t .targets) w₀
   build-ready = record { edges = accepted-edges t (given .accepted); room = omega (arith, fits) }
 
   module _ (w₁ : List ℕ) (built : Predecessors (vertices t) (t .offsets) (t .targets) w₀ w₁) where
@@ -195,7 +195,7 @@ module _ (t : Tables) (v : ℕ) (path cycle w₀ : List ℕ) (given : Runnable t
         (w₂ work′ path′ cycle′ : List ℕ) (on round : ℕ) →
         Went (t .priorities) (t .offsets) (t .targets) [] owner v w₁ w₂ path path′ cycle cycle′ on round →
         work′ ≡ replicate (length w₀) 0 →
-        Ran t v w₀ work′ path path′ cycle cycle′ on round
+        LoopRan t v w₀ work′ path path′ cycle cycle′ on round
     run-ran w₂ work′ path′ cycle′ on round w zeros =
         record {
           zeros = zeros;
@@ -273,7 +273,7 @@ shows-run t v path cycle work path′ cycle′ work′ k on round accepted passe
 module _ (t : Tables) (v : ℕ) (path cycle work path′ cycle′ zeros before : List ℕ) (k on round : ℕ)
     (accepted : Accepted t)
     (passed : loopChecks t v (lentOf path cycle work k) ≡ none)
-    (r : Ran t v before zeros path path′ cycle cycle′ on round) where
+    (r : LoopRan t v before zeros path path′ cycle cycle′ on round) where
   some-path : RunWritten t v path path′ cycle cycle′ on round → 0 < on
   some-path w = let some = path-some (w .run .leads) in omega (arith, w .path-length)
 
@@ -307,8 +307,8 @@ module _ (t : Tables) (v : ℕ) (path cycle work path′ cycle′ zeros before :
 pub run-ready :
     (t : Tables) (v w : ℕ) (path cycle work : List ℕ) →
     w ≡ workWords (vertices t) (edgesIn t) →
-    Passed t v (length path) (length cycle) (length work) →
-    Runnable t v path cycle (take (w - 0) (drop 0 work))
+    LoopPassed t v (length path) (length cycle) (length work) →
+    LoopRunnable t v path cycle (take (w - 0) (drop 0 work))
 run-ready t v w path cycle work is p =
     record {
       accepted = p .accepted;

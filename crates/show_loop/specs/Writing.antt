@@ -12,15 +12,15 @@ use Rattle.theory.specs.Chosen.{chosen-part-cycle}
 use Rattle.theory.specs.Loop.{path-map, last-step}
 use Rattle.theory.specs.Walks.{Relation}
 use Rattle.search_rows.specs.Rows.{labels}
-use Rattle.depth_first.specs.Graph.{Graph, graph, gameIn, Leads}
+use Rattle.search_links.specs.Graph.{Graph, graph, gameIn, Leads}
 use Rattle.breadth_first.specs.Following.{Followable, Followed}
 use Rattle.breadth_first.specs.Spreading.{way-words, way-once}
-use Rattle.breadth_first.specs.Beginning.{Roundable, Rounded, Round}
-use Rattle.loop_search.specs.Finding.{Ready, Led, Unled, Seekable, Met, Sought}
+use Rattle.breadth_first.specs.SearchBegins.{Roundable, Rounded, Round}
+use Rattle.loop_search.specs.Finding.{SearchReady, Led, Unled, Seekable, WayMet, Sought}
 
-pub record Writable (priorities offsets targets entries : List ℕ) (p : ℕ) (work : List ℕ) (v : ℕ)
+pub record LoopWritable (priorities offsets targets entries : List ℕ) (p : ℕ) (work : List ℕ) (v : ℕ)
     (path cycle : List ℕ) : Type 0 where
-  pub ready : Ready priorities offsets targets entries work
+  pub ready : SearchReady priorities offsets targets entries work
   pub led : Led priorities offsets targets entries p work v
   pub few : length priorities ≤ 4096
   pub path-room : length priorities ≤ length path
@@ -74,7 +74,7 @@ path-last (next {v} {vs} e r) =
     ap (λ (k : ℕ). getD (v ∷ vs) k 0) is ∙ path-last r
 
 module _ (priorities offsets targets entries : List ℕ) (p : ℕ) (w₀ : List ℕ) (v : ℕ) (path cycle : List ℕ)
-    (given : Writable priorities offsets targets entries p w₀ v path cycle) where
+    (given : LoopWritable priorities offsets targets entries p w₀ v path cycle) where
   abbrev n : ℕ
   n = length priorities
 
@@ -186,24 +186,24 @@ module _ (priorities offsets targets entries : List ℕ) (parity : ℕ) (w₀ : 
     where
       go :
           ((p ≡ 256) × ((j : ℕ) → j < 128 → Unled priorities offsets targets entries (2 * j + parity) v)) ⊎
-          Met priorities offsets targets entries parity v w₁ p →
+          WayMet priorities offsets targets entries parity v w₁ p →
           (((j : ℕ) → j < 128 → Unled priorities offsets targets entries (2 * j + parity) v) × (path ≡ path) ×
           (cycle ≡ cycle) × (_≡_ {A = ℕ} 0 0)) ⊎
           ((q : ℕ) × (q % 2 ≡ parity) × Wrote priorities offsets targets entries q v path path cycle cycle 0 0)
       go (inl (is, none)) = inl (none, refl, refl, refl)
       go (inr met) = absurd (omega (arith, met .low))
 
-  pub way-met : p ≤ 255 → Met priorities offsets targets entries parity v w₁ p
+  pub way-met : p ≤ 255 → WayMet priorities offsets targets entries parity v w₁ p
   way-met low = go (sought .met)
     where
       go :
           ((p ≡ 256) × ((j : ℕ) → j < 128 → Unled priorities offsets targets entries (2 * j + parity) v)) ⊎
-          Met priorities offsets targets entries parity v w₁ p →
-          Met priorities offsets targets entries parity v w₁ p
+          WayMet priorities offsets targets entries parity v w₁ p →
+          WayMet priorities offsets targets entries parity v w₁ p
       go (inl (is, none)) = absurd (omega arith)
       go (inr met) = met
 
-  pub lists-writable : p ≤ 255 → Writable priorities offsets targets entries p w₁ v path cycle
+  pub lists-writable : p ≤ 255 → LoopWritable priorities offsets targets entries p w₁ v path cycle
   lists-writable low =
       let met = way-met low in
       record { ready = met .ready; led = met .led; few = given .few; path-room = given .path-room; cycle-room = given .cycle-room }

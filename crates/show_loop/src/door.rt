@@ -12,7 +12,7 @@ ghost use Rattle.rules.specs.Loop.{ShowsLoop};
 ghost use Rattle.rules.specs.Record.{freshCount};
 ghost use Rattle.rules.specs.Tables.{tablesOf, Accepted};
 ghost use Rattle.parity_game.specs.Said.{said};
-ghost use Rattle.show_loop.specs.Running.{Runnable, Ran, lentOf};
+ghost use Rattle.show_loop.specs.Running.{LoopRunnable, LoopRan, lentOf};
 
 // The work itself, in W words, which are left 0.
 fn run(
@@ -26,10 +26,10 @@ fn run(
     cycle: &mut [u16],
     work: &mut [u64],
 ) -> Lengths
-    requires { ⌜ Runnable (tablesOf (now owners) (now priorities) (now offsets) (now targets)) v (now path) (now cycle)
+    requires { ⌜ LoopRunnable (tablesOf (now owners) (now priorities) (now offsets) (now targets)) v (now path) (now cycle)
         (now work) × (now kept ≡ freshCount (now priorities)) ⌝ }
     ensures { λ r.
-        ⌜ Ran (tablesOf (now (owners .entry)) (now (priorities .entry)) (now (offsets .entry)) (now (targets .entry))) v
+        ⌜ LoopRan (tablesOf (now (owners .entry)) (now (priorities .entry)) (now (offsets .entry)) (now (targets .entry))) v
         (now (work .entry)) (now (work .exit)) (now (path .entry)) (now (path .exit))
         (now (cycle .entry)) (now (cycle .exit)) (r .path) (r .cycle) ⌝ }
 {

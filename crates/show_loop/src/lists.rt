@@ -2,11 +2,12 @@
 use breadth_first::follow;
 use breadth_first::spread_round;
 use loop_search::seek;
+use parity_game::HIGHEST_PRIORITY;
 use search_rows::Rows;
 ghost use mathlib.Core.Path.{_≡_};
 ghost use lib.ListN.{length};
 ghost use Rattle.rules.specs.Record.{freshCount};
-ghost use Rattle.show_loop.specs.Writing.{Writable, Wrote, Goable, Went};
+ghost use Rattle.show_loop.specs.Writing.{LoopWritable, Wrote, Goable, Went};
 
 // How many vertices the path has, and the cycle; 0 where there is none.
 pub struct Lengths {
@@ -27,7 +28,7 @@ fn write_lists(
     path: &mut [u16],
     cycle: &mut [u16],
 ) -> Lengths
-    requires { ⌜ Writable (now priorities) (now offsets) (now targets) (now entries) p (now work) v (now path)
+    requires { ⌜ LoopWritable (now priorities) (now offsets) (now targets) (now entries) p (now work) v (now path)
         (now cycle) ⌝ }
     ensures { λ r.
         ⌜ (length (now (work .exit)) ≡ length (now (work .entry))) ×
@@ -68,7 +69,7 @@ pub fn write_run(
         (now (cycle .entry)) (now (cycle .exit)) (r .path) (r .cycle) ⌝ }
 {
     let p = seek(priorities, offsets, targets, kept, entries, parity, work, v);
-    if 255 < p {
+    if HIGHEST_PRIORITY < p {
         return Lengths { path: 0, cycle: 0 };
     }
     write_lists(

@@ -47,13 +47,13 @@ numbered-checks t l =
     (numbered-then (check10 (vertices t) (edgesIn t) _) (check11 (vertices t) (t .owners)) (numbered-check10 _ _ _) (numbered-check11 _ _)))
 
 -- past the checks
-pub record Passed (t : Tables) (set work : ℕ) : Type 0 where
+pub record SolitairePassed (t : Tables) (set work : ℕ) : Type 0 where
   pub accepted : Accepted t
   pub set-size : set ≡ words (vertices t)
   pub work-size : workWords (vertices t) (edgesIn t) ≤ work
   pub one-owner : check11 (vertices t) (t .owners) ≡ none
 
-pub checks-passed : (t : Tables) (set work : ℕ) → checksBy t set work ≡ none → Passed t set work
+pub checks-passed : (t : Tables) (set work : ℕ) → checksBy t set work ≡ none → SolitairePassed t set work
 unfolding Accepted
 checks-passed t set work e =
     let one = then-none (tableChecks t) (lentBy (t .owners) (edgesIn t) set work) e in

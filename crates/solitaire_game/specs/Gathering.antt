@@ -16,7 +16,7 @@ use Rattle.sets.specs.After.{Cleared, Filled, Put}
 use Rattle.sets.specs.Laws.{put-set, filled-set}
 use Rattle.area.specs.Area.{setAt, wordsAt}
 use Rattle.area.specs.Lent.{part-is, part-length, part-set, words-cover, bit-fits, back, back-long, back-front, back-behind, back-part}
-use Rattle.depth_first.specs.Area.{marked, marked-alike, true-marked, false-marked, marked-true}
+use Rattle.search_links.specs.Area.{marked, marked-alike, true-marked, false-marked, marked-true}
 use Rattle.area.specs.SetsAt.{set-kept, set-cleared}
 
 -- a row of n words, and behind it a set without a member
@@ -118,19 +118,19 @@ module _ (n s row set : ℕ) (w₀ : List ℕ) (given : Gatherable n s row set w
 
 -- ---- both sets
 
-pub record Placeable (n s row base : ℕ) (work : List ℕ) : Type 0 where
+pub record GoodPlaceable (n s row base : ℕ) (work : List ℕ) : Type 0 where
   pub size : s ≡ words n
   pub low : row + n ≤ base
   pub high : base + s + s ≤ length work
 
 -- all vertices at the base, the marked ones behind them, and every word before the base as it was
-pub record Placed (n s row base : ℕ) (before after : List ℕ) : Type 0 where
+pub record GoodPlaced (n s row base : ℕ) (before after : List ℕ) : Type 0 where
   pub long : length after ≡ length before
   pub front : (i : ℕ) → i < base → getD after i 0 ≡ getD before i 0
   pub full : (v : ℕ) → setAt n base after v ≡ ltb v n
   pub found : (v : ℕ) → setAt n (base + s) after v ≡ marked n row before v
 
-module _ (n s row base : ℕ) (w₀ : List ℕ) (given : Placeable n s row base w₀)
+module _ (n s row base : ℕ) (w₀ : List ℕ) (given : GoodPlaceable n s row base w₀)
     (w₁ : List ℕ) (cleared : Cleared base (s + s) w₀ w₁)
   where
     fits₁ : base + s ≤ length w₁
@@ -170,7 +170,7 @@ module _ (n s row base : ℕ) (w₀ : List ℕ) (given : Placeable n s row base 
                 set-cleared n base (s + s) (base + s) cleared (omega arith) (omega (arith, given .size)) v;
           }
 
-      pub both-placed : (w₃ : List ℕ) → Gathered n row (base + s) n w₂ w₃ → Placed n s row base w₀ w₃
+      pub both-placed : (w₃ : List ℕ) → Gathered n row (base + s) n w₂ w₃ → GoodPlaced n s row base w₀ w₃
       both-placed w₃ g =
           record {
             long = g .long ∙ long₂;

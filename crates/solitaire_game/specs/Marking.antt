@@ -19,27 +19,27 @@ use Rattle.theory.specs.Solitaire.{partsFor}
 use Rattle.theory.specs.SolitaireAttractor.{parts-elim, parts-chosen}
 use Rattle.accepted.specs.Tables.{accepted-priority}
 use Rattle.parity_game.specs.Laws.{accepted-sound}
-use Rattle.predecessors.specs.Table.{Ready, Predecessors}
+use Rattle.predecessors.specs.Table.{TableReady, Predecessors}
 use Rattle.predecessors.specs.Whole.{accepted-edges}
 use Rattle.attractor.specs.Attracted.{Listed, listed-kept, own-is, built-listed}
 use Rattle.search_rows.specs.Rows.{behind}
-use Rattle.depth_first.specs.Area.{Cleared, marked, marked-true}
+use Rattle.search_links.specs.Area.{ClearedUpTo, marked, marked-true}
 use Rattle.subgame.specs.Parity.{Sweepable, Swept, predecessor-rows, graph-sound, swept-all}
 
-pub record Markable (t : Tables) (owner : ℕ) (work : List ℕ) (row : ℕ) : Type 0 where
+pub record GoodMarkable (t : Tables) (owner : ℕ) (work : List ℕ) (row : ℕ) : Type 0 where
   pub accepted : Accepted t
   pub side : owner ≤ 1
   pub low : behind (vertices t) (edgesIn t) ≤ row
   pub high : row + vertices t ≤ length work
 
 -- the predecessor table stands at the front, and the row has the good parts of a's parity
-pub record Marked (t : Tables) (a : Player) (row : ℕ) (before after : List ℕ) : Type 0 where
+pub record GoodMarked (t : Tables) (a : Player) (row : ℕ) (before after : List ℕ) : Type 0 where
   pub long : length after ≡ length before
   pub listed : Listed (vertices t) (t .offsets) (t .targets) after
   pub found : (v : ℕ) → marked (vertices t) row after v ≡ partsFor (gameOf t) a v
 
-module _ (t : Tables) (owner : ℕ) (w0 : List ℕ) (row : ℕ) (given : Markable t owner w0 row)
-    (w1 : List ℕ) (cleared : Cleared row (row + vertices t) w0 w1)
+module _ (t : Tables) (owner : ℕ) (w0 : List ℕ) (row : ℕ) (given : GoodMarkable t owner w0 row)
+    (w1 : List ℕ) (cleared : ClearedUpTo row (row + vertices t) w0 w1)
   where
     abbrev n : ℕ
     n = vertices t
@@ -47,7 +47,7 @@ module _ (t : Tables) (owner : ℕ) (w0 : List ℕ) (row : ℕ) (given : Markabl
     each : length (t .priorities) ≡ n
     each = accepted-sound t (given .accepted) .priority-each
 
-    pub build-ready : Ready n (t .offsets) (t .targets) w1
+    pub build-ready : TableReady n (t .offsets) (t .targets) w1
     build-ready =
         record { edges = accepted-edges t (given .accepted); room = omega (arith, given .low, given .high, cleared .within .long) }
 
@@ -91,7 +91,7 @@ module _ (t : Tables) (owner : ℕ) (w0 : List ℕ) (row : ℕ) (given : Markabl
               ap (some 256) (fun-ext (λ p. ap (λ (b : Bool). b && chosenPart (gameOf t) entries p v) (own-is (p % 2) owner (omega arith) (given .side)))) ∙
               sym (parts-chosen (gameOf t) (playerOf owner) entries (λ u k. absent u) 256 highest v l)
 
-          pub good-marked : Marked t (playerOf owner) row w0 w3
+          pub good-marked : GoodMarked t (playerOf owner) row w0 w3
           unfolding gameOf
           good-marked =
               record {

@@ -18,7 +18,7 @@ use Rattle.accepted.specs.Tables.{accepted-total}
 use Rattle.theory.specs.Zielonka.{zielonka-wins}
 use Rattle.parity_game.specs.Laws.{zero-none}
 use Rattle.sets.specs.Same.{holds-same}
-use Rattle.solitaire_game.specs.Checks.{numbered-checks, Passed, checks-passed}
+use Rattle.solitaire_game.specs.Checks.{numbered-checks, SolitairePassed, checks-passed}
 
 module _ {t : Tables} {before after : LentSet} {o : Outcome} (p : SolvesSolitaire t before after o) where
   -- **It answers whenever nothing is refused.**
@@ -30,7 +30,7 @@ module _ {t : Tables} {before after : LentSet} {o : Outcome} (p : SolvesSolitair
   not-refused e =
       zero-none (solitaireChecks t before) (answered 0) (numbered-checks t before) (ap (λ (x : Outcome). x .number) (sym (p .gives)) ∙ e)
 
-  passed : o .number ≡ 0 → Passed t (length (before .set)) (length (before .work))
+  passed : o .number ≡ 0 → SolitairePassed t (length (before .set)) (length (before .work))
   passed e = checks-passed t (length (before .set)) (length (before .work)) (not-refused e)
 
   answer : o .number ≡ 0 → SolitaireAnswered t before after

@@ -25,17 +25,17 @@ use Rattle.area.specs.Area.{free, setAt, wordsAt}
 use Rattle.attractor.specs.Attracted.{Attractable, Attracted, listed-kept, edges-sound}
 use Rattle.area.specs.Lent.{part-is}
 use Rattle.search_rows.specs.Rows.{behind}
-use Rattle.depth_first.specs.Area.{marked-true}
-use Rattle.solitaire_game.specs.Checks.{Passed}
-use Rattle.solitaire_game.specs.Marking.{Markable, Marked}
-use Rattle.solitaire_game.specs.Gathering.{Placeable, Placed}
+use Rattle.search_links.specs.Area.{marked-true}
+use Rattle.solitaire_game.specs.Checks.{SolitairePassed}
+use Rattle.solitaire_game.specs.Marking.{GoodMarkable, GoodMarked}
+use Rattle.solitaire_game.specs.Gathering.{GoodPlaceable, GoodPlaced}
 
 -- what `run` asks for: accepted tables of one owner, a set of the right size, and W words
 -- what is lent to write in
 abbrev pub lentOf : List ℕ → List ℕ → LentSet
 lentOf set work = record { set = set; work = work }
 
-pub record Runnable (t : Tables) (set work : List ℕ) : Type 0 where
+pub record SolitaireRunnable (t : Tables) (set work : List ℕ) : Type 0 where
   pub accepted : Accepted t
   pub one-owner : check11 (vertices t) (t .owners) ≡ none
   pub set-size : length set ≡ words (vertices t)
@@ -67,7 +67,7 @@ base-free : (t : Tables) (row : ℕ) → row ≡ behind (vertices t) (edgesIn t)
 unfolding words
 base-free t row at = omega arith
 
-module _ (t : Tables) (set w₀ : List ℕ) (given : Runnable t set w₀) (owner : ℕ) (is : owner ≡ getD (t .owners) 0 0)
+module _ (t : Tables) (set w₀ : List ℕ) (given : SolitaireRunnable t set w₀) (owner : ℕ) (is : owner ≡ getD (t .owners) 0 0)
     (row : ℕ) (at : row ≡ behind (vertices t) (edgesIn t)) where
   abbrev n : ℕ
   n = vertices t
@@ -86,14 +86,14 @@ module _ (t : Tables) (set w₀ : List ℕ) (given : Runnable t set w₀) (owner
   fits : base + s + s ≤ length w₀
   fits = omega (arith, rows-fit n (edgesIn t), given .room, given .set-size)
 
-  pub mark-ready : Markable t owner w₀ row
+  pub mark-ready : GoodMarkable t owner w₀ row
   mark-ready = record { accepted = given .accepted; side = sole-owner-small t (given .accepted) owner is; low = omega arith; high = omega (arith, fits) }
 
-  module _ (w₁ : List ℕ) (marks : Marked t (playerOf owner) row w₀ w₁) where
-    pub place-ready : Placeable n s row base w₁
+  module _ (w₁ : List ℕ) (marks : GoodMarked t (playerOf owner) row w₀ w₁) where
+    pub place-ready : GoodPlaceable n s row base w₁
     place-ready = record { size = given .set-size; low = omega arith; high = omega (arith, fits, marks .long) }
 
-    module _ (w₂ : List ℕ) (placed : Placed n s row base w₁ w₂) where
+    module _ (w₂ : List ℕ) (placed : GoodPlaced n s row base w₁ w₂) where
       pub attract-ready : Attractable (t .owners) (t .offsets) (t .targets) owner base (base + s) w₂
       attract-ready =
           record {
@@ -190,8 +190,8 @@ solves-answered t before after passed set work =
 pub run-ready :
     (t : Tables) (w : ℕ) (set work : List ℕ) →
     w ≡ workWords (vertices t) (edgesIn t) →
-    Passed t (length set) (length work) →
-    Runnable t set (take (w - 0) (drop 0 work))
+    SolitairePassed t (length set) (length work) →
+    SolitaireRunnable t set (take (w - 0) (drop 0 work))
 run-ready t w set work is p =
     record {
       accepted = p .accepted;

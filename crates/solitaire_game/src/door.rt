@@ -13,7 +13,7 @@ ghost use Rattle.rules.specs.Solitaire.{SolvesSolitaire, solitaire, soleOwner};
 ghost use Rattle.rules.specs.Tables.{gameOf, vertices, tablesOf, Accepted};
 ghost use Rattle.rules.specs.Words.{Holds};
 ghost use Rattle.parity_game.specs.Said.{said};
-ghost use Rattle.solitaire_game.specs.Running.{Runnable};
+ghost use Rattle.solitaire_game.specs.Running.{SolitaireRunnable};
 
 // The work itself, in W words, which are left 0: the attractor of the good parts, for the owner, among all vertices.
 fn run(
@@ -25,7 +25,7 @@ fn run(
     set: &mut [u64],
     work: &mut [u64],
 )
-    requires { ⌜ Runnable (tablesOf (now owners) (now priorities) (now offsets) (now targets)) (now set) (now work) ×
+    requires { ⌜ SolitaireRunnable (tablesOf (now owners) (now priorities) (now offsets) (now targets)) (now set) (now work) ×
         (now kept ≡ freshCount (now priorities)) ⌝ }
     ensures { λ _.
         ⌜ (let t =

@@ -3,8 +3,8 @@ ghost use mathlib.Core.Path.{_≡_};
 ghost use Rattle.rules.specs.Game.{playerOf};
 ghost use Rattle.rules.specs.Record.{freshCount};
 ghost use Rattle.rules.specs.Tables.{tablesOf};
-ghost use Rattle.solitaire_game.specs.Marking.{Markable, Marked};
-ghost use Rattle.solitaire_game.specs.Gathering.{Gatherable, Gathered, Placeable, Placed};
+ghost use Rattle.solitaire_game.specs.Marking.{GoodMarkable, GoodMarked};
+ghost use Rattle.solitaire_game.specs.Gathering.{Gatherable, Gathered, GoodPlaceable, GoodPlaced};
 
 // Marks the vertices in good parts in a row of n words, and leaves the predecessor table at the front. Without entries
 // every vertex keeps all its edges.
@@ -18,10 +18,10 @@ pub fn mark_good(
     work: &mut [u64],
     row: usize,
 )
-    requires { ⌜ Markable (tablesOf (now owners) (now priorities) (now offsets) (now targets)) owner (now work)
+    requires { ⌜ GoodMarkable (tablesOf (now owners) (now priorities) (now offsets) (now targets)) owner (now work)
         row × (now kept ≡ freshCount (now priorities)) ⌝ }
     ensures { λ _.
-        ⌜ Marked
+        ⌜ GoodMarked
         (tablesOf (now (owners .entry)) (now (priorities .entry)) (now (offsets .entry)) (now (targets .entry)))
         (playerOf owner) row (now (work .entry)) (now (work .exit)) ⌝ }
 {
@@ -54,8 +54,8 @@ fn gather(work: &mut [u64], n: usize, s: usize, row: usize, set: usize)
 
 // All vertices stand at `base`, and behind them the marked ones.
 pub fn place(work: &mut [u64], n: usize, s: usize, row: usize, base: usize)
-    requires { ⌜ Placeable n s row base (now work) ⌝ }
-    ensures { λ _. ⌜ Placed n s row base (now (work .entry)) (now (work .exit)) ⌝ }
+    requires { ⌜ GoodPlaceable n s row base (now work) ⌝ }
+    ensures { λ _. ⌜ GoodPlaced n s row base (now (work .entry)) (now (work .exit)) ⌝ }
 {
     sets::clear(work, base, s + s);
     sets::fill(&mut work[base..base + s], n);

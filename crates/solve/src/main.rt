@@ -1,7 +1,7 @@
 // The program of PGSolver files: reads a text from standard input, takes at most one argument, a budget for each
 // engine, and prints one line. What the line says is proved of the functions that `main` calls.
+use arguments::Asked;
 use libc::STDOUT_FILENO;
-use printing::Asked;
 
 // One byte more than the limit is enough: the line for so many bytes is the line for the whole input
 // (`front-prints` of solving/specs/Front.antt).
@@ -23,7 +23,7 @@ fn print_refused() {
 fn main() {
     let mut first = [0u8; 16];
     let length = os::arg(1, &mut first);
-    match printing::ask(os::arg_count(), &first[0..length]) {
+    match arguments::ask(os::arg_count(), &first[0..length]) {
         Asked::Budget(budget) => print_text(budget),
         Asked::Wrong => print_refused(),
     }

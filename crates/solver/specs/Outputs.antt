@@ -20,8 +20,8 @@ use Rattle.theory.specs.Zielonka.{determinacy}
 use Rattle.sets.specs.Laws.{other-bit}
 use Rattle.area.specs.Area.{entries, setAt, entryAt}
 use Rattle.area.specs.Lent.{part-is, part-length, words-enough}
-use Rattle.solver.specs.Entries.{ownerWins, Enterable, Written}
-use Rattle.solver.specs.Running.{Outputs, Finished}
+use Rattle.solver_entries.specs.Entries.{ownerWins, StrategyWritable, StrategyWritten}
+use Rattle.solver.specs.Running.{Outputs, AnsweredWithin}
 
 -- ---- what `write_out` asks for and leaves
 
@@ -32,14 +32,14 @@ pub record Writable (owners : List ℕ) (s from at : ℕ) (work even odd strateg
   pub entries : from + length owners ≤ length work
   pub sets : at + s + s ≤ length work
   pub enterable :
-      Enterable owners (take s (drop at work)) (take s (drop (at + s) work)) (take (length owners) (drop from work)) strategy
+      StrategyWritable owners (take s (drop at work)) (take s (drop (at + s) work)) (take (length owners) (drop from work)) strategy
 
 -- the sets as they stand, and the strategy by them
 pub record WroteOut (owners : List ℕ) (s from at : ℕ) (work : List ℕ) (before after : Outputs) : Type 0 where
   pub even : after .even ≡ take s (drop at work)
   pub odd : after .odd ≡ take s (drop (at + s) work)
   pub strategy :
-      Written owners (take s (drop at work)) (take s (drop (at + s) work)) (take (length owners) (drop from work))
+      StrategyWritten owners (take s (drop at work)) (take s (drop (at + s) work)) (take (length owners) (drop from work))
       (before .strategy) (after .strategy)
   pub even-narrow : Narrow (after .even)
   pub odd-narrow : Narrow (after .odd)
@@ -51,7 +51,7 @@ partAt a k work = take ((a + k) - a) (drop a work)
 pub lent-enterable :
     {owners : List ℕ} {s from at : ℕ} {work even odd strategy : List ℕ} →
     Writable owners s from at work even odd strategy →
-    Enterable owners (partAt at s work) (partAt (at + s) s work) (partAt from (length owners) work) strategy
+    StrategyWritable owners (partAt at s work) (partAt (at + s) s work) (partAt from (length owners) work) strategy
 lent-enterable {owners} {s} {from} {at} {work} w =
     rw (part-is at s work, part-is (at + s) s work, part-is from (length owners) work) (w .enterable)
 
@@ -59,7 +59,7 @@ pub wrote-parts :
     {owners : List ℕ} (s from at : ℕ) (work : List ℕ) {even odd strategy : List ℕ} (was : Outputs) →
     even ≡ partAt at s work →
     odd ≡ partAt (at + s) s work →
-    Written owners (partAt at s work) (partAt (at + s) s work) (partAt from (length owners) work) (was .strategy) strategy →
+    StrategyWritten owners (partAt at s work) (partAt (at + s) s work) (partAt from (length owners) work) (was .strategy) strategy →
     Narrow even →
     Narrow odd →
     WroteOut owners s from at work was (record { even = even; odd = odd; strategy = strategy })
@@ -81,7 +81,7 @@ wonFrom s at Odd = at + s
 
 -- the sets that are won, and the entries: a table that has them at the winners' own vertices, and none elsewhere, is the rules'
 -- choice, which wins
-pub record Found (t : Tables) (won : Player → Set) (choice : ℕ → ℕ) (s at : ℕ) (work : List ℕ) : Type 0 where
+pub record WinnersFound (t : Tables) (won : Player → Set) (choice : ℕ → ℕ) (s at : ℕ) (work : List ℕ) : Type 0 where
   pub accepted : Accepted t
   pub size : s ≡ words (vertices t)
   pub low : entries (vertices t) (edgesIn t) + vertices t ≤ at
@@ -107,7 +107,7 @@ getD-any [] k x y h = absurd (not-suc-le-zero h)
 getD-any (z ∷ l) zero x y h = refl
 getD-any (z ∷ l) (suc k) x y h = getD-any l k x y (le-of-suc-le-suc h)
 
-module _ {t : Tables} {won : Player → Set} {choice : ℕ → ℕ} {s at : ℕ} {w : List ℕ} (found : Found t won choice s at w) where
+module _ {t : Tables} {won : Player → Set} {choice : ℕ → ℕ} {s at : ℕ} {w : List ℕ} (found : WinnersFound t won choice s at w) where
   abbrev n : ℕ
   n = vertices t
 
@@ -250,7 +250,7 @@ module _ {t : Tables} {won : Player → Set} {choice : ℕ → ℕ} {s at : ℕ}
 
       -- **What is written out is what the rules ask for.**
       pub found-finished :
-          {budget needed made : ℕ} → made ≡ needed → made ≤ budget → Finished budget t needed won choice made after
+          {budget needed made : ℕ} → made ≡ needed → made ≤ budget → AnsweredWithin budget t needed won choice made after
       found-finished is within =
           record {
             exact = is;

@@ -37,7 +37,7 @@ abbrev pub outputsOf : Lent → Outputs
 outputsOf l = record { even = l .even; odd = l .odd; strategy = l .strategy }
 
 -- an answer within the budget
-pub record Finished
+pub record AnsweredWithin
     (budget : ℕ)
     (t : Tables)
     (needed : ℕ)
@@ -59,7 +59,7 @@ pub record Halted (budget needed : ℕ) (before after : Outputs) : Type 0 where
 
 -- by cases on what the run gave
 abbrev pub Runs : ℕ → Tables → ℕ → (Player → Set) → (ℕ → ℕ) → Outputs → Outputs → Ran → Type 0
-Runs budget t needed won entries before after (Needed made) = Finished budget t needed won entries made after
+Runs budget t needed won entries before after (Needed made) = AnsweredWithin budget t needed won entries made after
 Runs budget t needed won entries before after OverBudget = Halted budget needed before after
 
 -- a refusal is given as it is, and nothing is written
@@ -92,7 +92,7 @@ solves-refused budget t needed won entries l o e h =
 solves-answered :
     (budget : ℕ) (t : Tables) (needed : ℕ) (won : Player → Set) (entries : ℕ → ℕ) (before after : Lent) (made : ℕ) →
     solverChecks t before ≡ none →
-    Finished budget t needed won entries made (outputsOf after) →
+    AnsweredWithin budget t needed won entries made (outputsOf after) →
     after .work ≡ cleared t (before .work) →
     Solves budget t needed won entries before after (answered made)
 solves-answered budget t needed won entries before after made passed f work =

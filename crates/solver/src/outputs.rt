@@ -1,5 +1,5 @@
 // What a solver has found is written out.
-use crate::entries::write_strategy;
+use solver_entries::write_strategy;
 ghost use Rattle.solver.specs.Outputs.{Writable, WroteOut};
 
 // What Even wins stands at `at`, what Odd wins behind it, and the entries at `from`.

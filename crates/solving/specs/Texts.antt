@@ -19,7 +19,7 @@ use Rattle.rules.specs.Tables.{Tables, tablesOf, vertices, edgesIn, gameOf, tab
 use Rattle.basics.specs.Basics.{length-listed}
 use Rattle.parity_game.specs.Laws.{Numbered, numbered-then, numbered-given, numbered-givenAt, numbered-tables}
 use Rattle.parity_game.specs.Laws.{zero-none, then-none}
-use Rattle.both_engines.specs.Solved.{Given}
+use Rattle.both_engines.specs.Solved.{EnginesGiven}
 
 -- A1's rooms, with nothing in them
 abbrev pub rooms : Rooms
@@ -177,9 +177,9 @@ module _ (text : List ℕ) (after : Written) (o : Outcome) (read : ReadsText gam
         256 ≤ length out →
         length (after .rooms .owners) ≡ 128 →
         length (after .rooms .targets) ≡ 512 →
-        Given (cut after) out
+        EnginesGiven (cut after) out
     game-given out room owners targets =
-        subst (λ (t : Tables). Given t out) (sym is-read)
+        subst (λ (t : Tables). EnginesGiven t out) (sym is-read)
         (record {
           accepted = accepted;
           few = omega (arith, few owners, ap (λ (w : Written). w .n) left);

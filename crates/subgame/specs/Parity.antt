@@ -22,16 +22,16 @@ use Rattle.basics.specs.Basics.{bool-ext, and-intro, and-left, and-right, some-
 use Rattle.theory.specs.Chosen.{chosenPart}
 use Rattle.theory.specs.Counts.{length-fresh, take-fresh, counted-used}
 use Rattle.parity_game.specs.Laws.{accepted-sound}
-use Rattle.predecessors.specs.Table.{start, row, Ready, Predecessors}
+use Rattle.predecessors.specs.Table.{start, row, TableReady, Predecessors}
 use Rattle.predecessors.specs.Whole.{starts-grow, row-length, row-at, accepted-edges}
 use Rattle.search_rows.specs.Rows.{marks, behind}
-use Rattle.depth_first.specs.Area.{marked, false-marked}
-use Rattle.depth_first.specs.Graph.{Graph, graph, size, edgeCount, gameIn, linksIn, SoundGraph}
-use Rattle.depth_first.specs.Seeking.{Rows}
-use Rattle.parts.specs.Whole.{Markable, Marked}
+use Rattle.search_links.specs.Area.{marked, false-marked}
+use Rattle.search_links.specs.Graph.{Graph, graph, size, edgeCount, gameIn, linksIn, SoundGraph}
+use Rattle.backward_look.specs.Seeking.{Rows}
+use Rattle.parts.specs.Whole.{PartsMarkable, PartsMarked}
 
 pub record Sweepable (priorities offsets targets entries : List ℕ) (parity : ℕ) (work : List ℕ) (base : ℕ) : Type 0 where
-  pub markable : (p : ℕ) → Markable (graph priorities offsets targets entries p) work base
+  pub markable : (p : ℕ) → PartsMarkable (graph priorities offsets targets entries p) work base
   pub parity-small : parity ≤ 1
 
 -- the priorities 2 j + parity for j below k were gone through
@@ -84,7 +84,7 @@ kept-unused ps kept p fresh low zero =
 pub marked-unused :
     (G : Graph) (base : ℕ) (work : List ℕ) →
     some (size G) (λ v. eqb (getD (G .priorities) v 0) (G .top)) ≡ false →
-    Marked G base work work
+    PartsMarked G base work work
 unfolding goodPart
 marked-unused G base work none =
     record {
@@ -148,7 +148,7 @@ module _ (priorities offsets targets entries : List ℕ) (parity : ℕ) (before 
       }
 
   module _ (k : ℕ) (work : List ℕ) (s : Swept priorities offsets targets entries parity base k before work) where
-    pub sweep-ready : Markable (graph priorities offsets targets entries (2 * k + parity)) work base
+    pub sweep-ready : PartsMarkable (graph priorities offsets targets entries (2 * k + parity)) work base
     sweep-ready =
         let m = given .markable (2 * k + parity) in
         record {
@@ -158,7 +158,7 @@ module _ (priorities offsets targets entries : List ℕ) (parity : ℕ) (before 
           fits = omega (arith, m .fits, s .long);
         }
 
-    pub swept-more : (after : List ℕ) → Marked (graph priorities offsets targets entries (2 * k + parity)) base work after →
+    pub swept-more : (after : List ℕ) → PartsMarked (graph priorities offsets targets entries (2 * k + parity)) base work after →
         Swept priorities offsets targets entries parity base (k + 1) before after
     unfolding some
     swept-more after a =
@@ -180,7 +180,7 @@ module _ (priorities offsets targets entries : List ℕ) (parity : ℕ) (before 
 
 -- ---- what callers bring
 
-module _ (t : Tables) (accepted : Accepted t) (before after : List ℕ) (ready : Ready (vertices t) (t .offsets) (t .targets) before)
+module _ (t : Tables) (accepted : Accepted t) (before after : List ℕ) (ready : TableReady (vertices t) (t .offsets) (t .targets) before)
     (p : Predecessors (vertices t) (t .offsets) (t .targets) before after) where
   abbrev vs : ℕ
   vs = vertices t

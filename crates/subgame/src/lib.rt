@@ -8,8 +8,8 @@ pub use parity::mark_used;
 use parity_game::Priority;
 ghost use mathlib.Core.Path.{_≡_};
 ghost use Prim.Native.Nat.{_<_};
-ghost use Rattle.depth_first.specs.Graph.{graph};
-ghost use Rattle.parts.specs.Whole.{Markable, Marked};
+ghost use Rattle.search_links.specs.Graph.{graph};
+ghost use Rattle.parts.specs.Whole.{PartsMarkable, PartsMarked};
 
 // The game restricted to the vertices of priority at most top.
 pub struct Subgame<'a> {
@@ -33,10 +33,10 @@ impl<'a> Subgame<'a> {
         work: &mut [u64],
         base: usize,
     )
-        requires { ⌜ Markable (graph (now priorities) (now offsets) (now (self .targets)) (now entries) (self .top .0))
+        requires { ⌜ PartsMarkable (graph (now priorities) (now offsets) (now (self .targets)) (now entries) (self .top .0))
             (now work) base × (self .top .0 < 256) ⌝ }
         ensures { λ _.
-            ⌜ Marked (graph (now (priorities .entry)) (now (offsets .entry)) (now (self .entry .targets))
+            ⌜ PartsMarked (graph (now (priorities .entry)) (now (offsets .entry)) (now (self .entry .targets))
             (now (entries .entry)) (self .entry .top .0))
             base (now (work .entry)) (now (work .exit)) ⌝ }
     {
@@ -62,10 +62,10 @@ pub fn mark_parts(
     work: &mut [u64],
     base: usize,
 )
-    requires { ⌜ Markable (graph (now priorities) (now offsets) (now targets) (now entries) (top .0)) (now work) base ×
+    requires { ⌜ PartsMarkable (graph (now priorities) (now offsets) (now targets) (now entries) (top .0)) (now work) base ×
         (top .0 < 256) ⌝ }
     ensures { λ _.
-        ⌜ Marked (graph (now (priorities .entry)) (now (offsets .entry)) (now (targets .entry))
+        ⌜ PartsMarked (graph (now (priorities .entry)) (now (offsets .entry)) (now (targets .entry))
         (now (entries .entry)) (top .0))
         base (now (work .entry)) (now (work .exit)) ⌝ }
 {

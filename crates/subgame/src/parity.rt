@@ -3,8 +3,8 @@ use parity_game::Priority;
 ghost use mathlib.Core.Path.{_≡_};
 ghost use Prim.Native.Nat.{_<_};
 ghost use Rattle.rules.specs.Record.{freshCount};
-ghost use Rattle.depth_first.specs.Graph.{graph};
-ghost use Rattle.parts.specs.Whole.{Markable, Marked};
+ghost use Rattle.search_links.specs.Graph.{graph};
+ghost use Rattle.parts.specs.Whole.{PartsMarkable, PartsMarked};
 ghost use Rattle.subgame.specs.Parity.{Sweepable, Swept};
 
 // A priority that no vertex has, by the kept numbers, has no part, and no search.
@@ -18,10 +18,10 @@ pub fn mark_used(
     work: &mut [u64],
     base: usize,
 )
-    requires { ⌜ Markable (graph (now priorities) (now offsets) (now targets) (now entries) p) (now work) base ×
+    requires { ⌜ PartsMarkable (graph (now priorities) (now offsets) (now targets) (now entries) p) (now work) base ×
         (now kept ≡ freshCount (now priorities)) × (p < 256) ⌝ }
     ensures { λ _.
-        ⌜ Marked (graph (now (priorities .entry)) (now (offsets .entry)) (now (targets .entry))
+        ⌜ PartsMarked (graph (now (priorities .entry)) (now (offsets .entry)) (now (targets .entry))
         (now (entries .entry)) p)
         base (now (work .entry)) (now (work .exit)) ⌝ }
 {

@@ -1,3 +1,5 @@
 -- The edges of a vertex by their places, and the lowest-numbered of their ends in a set.
-pub mod Edges
+-- contracts: what the functions ask for and leave
 pub mod Lowest
+-- laws: what other crates cite
+pub mod Edges

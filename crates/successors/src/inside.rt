@@ -1,13 +1,21 @@
 // The lowest-numbered successor inside a set.
+use parity_game::VertexIndex;
 ghost use mathlib.Core.Path.{_≡_};
 ghost use Rattle.attractor_counters.specs.Counters.{EdgesOf};
 ghost use Rattle.successors.specs.Lowest.{lowestEnd};
 
-// The lowest-numbered end of an edge of v inside the set, n where there is none.
-pub fn lowest_inside(n: usize, offsets: &[u16], targets: &[u16], v: usize, set: &[u64]) -> u64
-    requires { ⌜ EdgesOf (now offsets) (now targets) v (now set) ⌝ }
-    ensures { λ r. ⌜ r ≡ lowestEnd n (now (offsets .entry)) (now (targets .entry)) v (now (set .entry)) ⌝ }
+// The lowest-numbered end of an edge of the vertex inside the set, n where there is none.
+pub fn lowest_inside(
+    n: usize,
+    offsets: &[u16],
+    targets: &[u16],
+    vertex: VertexIndex,
+    set: &[u64],
+) -> u64
+    requires { ⌜ EdgesOf (now offsets) (now targets) (vertex .0) (now set) ⌝ }
+    ensures { λ r. ⌜ r ≡ lowestEnd n (now (offsets .entry)) (now (targets .entry)) (vertex .0) (now (set .entry)) ⌝ }
 {
+    let v = vertex.0;
     let mut lowest = n;
     for e in offsets[v] as usize..offsets[v + 1] as usize {
         let w = targets[e] as usize;

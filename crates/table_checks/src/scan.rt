@@ -1,4 +1,5 @@
 // What 4 to 8 ask, each in one pass that is not left early.
+use parity_game::HIGHEST_PRIORITY;
 ghost use mathlib.Core.Bool.{true};
 ghost use mathlib.Core.Path.{_≡_};
 ghost use Prim.Native.Nat.{_+_};
@@ -60,7 +61,7 @@ pub fn are_well(owners: &[u8], priorities: &[u16], offsets: &[u16], targets: &[u
     if 1 < highest_byte(owners) {
         return false;
     }
-    if 255 < highest(priorities) {
+    if HIGHEST_PRIORITY < highest(priorities) {
         return false;
     }
     if offsets[0] != 0 {

@@ -7,12 +7,13 @@ use Prim.Native.Nat.{ℕ, zero, suc}
 use Rattle.rules.specs.Counting.{Set}
 use Rattle.rules.specs.Game.{Player, Game, Edge, same}
 use Rattle.rules.specs.Words.{entry}
-use Rattle.rules.specs.Attractor.{IsAttractor, attractor, Avoids, still, own, other, AttractorEntries}
+use Rattle.rules.specs.Attractor.{IsAttractor, attractor}
+use Rattle.theory.specs.Arriving.{Avoids, still, own, other, AttractorEntries}
 use Rattle.basics.specs.Basics.{clash, not-true-is-false, not-false-is-true}
 use Rattle.theory.specs.Players.{player-decided, true-same, false-same}
 use Rattle.theory.specs.Attractor.{Fits}
 use Rattle.theory.specs.AttractorComplement.{own-stays-out, other-gets-out}
-use Rattle.theory.specs.AttractorRank.{Certificate, attractor-certificate, is-certificate}
+use Rattle.theory.specs.AttractorRank.{Ranked, attractor-certificate, is-certificate}
 
 -- the game in which an own vertex has the one edge of its entry
 abbrev kept : Game → Player → List ℕ → Game
@@ -50,13 +51,13 @@ module _
     (entries : AttractorEntries g a V' T S strategy)
   where
     -- what would be drawn in if own vertices had the edges of their entries alone
-    abbrev sure : Certificate (kept g a strategy) a V' T (attractor (kept g a strategy) a V' T)
+    abbrev sure : Ranked (kept g a strategy) a V' T (attractor (kept g a strategy) a V' T)
     sure = attractor-certificate (kept g a strategy) a V' T (record { part = fits .part; below = fits .below })
 
     abbrev Sure : Set
     Sure = attractor (kept g a strategy) a V' T
 
-    abbrev cert : Certificate g a V' T S
+    abbrev cert : Ranked g a V' T S
     cert = is-certificate g a V' T S fits is
 
     unsure-outside : (v : ℕ) → Sure v ≡ false → T v ≡ false
@@ -98,7 +99,7 @@ module _
         not-false-is-true (Sure v) (λ q. entries .arrives v (fits .below v (cert .inside v p)) p (unsure-avoids (g .size) v p q))
 
     -- **the entries make a certificate**
-    pub entries-certificate : Certificate g a V' T S
+    pub entries-certificate : Ranked g a V' T S
     entries-certificate =
         record {
           rank = sure .rank;

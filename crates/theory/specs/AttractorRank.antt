@@ -12,7 +12,8 @@ use Rattle.rules.specs.Game.{Player, Game, Edge}
 use Rattle.rules.specs.Words.{noEntry, entry}
 use Rattle.rules.specs.Winning.{Walk, one, more, Cycle}
 use Rattle.rules.specs.Distance.{distance}
-use Rattle.rules.specs.Attractor.{Closed, IsAttractor, attractor, Avoids, still, own, other, AttractorEntries}
+use Rattle.rules.specs.Attractor.{Closed, IsAttractor, attractor}
+use Rattle.theory.specs.Arriving.{Avoids, still, own, other, AttractorEntries}
 use Rattle.basics.specs.Basics.{bool-cases, clash, not-false-is-true}
 use Rattle.theory.specs.Players.{player-decided}
 use Rattle.theory.specs.Attractor.{by-own, by-other, drawn-so, draws-all, draws-one, Fits}
@@ -21,7 +22,7 @@ use Rattle.theory.specs.Distance.{grown-near, distance-low, distance-tar
 
 -- S is the attractor of T in V', shown by ranks: T has rank 0, an own vertex outside T has an entry to a lower rank, and from
 -- another's vertex outside T there is an inside edge, and every inside edge leads to a lower rank
-pub record Certificate (g : Game) (a : Player) (V' T S : Set) : Type 0 where
+pub record Ranked (g : Game) (a : Player) (V' T S : Set) : Type 0 where
   pub rank : ℕ → ℕ
   -- the entry of an own vertex
   pub pull : ℕ → ℕ
@@ -47,7 +48,7 @@ pub record Certificate (g : Game) (a : Player) (V' T S : Set) : Type 0 where
   pub leads : (v : ℕ) → S v ≡ true → T v ≡ false → (g .owner v ≡ a → ⊥) → (w : ℕ) × Edge g v w × (V' w ≡ true)
 
 -- **the rules' attractor has a certificate**: distances, and the lowest-numbered successor that is nearer
-pub attractor-certificate : (g : Game) (a : Player) (V' T : Set) → Fits g V' T → Certificate g a V' T (attractor g a V' T)
+pub attractor-certificate : (g : Game) (a : Player) (V' T : Set) → Fits g V' T → Ranked g a V' T (attractor g a V' T)
 attractor-certificate g a V' T fits =
     record {
       rank = distance g a V' T;
@@ -77,8 +78,8 @@ unfoldable pub certificate-cong :
     ((v : ℕ) → V₁ v ≡ V₂ v) →
     ((v : ℕ) → T₁ v ≡ T₂ v) →
     ((v : ℕ) → S₁ v ≡ S₂ v) →
-    Certificate g a V₁ T₁ S₁ →
-    Certificate g a V₂ T₂ S₂
+    Ranked g a V₁ T₁ S₁ →
+    Ranked g a V₂ T₂ S₂
 certificate-cong {g} {a} {V₁} {V₂} {T₁} {T₂} {S₁} {S₂} sameV sameT sameS cert =
     record {
       rank = cert .rank;
@@ -104,7 +105,7 @@ pub same-certificate :
     (g : Game) (a : Player) (V' T S : Set) →
     Fits g V' T →
     ((v : ℕ) → attractor g a V' T v ≡ S v) →
-    Certificate g a V' T S
+    Ranked g a V' T S
 same-certificate g a V' T S fits is = certificate-cong (λ v. refl) (λ v. refl) is (attractor-certificate g a V' T fits)
 
 pub same-pull :
@@ -114,11 +115,11 @@ unfolding same-certificate certificate-cong
 same-pull g a V' T S fits is v = attractor-pull g a V' T fits v
 
 pub is-certificate :
-    (g : Game) (a : Player) (V' T S : Set) → Fits g V' T → IsAttractor g a V' T S → Certificate g a V' T S
+    (g : Game) (a : Player) (V' T S : Set) → Fits g V' T → IsAttractor g a V' T S → Ranked g a V' T S
 is-certificate g a V' T S fits is =
     same-certificate g a V' T S fits (attractor-unique (attractor-is g a V' T fits) is)
 
-module _ {g : Game} {a : Player} {V' T S : Set} (c : Certificate g a V' T S) where
+module _ {g : Game} {a : Player} {V' T S : Set} (c : Ranked g a V' T S) where
   -- a member outside T has a rank above 0
   pub rank-pos : (v : ℕ) → S v ≡ true → T v ≡ false → 0 < c .rank v
   rank-pos v p t =
@@ -203,7 +204,7 @@ module _
     unfolding after
     after-start v t = rw t
 
-    pub order-certificate : Certificate g a V' T S
+    pub order-certificate : Ranked g a V' T S
     order-certificate =
         record {
           rank = after;
@@ -222,7 +223,7 @@ module _
     order-pull v = refl
 
 -- a move from a member by the certificate: an edge inside V', and from an own vertex outside T the entry
-pub record Drawing {g : Game} {a : Player} {V' T S : Set} (c : Certificate g a V' T S) (v w : ℕ) : Type 0 where
+pub record Drawing {g : Game} {a : Player} {V' T S : Set} (c : Ranked g a V' T S) (v w : ℕ) : Type 0 where
   pub member : S v ≡ true
   pub edge : Edge g v w
   pub inside : V' w ≡ true
@@ -236,7 +237,7 @@ pub record Leaves (priority : ℕ → ℕ) (R : ℕ → ℕ → Type 0) (T : Set
   pub met : T vertex ≡ true
   pub high : priority vertex ≤ m
 
-module _ {g : Game} {a : Player} {V' T S : Set} (c : Certificate g a V' T S) where
+module _ {g : Game} {a : Player} {V' T S : Set} (c : Ranked g a V' T S) where
   -- outside T such a move stays in S and sinks
   pub sinks : {v w : ℕ} → Drawing c v w → T v ≡ false → (S w ≡ true) × (c .rank w < c .rank v)
   sinks {v} {w} d t =

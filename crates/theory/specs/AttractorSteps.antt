@@ -10,7 +10,8 @@ use lib.Dec.{eqb}
 use lib.ListN.{length}
 use Rattle.rules.specs.Counting.{Set, some, someOf, count, without}
 use Rattle.rules.specs.Game.{Player, Game, Edge}
-use Rattle.rules.specs.Attractor.{drawn, IsAttractor, attractor, Growing, atFirst, TakesOne, Takes, stop, next, Finished}
+use Rattle.rules.specs.Attractor.{drawn, IsAttractor, attractor}
+use Rattle.theory.specs.Steps.{Growing, atFirst, TakesOne, Takes, stop, next, Finished}
 use Rattle.rules.specs.Attractor.{looksOf}
 use Rattle.basics.specs.Basics.{bool-cases, clash, bool-ext, and-intro, and-right, or-left, or-right, or-cases}
 use Rattle.basics.specs.Basics.{not-false-is-true, member-cases, some-elim, some-false, someOf-intro, count-strict}

@@ -18,7 +18,7 @@ use Rattle.rules.specs.Outcome.{none, givenAt}
 use Rattle.rules.specs.Tables.{Tables, vertices, gameOf, tableChecks, check5, Accepted}
 use Rattle.rules.specs.Winning.{Wins, WinningSets}
 use Rattle.basics.specs.Basics.{bool-cases, some-intro, false-some, below-suc}
-use Rattle.theory.specs.Relabelling.{Alike, Keeps, keeps-order, alike-sym, alike-winners, alike-winning-sets, alike-answers}
+use Rattle.theory.specs.Relabelling.{Alike, KeepsOrder, keeps-order, alike-sym, alike-winners, alike-winning-sets, alike-answers}
 use Rattle.accepted.specs.Tables.{accepted-sound, accepted-total}
 
 -- ---- relabelled tables
@@ -59,7 +59,7 @@ module _ (t : Tables) (ok : Accepted t) where
   -- where f keeps order and parity on the priorities in use, the game with f applied to each entry is alike
   pub relabelled-tables-alike :
       (f : ℕ → ℕ) →
-      Keeps (vertices t) (λ v. getD (t .priorities) v 0) f →
+      KeepsOrder (vertices t) (λ v. getD (t .priorities) v 0) f →
       Alike (gameOf t) (gameOf (withPriorities t (map f (t .priorities))))
   unfolding gameOf
   relabelled-tables-alike f keeps =
@@ -207,7 +207,7 @@ entry-used priorities v l =
 
 -- so compaction keeps order and parity on the entries
 pub compacted-keeps :
-    (priorities : List ℕ) → Keeps (length priorities) (λ v. getD priorities v 0) (compacted priorities)
+    (priorities : List ℕ) → KeepsOrder (length priorities) (λ v. getD priorities v 0) (compacted priorities)
 compacted-keeps priorities =
     record {
       monotone = λ v w lv lw up. compacted-monotone priorities _ _ (entry-used priorities v lv) up;

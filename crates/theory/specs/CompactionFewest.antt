@@ -22,7 +22,7 @@ use Rattle.theory.specs.Players.{opponent-differs}
 use Rattle.basics.specs.Basics.{some-elim, some-false, some-cong, false-some, count-cong, count-mono, count-none}
 use Rattle.theory.specs.DepthFirst.{Marks, marks-count}
 use Rattle.basics.specs.Greatest.{greatest-bounds}
-use Rattle.theory.specs.Relabelling.{Keeps}
+use Rattle.theory.specs.Relabelling.{KeepsOrder}
 use Rattle.accepted.specs.Tables.{accepted-sound}
 use Rattle.theory.specs.Compaction.{AtMost, next-parity, next-lowest, last-used, last-unused, number-lowest}
 use Rattle.theory.specs.Compaction.{compacted-monotone, compacted-parity, compacted-small, compacted-keeps, entry-used}
@@ -91,7 +91,7 @@ player-rest zero (suc b) la lb e = absurd (opponent-differs Even e)
 player-rest (suc a) zero la lb e = absurd (opponent-differs Odd e)
 player-rest (suc a) (suc b) la lb e = omega arith
 
-module _ (priorities : List ℕ) (f : ℕ → ℕ) (keeps : Keeps (length priorities) (λ v. getD priorities v 0) f) where
+module _ (priorities : List ℕ) (f : ℕ → ℕ) (keeps : KeepsOrder (length priorities) (λ v. getD priorities v 0) f) where
   -- a used priority is some vertex's
   holder : (p : ℕ) → used priorities p ≡ true → (v : ℕ) × (v < length priorities) × (getD priorities v 0 ≡ p)
   holder p e =
@@ -210,7 +210,7 @@ pub compacted-least-d :
     (t : Tables) →
     Accepted t →
     (f : ℕ → ℕ) →
-    Keeps (vertices t) (λ v. getD (t .priorities) v 0) f →
+    KeepsOrder (vertices t) (λ v. getD (t .priorities) v 0) f →
     differentPriorities (gameOf (compactedTables t)) (everywhere (gameOf (compactedTables t))) ≤
     differentPriorities
     (gameOf (withPriorities t (map f (t .priorities))))
@@ -271,7 +271,7 @@ compacted-twice priorities =
     entry : (v : ℕ) → v < length priorities → getD once v 0 ≡ compacted priorities (getD priorities v 0)
     entry = getD-map-below (compacted priorities) priorities
 
-    both : Keeps (length priorities) (λ v. getD priorities v 0) (λ p. again (compacted priorities p))
+    both : KeepsOrder (length priorities) (λ v. getD priorities v 0) (λ p. again (compacted priorities p))
     both =
         record {
           monotone =

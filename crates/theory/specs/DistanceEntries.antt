@@ -5,7 +5,8 @@ use Prim.Native.Nat.{ℕ, _≤_}
 use Rattle.rules.specs.Counting.{Set, listed}
 use Rattle.rules.specs.Game.{Player, Game}
 use Rattle.rules.specs.Words.{noEntry}
-use Rattle.rules.specs.Attractor.{attractor, AttractorEntries}
+use Rattle.rules.specs.Attractor.{attractor}
+use Rattle.theory.specs.Arriving.{AttractorEntries}
 use Rattle.rules.specs.Distance.{outside, attractorEntry}
 use Rattle.basics.specs.Basics.{getD-listed}
 use Rattle.theory.specs.Attractor.{Fits, attractor-below}

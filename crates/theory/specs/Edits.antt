@@ -73,7 +73,7 @@ roomy-passes r h =
     )
 
 -- and its tables are accepted, and its kept numbers are what a fresh count of them gives
-pub record Passing (r : Record) : Type 0 where
+pub record EditPassing (r : Record) : Type 0 where
   pub room : Roomy r
   pub accepted : Accepted (tablesIn r)
   pub fresh : r .kept ≡ freshCount (take (r .n) (r .priorities))
@@ -94,7 +94,7 @@ pub fresh-passes : (r : Record) → r .kept ≡ freshCount (take (r .n) (r .prio
 unfolding keptCheck
 fresh-passes r e = rw (equal-same (r .kept) (freshCount (take (r .n) (r .priorities))) e)
 
-pub passing : (r : Record) → recordChecks r ≡ none → Passing r
+pub passing : (r : Record) → recordChecks r ≡ none → EditPassing r
 unfolding recordChecks
 passing r e =
     let (tables, kept) = then-none (recordTables r) (check47 r) e in
@@ -105,7 +105,7 @@ passing r e =
       fresh = fresh-none r kept;
     }
 
-pub passes : (r : Record) → Passing r → recordChecks r ≡ none
+pub passes : (r : Record) → EditPassing r → recordChecks r ≡ none
 unfolding recordChecks
 passes r h = rw (tables-passing r (h .room) (h .accepted)) (fresh-passes r (h .fresh))
 
@@ -156,7 +156,7 @@ sound-changed t owners priorities targets s lo lp lt small low below =
       has-edge = rw lo (s .has-edge);
     }
 
-module _ (r : Record) (h : Passing r) where
+module _ (r : Record) (h : EditPassing r) where
   sound : Sound (tablesIn r)
   sound = accepted-sound (tablesIn r) (h .accepted)
 
@@ -169,7 +169,7 @@ module _ (r : Record) (h : Passing r) where
   m-long : edgesIn (tablesIn r) ≡ r .m
   m-long = length-take-le (r .m) (r .targets) (h .room .target-room)
 
-  priority-set : (v p : ℕ) → v < r .n → p ≤ 255 → Passing (withPriorities r (set (r .priorities) v p))
+  priority-set : (v p : ℕ) → v < r .n → p ≤ 255 → EditPassing (withPriorities r (set (r .priorities) v p))
   priority-set v p l low =
       let t = tablesIn r in
       record {
@@ -199,7 +199,7 @@ module _ (r : Record) (h : Passing r) where
         fresh = refl;
       }
 
-  owner-set : (v o : ℕ) → v < r .n → o ≤ 1 → Passing (withOwners r (set (r .owners) v o))
+  owner-set : (v o : ℕ) → v < r .n → o ≤ 1 → EditPassing (withOwners r (set (r .owners) v o))
   owner-set v o l small =
       let t = tablesIn r in
       record {
@@ -225,7 +225,7 @@ module _ (r : Record) (h : Passing r) where
         fresh = h .fresh;
       }
 
-  edge-turned : (e w : ℕ) → e < r .m → w < r .n → Passing (withTargets r (set (r .targets) e w))
+  edge-turned : (e w : ℕ) → e < r .m → w < r .n → EditPassing (withTargets r (set (r .targets) e w))
   edge-turned e w l below =
       let t = tablesIn r in
       record {
@@ -251,7 +251,7 @@ module _ (r : Record) (h : Passing r) where
       }
 
 -- an edit past its own checks leaves a record that passes
-pub changed-passing : (e : Edit) (r : Record) → Passing r → ownChecks e r ≡ none → Passing (changed e r)
+pub changed-passing : (e : Edit) (r : Record) → EditPassing r → ownChecks e r ≡ none → EditPassing (changed e r)
 unfolding ownChecks
 changed-passing (setPriority v p) r h ok =
     let (a, b) = then-none (given 41 v (leb (r .n) v)) (given 42 v (ltb 255 p)) ok in
@@ -269,15 +269,15 @@ left-cases :
 left-cases P none e r same other = other refl
 left-cases P (refused k p) e r same other = same
 
-pub edited-passing : (e : Edit) (r : Record) → Passing r → Passing (edited e r)
+pub edited-passing : (e : Edit) (r : Record) → EditPassing r → EditPassing (edited e r)
 unfolding edited editChecks
 edited-passing e r h =
-    left-cases Passing (recordChecks r then ownChecks e r) e r h
+    left-cases EditPassing (recordChecks r then ownChecks e r) e r h
     (λ ok. changed-passing e r h (then-none (recordChecks r) (ownChecks e r) ok .1))
 
 -- ---- any sequence of edits
 
-edits-passing : (es : List Edit) (r : Record) → Passing r → Passing (editedBy es r)
+edits-passing : (es : List Edit) (r : Record) → EditPassing r → EditPassing (editedBy es r)
 unfolding editedBy
 edits-passing [] r h = h
 edits-passing (e ∷ es) r h = edits-passing es (edited e r) (edited-passing e r h)

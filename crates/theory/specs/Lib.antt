@@ -9,6 +9,8 @@ pub mod Relabelling
 pub mod Compaction
 pub mod Rounds
 pub mod Attractor
+pub mod Steps
+pub mod Arriving
 pub mod Distance
 pub mod AttractorRank
 pub mod DistanceEntries

@@ -12,7 +12,7 @@ use Rattle.rules.specs.Distance.{lowestIn}
 use Rattle.rules.specs.Promotion.{Regions, solvedRegion, unsolved, atStart, regionSet, isOpen, wayOut, roundOf}
 use Rattle.theory.specs.PromotionBasics.{atRegion, upTo}
 use Rattle.theory.specs.Distance.{nearest}
-use Rattle.theory.specs.AttractorRank.{Certificate}
+use Rattle.theory.specs.AttractorRank.{Ranked}
 
 -- p's player
 abbrev pub mover : Regions → Player
@@ -35,8 +35,8 @@ dominionSet g s = attractor g (mover s) (remaining g s) (regionSet g s)
 
 -- R is attracted to region p of X: own vertices of R outside the old region p get the pull of a certificate for R by distances; those
 -- of the old region p keep their entry, none or not; entries outside R stay
-pub record Attracts (g : Game) (X : Set) (r : ℕ → ℕ) (p : ℕ) (R : Set) (σ σ' : ℕ → ℕ) : Type 0 where
-  pub certificate : Certificate g (parity p) (upTo X r p) (atRegion X r p) R
+pub record AttractsEntries (g : Game) (X : Set) (r : ℕ → ℕ) (p : ℕ) (R : Set) (σ σ' : ℕ → ℕ) : Type 0 where
+  pub certificate : Ranked g (parity p) (upTo X r p) (atRegion X r p) R
   pub near :
       (v : ℕ) →
       R v ≡ true →
@@ -49,10 +49,10 @@ pub record Attracts (g : Game) (X : Set) (r : ℕ → ℕ) (p : ℕ) (R : Set) (
   pub elsewhere : (v : ℕ) → v < g .size → R v ≡ false → σ' v ≡ σ v
 
 abbrev pub AttractedEntries : Game → Regions → (ℕ → ℕ) → (ℕ → ℕ) → Type 0
-AttractedEntries g s = Attracts g (remaining g s) (s .region) (s .current) (regionSet g s)
+AttractedEntries g s = AttractsEntries g (remaining g s) (s .region) (s .current) (regionSet g s)
 
 -- R closes: a's vertices of R that have no entry take the lowest-numbered successor in R, the others keep theirs
-pub record Fills (g : Game) (a : Player) (R : Set) (σ σ' : ℕ → ℕ) : Type 0 where
+pub record ClosesEntries (g : Game) (a : Player) (R : Set) (σ σ' : ℕ → ℕ) : Type 0 where
   pub given : (v : ℕ) → R v ≡ true → g .owner v ≡ a → (σ v ≡ noEntry → ⊥) → σ' v ≡ σ v
   pub filled : (v : ℕ) → R v ≡ true → g .owner v ≡ a → σ v ≡ noEntry → σ' v ≡ lowestIn g R v
   pub elsewhere : (v : ℕ) → v < g .size → R v ≡ false → σ' v ≡ σ v
@@ -68,7 +68,7 @@ pub record PromotedEntries (g : Game) (s : Regions) (σ σ' : ℕ → ℕ) : Typ
 -- R is a dominion, and D, its attractor among the unsolved, is solved: own vertices of D outside R get the pull of a certificate
 -- for D by distances, entries of what stays unsolved become none, own entries of R and entries of what was solved before stay
 pub record SolvedEntries (g : Game) (s : Regions) (σ σ' : ℕ → ℕ) : Type 0 where
-  pub certificate : Certificate g (mover s) (remaining g s) (regionSet g s) (dominionSet g s)
+  pub certificate : Ranked g (mover s) (remaining g s) (regionSet g s) (dominionSet g s)
   pub near :
       (v : ℕ) →
       dominionSet g s v ≡ true →
@@ -94,7 +94,7 @@ pub data RoundEntries (g : Game) (s : Regions) (σ : ℕ → ℕ) : (ℕ → ℕ
       isOpen g s (regionSet g s) ≡ false →
       some (g .size) (wayOut g s (regionSet g s)) ≡ true →
       AttractedEntries g s σ σ₁ →
-      Fills g (mover s) (regionSet g s) σ₁ σ₂ →
+      ClosesEntries g (mover s) (regionSet g s) σ₁ σ₂ →
       PromotedEntries g s σ₂ σ' →
       RoundEntries g s σ σ'
   solves :
@@ -102,7 +102,7 @@ pub data RoundEntries (g : Game) (s : Regions) (σ : ℕ → ℕ) : (ℕ → ℕ
       isOpen g s (regionSet g s) ≡ false →
       some (g .size) (wayOut g s (regionSet g s)) ≡ false →
       AttractedEntries g s σ σ₁ →
-      Fills g (mover s) (regionSet g s) σ₁ σ₂ →
+      ClosesEntries g (mover s) (regionSet g s) σ₁ σ₂ →
       SolvedEntries g s σ₂ σ' →
       RoundEntries g s σ σ'
 

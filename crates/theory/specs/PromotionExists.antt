@@ -18,7 +18,7 @@ use Rattle.theory.specs.Players.{true-same}
 use Rattle.basics.specs.Basics.{if-false}
 use Rattle.basics.specs.Basics.{noted-below}
 use Rattle.theory.specs.PromotionBasics.{atRegion, upTo}
-use Rattle.theory.specs.PromotionEntries.{mover, remaining, promotedTo, AttractedEntries, Fills, PromotedEntries}
+use Rattle.theory.specs.PromotionEntries.{mover, remaining, promotedTo, AttractedEntries, ClosesEntries, PromotedEntries}
 use Rattle.theory.specs.PromotionEntries.{SolvedEntries}
 use Rattle.theory.specs.PromotionEntries.{RoundEntries, opened, promotes, solves, Rounded, starts, rounds}
 use Rattle.theory.specs.PromotionTests.{unsolved-below, region-certificate, region-near, region-entry, region-in}
@@ -65,7 +65,7 @@ module _ (g : Game) (s : Regions) where
   drawn-outside v l out = drawn-at v l ∙ rw out
 
   -- a closing round draws R in and fills it
-  pub rules-fills : Fills g (mover s) R (drawnEntries g s R) (closedEntries g s R)
+  pub rules-fills : ClosesEntries g (mover s) R (drawnEntries g s R) (closedEntries g s R)
   rules-fills =
       record {
         given =

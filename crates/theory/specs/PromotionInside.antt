@@ -16,10 +16,10 @@ use Rattle.basics.specs.Basics.{bool-cases, clash, lt-or-ge, not-true-is-false,
 use Rattle.theory.specs.Distance.{lowestIn-found}
 use Rattle.theory.specs.Walks.{Among, walk-map, cycle-splits, no-falling-cycle, first-edge, hits, highest-is}
 use Rattle.theory.specs.Dominion.{Inside, GoodCycles, owner-cases, good-cycles-sub}
-use Rattle.theory.specs.AttractorRank.{Certificate}
+use Rattle.theory.specs.AttractorRank.{Ranked}
 use Rattle.basics.specs.Basics.{equal-cases}
 use Rattle.theory.specs.PromotionBasics.{atRegion, upTo, at-intro, at-in, at-is, not-at}
-use Rattle.theory.specs.PromotionEntries.{Attracts, Fills}
+use Rattle.theory.specs.PromotionEntries.{AttractsEntries, ClosesEntries}
 use Rattle.theory.specs.PromotionRegions.{Placed, Promotes, Moved, lifted, reset, stayed, promoted-player, gained-in}
 use Rattle.theory.specs.PromotionRegions.{gained-low, same-above}
 use Rattle.theory.specs.PromotionRegions.{same-elsewhere, gained-is, placed-attracted, stays-upper, goes-up}
@@ -34,7 +34,7 @@ abbrev pub StaysOrHead : Game → Set → (ℕ → ℕ) → (ℕ → ℕ) → �
 StaysOrHead g X r σ v = ((σ v ≡ noEntry) × (g .priority v ≡ r v)) ⊎ Stays g X r σ v
 
 -- the entries inside the regions
-pub record Entered (g : Game) (X : Set) (r : ℕ → ℕ) (p : ℕ) (σ : ℕ → ℕ) : Type 0 where
+pub record EntriesInside (g : Game) (X : Set) (r : ℕ → ℕ) (p : ℕ) (σ : ℕ → ℕ) : Type 0 where
   -- below p there is none
   pub absent : (v : ℕ) → X v ≡ true → r v < p → σ v ≡ noEntry
   -- an own vertex goes on in its region, or is a head that has none
@@ -79,7 +79,7 @@ pub entered-afresh :
     {g : Game} {X : Set} {r : ℕ → ℕ} {p : ℕ} {σ : ℕ → ℕ} →
     ((v : ℕ) → X v ≡ true → r v ≡ g .priority v) →
     ((v : ℕ) → X v ≡ true → σ v ≡ noEntry) →
-    Entered g X r p σ
+    EntriesInside g X r p σ
 entered-afresh {g} {X} {r} {p} {σ} same none =
     record {
       absent = λ v i l. none v i;
@@ -90,7 +90,7 @@ entered-afresh {g} {X} {r} {p} {σ} same none =
 
 -- going down: fewer regions are below p
 pub entered-lower :
-    {g : Game} {X : Set} {r : ℕ → ℕ} {p : ℕ} {σ : ℕ → ℕ} (p' : ℕ) → p' < p → Entered g X r p σ → Entered g X r p' σ
+    {g : Game} {X : Set} {r : ℕ → ℕ} {p : ℕ} {σ : ℕ → ℕ} (p' : ℕ) → p' < p → EntriesInside g X r p σ → EntriesInside g X r p' σ
 entered-lower p' less entered =
     record {
       absent = λ v i l. entered .absent v i (omega arith);
@@ -110,8 +110,8 @@ module _
     (total : Total g)
     (small : g .size ≤ noEntry)
     (placed : Placed g X r p)
-    (entered : Entered g X r p σ)
-    (entries : Attracts g X r p R σ σ')
+    (entered : EntriesInside g X r p σ)
+    (entries : AttractsEntries g X r p R σ σ')
   where
     -- an own vertex of the old region p that has an entry keeps it, and goes on in that region
     old-own :
@@ -138,7 +138,7 @@ module _
         (gained : (v : ℕ) → R v ≡ true → r' v ≡ p)
         (rest : (v : ℕ) → X v ≡ true → R v ≡ false → r' v ≡ r v)
       where
-        abbrev cert : Certificate g (parity p) (upTo X r p) (atRegion X r p) R
+        abbrev cert : Ranked g (parity p) (upTo X r p) (atRegion X r p) R
         cert = entries .certificate
 
         -- outside R the entry stays
@@ -321,7 +321,7 @@ module _
                 (eq-or-lt-of-le l)
 
         -- **Attracting keeps the entries inside the regions.**
-        pub entered-attracted : Entered g X r' p σ'
+        pub entered-attracted : EntriesInside g X r' p σ'
         entered-attracted = record { absent = absent-attracted; own = own-attracted; cycles = cycles-attracted }
 
 -- closing: own vertices of region p without an entry take one, each the lowest-numbered successor in it
@@ -336,11 +336,11 @@ module _
     (total : Total g)
     (small : g .size ≤ noEntry)
     (placed : Placed g X r p)
-    (entered : Entered g X r p σ)
+    (entered : EntriesInside g X r p σ)
     (is-region : (v : ℕ) → R v ≡ true → (X v ≡ true) × (r v ≡ p))
     (region-is : (v : ℕ) → X v ≡ true → r v ≡ p → R v ≡ true)
     (leads : (v : ℕ) → R v ≡ true → g .owner v ≡ parity p → someOf (g .targets v) R ≡ true)
-    (fills : Fills g (parity p) R σ σ')
+    (fills : ClosesEntries g (parity p) R σ σ')
   where
     -- an own vertex of R is a head without an entry, or keeps its entry
     was-own :
@@ -425,7 +425,7 @@ module _
             (entered .cycles q)
 
     -- **Closing keeps the entries inside the regions.**
-    pub entered-filled : Entered g X r p σ'
+    pub entered-filled : EntriesInside g X r p σ'
     entered-filled =
         record {
           absent = λ v i l. unfilled v i (λ is. omega arith) ∙ entered .absent v i l;
@@ -442,7 +442,7 @@ module _
     {p q : ℕ}
     {σ σ' : ℕ → ℕ}
     (placed : Placed g X r p)
-    (entered : Entered g X r p σ)
+    (entered : EntriesInside g X r p σ)
     (up : Promotes g X r p q)
     (r' : ℕ → ℕ)
     (moved : (v : ℕ) → X v ≡ true → Moved g r r' p q v)
@@ -590,7 +590,7 @@ module _
             (eq-or-lt-of-le l)
 
     -- **A promotion keeps the entries inside the regions.**
-    pub entered-promoted : Entered g X r' q σ'
+    pub entered-promoted : EntriesInside g X r' q σ'
     entered-promoted =
         record {
           absent = λ v i l. absent-moved v i l (moved v i);

@@ -18,13 +18,13 @@ use Rattle.theory.specs.Dominion.{Dominion, dominion-cong, dominion-draw
 use Rattle.theory.specs.AttractorComplement.{own-stays-out}
 use Rattle.basics.specs.Basics.{noted-below}
 use Rattle.theory.specs.PromotionBasics.{atRegion, at-intro}
-use Rattle.theory.specs.PromotionEntries.{mover, remaining, promotedTo, dominionSet, AttractedEntries, Fills}
+use Rattle.theory.specs.PromotionEntries.{mover, remaining, promotedTo, dominionSet, AttractedEntries, ClosesEntries}
 use Rattle.theory.specs.PromotionEntries.{PromotedEntries, SolvedEntries}
 use Rattle.theory.specs.PromotionEntries.{RoundEntries, opened, promotes, solves, Rounded, starts, rounds}
 use Rattle.theory.specs.PromotionRegions.{Placed, Promotes}
-use Rattle.theory.specs.PromotionInside.{Entered, entered-afresh, entered-lower, entered-attracted, filled-own}
+use Rattle.theory.specs.PromotionInside.{EntriesInside, entered-afresh, entered-lower, entered-attracted, filled-own}
 use Rattle.theory.specs.PromotionInside.{entered-filled, entered-promoted}
-use Rattle.theory.specs.PromotionSolved.{Solved, solved-none, solved-entries, solved-more}
+use Rattle.theory.specs.PromotionSolved.{SolvedAre, solved-none, solved-entries, solved-more}
 use Rattle.theory.specs.PromotionTests.{unsolved-below, region-in, closed-own, way-intro, promoted-small}
 use Rattle.theory.specs.PromotionRounds.{attractedRegion, promotedRegion, solvedRegions, attracted-gained, attracted-rest}
 use Rattle.theory.specs.PromotionRounds.{attracted-unsolved}
@@ -38,8 +38,8 @@ use Rattle.theory.specs.PromotionStanding.{placed-here, here-region, way
 -- what is true of every state with entries that rounds reach
 pub record Invariant (g : Game) (s : Regions) (σ : ℕ → ℕ) : Type 0 where
   pub standing : Standing g s
-  pub entered : Entered g (remaining g s) (s .region) (s .current) σ
-  pub solved : Solved g (remaining g s) (s .won) σ
+  pub entered : EntriesInside g (remaining g s) (s .region) (s .current) σ
+  pub solved : SolvedAre g (remaining g s) (s .won) σ
 
 module _
     (g : Game)
@@ -70,23 +70,23 @@ module _
 
       -- the entries and the solved part of the state t after the round
       abbrev After : Regions → (ℕ → ℕ) → Type 0
-      After t σ' = Entered g (remaining g t) (t .region) (t .current) σ' × Solved g (remaining g t) (t .won) σ'
+      After t σ' = EntriesInside g (remaining g t) (t .region) (t .current) σ' × SolvedAre g (remaining g t) (t .won) σ'
 
       -- they depend on the unsolved vertices by their members alone
       after-of :
           (t : Regions) (σ' : ℕ → ℕ) →
           ((v : ℕ) → remaining g s v ≡ remaining g t v) →
-          Entered g (remaining g s) (t .region) (t .current) σ' →
-          Solved g (remaining g s) (t .won) σ' →
+          EntriesInside g (remaining g s) (t .region) (t .current) σ' →
+          SolvedAre g (remaining g s) (t .won) σ' →
           After t σ'
       after-of t σ' same-members entered solved =
           subst
-          (λ (X : Set). Entered g X (t .region) (t .current) σ' × Solved g X (t .won) σ')
+          (λ (X : Set). EntriesInside g X (t .region) (t .current) σ' × SolvedAre g X (t .won) σ')
           (fun-ext same-members)
           (entered, solved)
 
       module _ {σ₁ : ℕ → ℕ} (attracted : AttractedEntries g s σ σ₁) where
-        entered-here : Entered g (remaining g s) (attractedRegion g s) (s .current) σ₁
+        entered-here : EntriesInside g (remaining g s) (attractedRegion g s) (s .current) σ₁
         entered-here =
             entered-attracted total few placed (inv .entered) attracted
             (attractedRegion g s)
@@ -110,7 +110,7 @@ module _
             (entered-lower (loweredTo g s) (lowered-less g s placed small opens) entered-here)
             (solved-entries σ₁ solved-stays (inv .solved))
 
-        module _ (closed : isOpen g s (regionSet g s) ≡ false) {σ₂ : ℕ → ℕ} (fills : Fills g (mover s) (regionSet g s) σ₁ σ₂) where
+        module _ (closed : isOpen g s (regionSet g s) ≡ false) {σ₂ : ℕ → ℕ} (fills : ClosesEntries g (mover s) (regionSet g s) σ₁ σ₂) where
           -- R is region p now
           is-region : (v : ℕ) → regionSet g s v ≡ true → (remaining g s v ≡ true) × (attractedRegion g s v ≡ s .current)
           is-region v m = (region-in g s v m, attracted-gained g s v m)
@@ -122,7 +122,7 @@ module _
               (closed-own g s closed)
               fills
 
-          entered-closed : Entered g (remaining g s) (attractedRegion g s) (s .current) σ₂
+          entered-closed : EntriesInside g (remaining g s) (attractedRegion g s) (s .current) σ₂
           entered-closed =
               entered-filled total few (placed-here g s placed) entered-here is-region (here-region g s placed)
               (closed-own g s closed)

@@ -14,7 +14,7 @@ use Rattle.theory.specs.Players.{other-player, player-cases}
 use Rattle.theory.specs.Dominion.{owner-cases}
 use Rattle.theory.specs.Attractor.{Draws, by-own, by-other, draws}
 use Rattle.theory.specs.AttractorComplement.{TotalIn, own-stays-out, other-gets-out}
-use Rattle.theory.specs.AttractorRank.{Certificate}
+use Rattle.theory.specs.AttractorRank.{Ranked}
 use Rattle.theory.specs.PromotionBasics.{atRegion, upTo, at-intro, at-in, at-is, at-out, not-at, up-intro, up-in, up-le, closed-cong}
 
 -- region q draws in no vertex of a lower region: no vertex of q's player there has an edge into it, and no other's has edges among the
@@ -159,7 +159,7 @@ module _
     {p : ℕ}
     {R : Set}
     (placed : Placed g X r p)
-    (cert : Certificate g (parity p) (upTo X r p) (atRegion X r p) R)
+    (cert : Ranked g (parity p) (upTo X r p) (atRegion X r p) R)
     (r' : ℕ → ℕ)
     (gained : (v : ℕ) → R v ≡ true → r' v ≡ p)
     (rest : (v : ℕ) → X v ≡ true → R v ≡ false → r' v ≡ r v)

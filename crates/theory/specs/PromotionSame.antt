@@ -19,7 +19,7 @@ use Rattle.basics.specs.Basics.{some-false}
 use Rattle.basics.specs.Basics.{within-member, union-cases, without-left, without-right}
 use Rattle.basics.specs.Basics.{equal-cases}
 use Rattle.theory.specs.PromotionBasics.{atRegion, at-is}
-use Rattle.theory.specs.PromotionEntries.{mover, remaining, promotedTo, dominionSet, AttractedEntries, Fills}
+use Rattle.theory.specs.PromotionEntries.{mover, remaining, promotedTo, dominionSet, AttractedEntries, ClosesEntries}
 use Rattle.theory.specs.PromotionEntries.{PromotedEntries, SolvedEntries}
 use Rattle.theory.specs.PromotionEntries.{RoundEntries, opened, promotes, solves, Rounded, starts, rounds}
 use Rattle.theory.specs.PromotionTests.{unsolved-below, region-in, promoted-small}
@@ -99,7 +99,7 @@ module _
                   attracted .elsewhere v l out ∙ agrees .at-won a v m o ∙ sym (drawn-outside g s v l out);
             }
 
-        module _ (closed : isOpen g s R ≡ false) {σ₂ : ℕ → ℕ} (fills : Fills g (mover s) R σ₁ σ₂) where
+        module _ (closed : isOpen g s R ≡ false) {σ₂ : ℕ → ℕ} (fills : ClosesEntries g (mover s) R σ₁ σ₂) where
           closed-same : (v : ℕ) → R v ≡ true → g .owner v ≡ mover s → σ₂ v ≡ closedEntries g s R v
           closed-same v m o =
               let now = drawn-same v m o in

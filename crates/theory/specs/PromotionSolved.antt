@@ -14,7 +14,7 @@ use Rattle.theory.specs.OneWinner.{not-both-win}
 use Rattle.theory.specs.Dominion.{HeldOver, Dominion, dominion-cong, dominion-empty, dominion-join, dominion-wins}
 
 -- what the solved vertices are
-pub record Solved (g : Game) (X : Set) (won : Player → Set) (σ : ℕ → ℕ) : Type 0 where
+pub record SolvedAre (g : Game) (X : Set) (won : Player → Set) (σ : ℕ → ℕ) : Type 0 where
   -- each player holds what it has won in the whole game
   pub dominion : (a : Player) → Dominion g a (everywhere g) (won a) σ
   -- a vertex is solved exactly when a player has won it
@@ -28,7 +28,7 @@ pub solved-none :
     {g : Game} {X : Set} {won : Player → Set} {σ : ℕ → ℕ} →
     ((v : ℕ) → v < g .size → X v ≡ true) →
     ((a : Player) (v : ℕ) → won a v ≡ false) →
-    Solved g X won σ
+    SolvedAre g X won σ
 solved-none {g} {X} {won} {σ} all none =
     record {
       dominion = λ a. dominion-empty g a (everywhere g) (won a) σ (none a);
@@ -41,8 +41,8 @@ solved-none {g} {X} {won} {σ} all none =
 pub solved-entries :
     {g : Game} {X : Set} {won : Player → Set} {σ : ℕ → ℕ} (σ' : ℕ → ℕ) →
     ((v : ℕ) → v < g .size → X v ≡ false → σ' v ≡ σ v) →
-    Solved g X won σ →
-    Solved g X won σ'
+    SolvedAre g X won σ →
+    SolvedAre g X won σ'
 solved-entries {g} {X} {won} {σ} σ' same solved =
     record {
       dominion =
@@ -67,7 +67,7 @@ solved-entries {g} {X} {won} {σ} σ' same solved =
 pub solved-disjoint :
     {g : Game} {X : Set} {won : Player → Set} {σ : ℕ → ℕ} →
     Total g →
-    Solved g X won σ →
+    SolvedAre g X won σ →
     (a : Player) (v : ℕ) →
     won a v ≡ true →
     won (opponent a) v ≡ false
@@ -89,7 +89,7 @@ module _
     (a : Player)
     (D : Set)
     (below : (v : ℕ) → X v ≡ true → v < g .size)
-    (solved : Solved g X won σ)
+    (solved : SolvedAre g X won σ)
     (dom : Dominion g a X D σ)
     (closed : (v w : ℕ) → X v ≡ true → D v ≡ false → g .owner v ≡ a → Edge g v w → D w ≡ false)
     (rest : (v : ℕ) → X' v ≡ without X D v)
@@ -163,7 +163,7 @@ module _
     old-out v i = without-right X D v (sym (rest v) ∙ i)
 
     -- **The solved part grows by a dominion among the unsolved.**
-    pub solved-more : Solved g X' won' σ
+    pub solved-more : SolvedAre g X' won' σ
     solved-more =
         record {
           dominion =

@@ -20,12 +20,12 @@ use Rattle.theory.specs.Players.{false-same, same-false}
 use Rattle.basics.specs.Basics.{and-intro, and-left}
 use Rattle.basics.specs.Basics.{and-right, some-cong, someOf-cong, not-true-is-false}
 use Rattle.theory.specs.Distance.{nearest}
-use Rattle.theory.specs.AttractorRank.{Certificate, certificate-cong, certificate-is}
+use Rattle.theory.specs.AttractorRank.{Ranked, certificate-cong, certificate-is}
 use Rattle.theory.specs.Attractor.{attractor-unique, attractor-is, attractor-same}
 use Rattle.basics.specs.Greatest.{greatest-cong}
 use Rattle.basics.specs.Basics.{lowest-cong, noted-below, noted-above}
 use Rattle.theory.specs.PromotionBasics.{atRegion, upTo, at-intro, at-in, at-is}
-use Rattle.theory.specs.PromotionEntries.{mover, remaining, promotedTo, dominionSet, Attracts, AttractedEntries}
+use Rattle.theory.specs.PromotionEntries.{mover, remaining, promotedTo, dominionSet, AttractsEntries, AttractedEntries}
 use Rattle.theory.specs.PromotionEntries.{PromotedEntries, SolvedEntries}
 use Rattle.theory.specs.PromotionTests.{unsolved-below, unsolved-intro, region-in, region-out, region-certificate}
 use Rattle.theory.specs.PromotionTests.{way-intro, way-elim}
@@ -78,23 +78,23 @@ above-solved g (suc k) v l = round-above g (afterRounds g k) v l
 module _ (g : Game) (s : Regions) (t : ℕ → ℕ) (agrees : (v : ℕ) → t v ≡ s .region v) {R : Set} where
   -- **a set with a certificate by the table is the rules' R**
   pub region-table :
-      Certificate g (mover s) (upTo (unsolved g t) t (s .current)) (atRegion (unsolved g t) t (s .current)) R →
+      Ranked g (mover s) (upTo (unsolved g t) t (s .current)) (atRegion (unsolved g t) t (s .current)) R →
       (v : ℕ) →
       R v ≡ regionSet g s v
   region-table cert =
       attractor-unique
       (certificate-is
       (subst
-      (λ (r : ℕ → ℕ). Certificate g (mover s) (upTo (unsolved g r) r (s .current)) (atRegion (unsolved g r) r (s .current)) R)
+      (λ (r : ℕ → ℕ). Ranked g (mover s) (upTo (unsolved g r) r (s .current)) (atRegion (unsolved g r) r (s .current)) R)
       (fun-ext agrees)
       cert))
       (certificate-is (region-certificate g s))
 
   -- **so entries that are attracted by the table are as the round asks**
-  pub attracts-table : {σ σ' : ℕ → ℕ} → Attracts g (unsolved g t) t (s .current) R σ σ' → AttractedEntries g s σ σ'
+  pub attracts-table : {σ σ' : ℕ → ℕ} → AttractsEntries g (unsolved g t) t (s .current) R σ σ' → AttractedEntries g s σ σ'
   attracts-table {σ} {σ'} entries =
       subst₂
-      (λ (r : ℕ → ℕ) (S : Set). Attracts g (unsolved g r) r (s .current) S σ σ')
+      (λ (r : ℕ → ℕ) (S : Set). AttractsEntries g (unsolved g r) r (s .current) S σ σ')
       (fun-ext agrees)
       (fun-ext (region-table (entries .certificate)))
       entries
@@ -389,7 +389,7 @@ module _
         (λ m. at-intro (unsolved g t) t (s .current) v (unsolved-same v ∙ region-in g s v m) (table-gained v m))
 
     -- a set D with a certificate by the table: the attractor among the unsolved of the vertices with p
-    module _ {D : Set} (cert : Certificate g (parity (s .current)) (unsolved g t) (atRegion (unsolved g t) t (s .current)) D) where
+    module _ {D : Set} (cert : Ranked g (parity (s .current)) (unsolved g t) (atRegion (unsolved g t) t (s .current)) D) where
       -- **it is the rules' D**
       pub dominion-read : (v : ℕ) → D v ≡ dominionSet g s v
       dominion-read v =

@@ -18,7 +18,7 @@ use Rattle.theory.specs.Players.{false-same}
 use Rattle.basics.specs.Basics.{some-intro, some-elim, some-false, lt-or-ge, someOf-intro, someOf-elim}
 use Rattle.basics.specs.Basics.{IsLowest, lowest-found}
 use Rattle.theory.specs.Attractor.{Fits}
-use Rattle.theory.specs.AttractorRank.{Certificate, attractor-certificate, attractor-pull}
+use Rattle.theory.specs.AttractorRank.{Ranked, attractor-certificate, attractor-pull}
 use Rattle.theory.specs.Distance.{nearest, entry-nearest, entry-none}
 use Rattle.rules.specs.Distance.{outside, attractorEntry}
 use Rattle.rules.specs.Words.{noEntry}
@@ -74,7 +74,7 @@ module _ (g : Game) (s : Regions) where
 
   -- the rules' R has a certificate
   pub region-certificate :
-      Certificate g
+      Ranked g
       (mover s)
       (upTo (remaining g s) (s .region) (s .current))
       (atRegion (remaining g s) (s .region) (s .current))
@@ -328,7 +328,7 @@ module _ (g : Game) (s : Regions) where
   dominion-fits : Fits g (remaining g s) (regionSet g s)
   dominion-fits = record { part = region-in; below = unsolved-below g (s .region) }
 
-  pub dominion-certificate : Certificate g (mover s) (remaining g s) (regionSet g s) (dominionSet g s)
+  pub dominion-certificate : Ranked g (mover s) (remaining g s) (regionSet g s) (dominionSet g s)
   dominion-certificate = attractor-certificate g (mover s) (remaining g s) (regionSet g s) dominion-fits
 
   -- by distances, and so with the rules' entries

@@ -120,12 +120,12 @@ alike-answers won won' alike sets sets' a v l =
     (λ m. sets a v l .1 (alike-wins (alike-sym alike) (sound m)))
 
 -- f keeps order, not strictly, and parity on the priorities that the vertices below n have
-pub record Keeps (n : ℕ) (priority f : ℕ → ℕ) : Type 0 where
+pub record KeepsOrder (n : ℕ) (priority f : ℕ → ℕ) : Type 0 where
   pub monotone : (v w : ℕ) → v < n → w < n → priority v ≤ priority w → f (priority v) ≤ f (priority w)
   pub parities : (v : ℕ) → v < n → parity (f (priority v)) ≡ parity (priority v)
 
 pub keeps-order :
-    {n : ℕ} {p f : ℕ → ℕ} → Keeps n p f → (v w : ℕ) → v < n → w < n → InOrder p (λ u. f (p u)) v w
+    {n : ℕ} {p f : ℕ → ℕ} → KeepsOrder n p f → (v w : ℕ) → v < n → w < n → InOrder p (λ u. f (p u)) v w
 keeps-order {p} keeps v w lv lw =
     ⊎-elim
     (λ up. inl (up, keeps .monotone v w lv lw up))
@@ -140,7 +140,7 @@ relabelled f g =
 pub relabelled-alike :
     (g : Game) (f : ℕ → ℕ) →
     ((v w : ℕ) → Edge g v w → v < g .size) →
-    Keeps (g .size) (g .priority) f →
+    KeepsOrder (g .size) (g .priority) f →
     Alike g (relabelled f g)
 unfolding relabelled
 relabelled-alike g f starts keeps =
@@ -157,6 +157,6 @@ relabelled-alike g f starts keeps =
 pub relabelling-keeps-winners :
     (g : Game) (f : ℕ → ℕ) →
     ((v w : ℕ) → Edge g v w → v < g .size) →
-    Keeps (g .size) (g .priority) f →
+    KeepsOrder (g .size) (g .priority) f →
     (a : Player) (v : ℕ) → Wins g a v ↔ Wins (relabelled f g) a v
 relabelling-keeps-winners g f starts keeps = alike-winners (relabelled-alike g f starts keeps)

@@ -14,7 +14,7 @@ use Rattle.basics.specs.Basics.{clash, not-true-is-false, and-intro, count-stri
 use Rattle.basics.specs.Basics.{Subset, without-left, without-right, union-left, union-right}
 use Rattle.theory.specs.Attractor.{Fits}
 use Rattle.theory.specs.Distance.{nearest, entry-nearest, lowestIn-found}
-use Rattle.theory.specs.AttractorRank.{Certificate, attractor-certificate, attractor-pull}
+use Rattle.theory.specs.AttractorRank.{Ranked, attractor-certificate, attractor-pull}
 use Rattle.theory.specs.AttractorComplement.{TotalIn, rest-total}
 use Rattle.basics.specs.Greatest.{greatest-bounds, greatest-attained}
 
@@ -28,7 +28,7 @@ pub record Top (g : Game) (V' : Set) (a : Player) (p : ℕ) : Type 0 where
 
 -- S is the attractor of T in V for c, with the entries that distances fix, and `rest` is V without S
 pub record Cut (g : Game) (c : Player) (V' T S rest : Set) : Type 0 where
-  pub drawn : Certificate g c V' T S
+  pub drawn : Ranked g c V' T S
   pub near : (v : ℕ) → S v ≡ true → T v ≡ false → g .owner v ≡ c → drawn .pull v ≡ nearest g c V' T v
   pub left : (v : ℕ) → rest v ≡ without V' S v
 

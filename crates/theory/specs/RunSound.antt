@@ -14,7 +14,7 @@ use Rattle.basics.specs.Basics.{without-intro, without-left, without-right, uni
 use Rattle.theory.specs.Dominion.{HeldOver, Dominion, dominion-cong, dominion-empty, dominion-join, dominion-drawn, dominion-over}
 use Rattle.theory.specs.Dominion.{dominion-highest, ranked-held, held-trap}
 use Rattle.theory.specs.AttractorComplement.{own-stays-out}
-use Rattle.theory.specs.AttractorRank.{Certificate}
+use Rattle.theory.specs.AttractorRank.{Ranked}
 use Rattle.theory.specs.Run.{Top, Cut, AllWon, AllEntries, SomeLost, SomeEntries, Run, empty, all-won, some-lost, both-players}
 
 -- the two sets split V: each vertex of V is in exactly one of them, and nothing else is
@@ -43,7 +43,7 @@ splits-from {V'} {won} a mine theirs covers apart =
     }
 
 -- what a call gives: the two sets split V, and each is its player's dominion in V by the entries
-pub record Sound (g : Game) (V' : Set) (won : Player → Set) (σ : ℕ → ℕ) : Type 0 where
+pub record SoundRun (g : Game) (V' : Set) (won : Player → Set) (σ : ℕ → ℕ) : Type 0 where
   pub splits : Splits V' won
   pub dominion : (c : Player) → Dominion g c V' (won c) σ
 
@@ -53,7 +53,7 @@ not-opponent a b n = other-player (opponent a) b n ∙ opponent-twice a
 
 -- what is drawn to T in V is held over T, by entries that are the attractor's there
 drawn-held :
-    {g : Game} {a : Player} {V' T S : Set} {σ : ℕ → ℕ} (c : Certificate g a V' T S) →
+    {g : Game} {a : Player} {V' T S : Set} {σ : ℕ → ℕ} (c : Ranked g a V' T S) →
     ((v : ℕ) → S v ≡ true → T v ≡ false → g .owner v ≡ a → σ v ≡ c .pull v) →
     HeldOver g a V' T (without S T) σ
 drawn-held c pulled =
@@ -90,7 +90,7 @@ module _
     {p : ℕ}
     (top : Top g V' a p)
     (cut : Cut g a V' (withPriority g V' p) A rest)
-    (sound : Sound g rest first found)
+    (sound : SoundRun g rest first found)
     (result : AllWon a V' first won)
     (entries : AllEntries g a V' (withPriority g V' p) A (cut .drawn .pull) found σ)
   where
@@ -144,7 +144,7 @@ module _
         (drawn-held (cut .drawn) (entries .pulled))
         rest-dominion
 
-    all-sound : Sound g V' won σ
+    all-sound : SoundRun g V' won σ
     all-sound =
         record {
           splits =
@@ -168,9 +168,9 @@ module _
     {found found₂ σ : ℕ → ℕ}
     {a : Player}
     (cut : Cut g a V' U A rest)
-    (sound : Sound g rest first found)
+    (sound : SoundRun g rest first found)
     (cut₂ : Cut g (opponent a) V' (first (opponent a)) B rest₂)
-    (sound₂ : Sound g rest₂ second found₂)
+    (sound₂ : SoundRun g rest₂ second found₂)
     (result : SomeLost a B first second won)
     (entries : SomeEntries g (opponent a) (first (opponent a)) B second (cut₂ .drawn .pull) found found₂ σ)
   where
@@ -204,7 +204,7 @@ module _
     second-outside : (c : Player) (v : ℕ) → second c v ≡ true → without V' B v ≡ true
     second-outside c v q = sym (cut₂ .left v) ∙ sound₂ .splits .inside c v q
 
-    some-sound : Sound g V' won σ
+    some-sound : SoundRun g V' won σ
     some-sound =
         record {
           splits =
@@ -238,7 +238,7 @@ module _
 -- nobody wins anything of the empty set
 none-sound :
     {g : Game} {V' : Set} {won : Player → Set} {σ : ℕ → ℕ} →
-    ((v : ℕ) → V' v ≡ false) → ((c : Player) (v : ℕ) → won c v ≡ false) → Sound g V' won σ
+    ((v : ℕ) → V' v ≡ false) → ((c : Player) (v : ℕ) → won c v ≡ false) → SoundRun g V' won σ
 none-sound {g} {V'} {won} {σ} none nothing =
     record {
       splits =
@@ -251,7 +251,7 @@ none-sound {g} {V'} {won} {σ} none nothing =
     }
 
 -- **A run splits its set, and what each player wins is that player's dominion in it by the entries.**
-pub run-sound : {g : Game} {V' : Set} {won : Player → Set} {σ : ℕ → ℕ} {n : ℕ} → Run g V' won σ n → Sound g V' won σ
+pub run-sound : {g : Game} {V' : Set} {won : Player → Set} {σ : ℕ → ℕ} {n : ℕ} → Run g V' won σ n → SoundRun g V' won σ
 run-sound (empty none nothing e) = none-sound none nothing
 run-sound (all-won top cut run result entries e) = all-sound top cut (run-sound run) result entries
 run-sound (some-lost top cut run cut₂ run₂ result entries e) = some-sound cut (run-sound run) cut₂ (run-sound run₂) result entries

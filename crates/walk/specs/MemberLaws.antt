@@ -1,15 +1,15 @@
 -- Laws of the members of a set lent as words: each once, in rising order, for any number of words.
-use mathlib.Core.Bool.{Bool, true, false, _&&_, cond}
+use mathlib.Core.Bool.{Bool, true, false, cond}
 use mathlib.Core.List.{List, [], _∷_, _++_}
 use mathlib.Core.Path.{_≡_, refl, sym, ap, ap₂, _∙_}
-use Prim.Native.Nat.{ℕ, zero, suc, _+_, _-_, _*_, _/_, _%_, _≤_, _<_, zero-le, suc-le-suc}
+use Prim.Native.Nat.{ℕ, zero, suc, _+_, _-_, _*_, _/_, _%_, _≤_, _<_, zero-le}
 use native.Mathlib.Decide.{ℕ-discrete, decLt}
-use native.Mathlib.Nat.{add-assoc, add-zero, zero-add, le-of-suc-le-suc, le-trans, not-suc-le-zero}
+use native.Mathlib.Nat.{add-assoc, add-zero, zero-add, le-trans}
 use native.Mathlib.Omega.{arith}
 use borrow.Author.Tests.{eq-eqb, ne-eqb}
 use lib.Dec.{eqb}
-use lib.ListN.{length, getD}
-use Rattle.rules.specs.Counting.{every, times, everyOf}
+use lib.ListN.{getD}
+use Rattle.rules.specs.Counting.{times}
 use Rattle.rules.specs.Words.{digit, bit}
 use Rattle.sets.specs.Digits.{digit-lt, digit-zero}
 use Rattle.walk.specs.Walk.{ofWord, ofWords, members}
@@ -97,18 +97,6 @@ times-members xs v = ap (λ (u : ℕ). times u (members xs)) (sym here) ∙ time
   where
     here : 64 * 0 + v ≡ v
     here = omega arith
-
--- an entry of a list stands in it
-times-entry : (l : List ℕ) (k : ℕ) → k < length l → 0 < times (getD l k 0) l
-unfolding times
-times-entry [] k h = absurd (not-suc-le-zero h)
-times-entry (x ∷ l) zero h = rw (eq-eqb x x refl) (omega arith)
-times-entry (x ∷ l) (suc k) h = omega (arith, times-entry l k (le-of-suc-le-suc h))
-
-everyOf-entries : (l : List ℕ) (test : ℕ → Bool) → ((k : ℕ) → k < length l → test (getD l k 0) ≡ true) → everyOf l test ≡ true
-unfolding everyOf
-everyOf-entries [] test h = refl
-everyOf-entries (x ∷ l) test h = ap₂ _&&_ (h 0 (omega arith)) (everyOf-entries l test (λ k m. h (suc k) (suc-le-suc m)))
 
 -- every entry is at least lo, and each above the one before it
 abbrev pub Rising : ℕ → List ℕ → Type 0

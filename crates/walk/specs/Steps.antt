@@ -10,11 +10,11 @@ use native.Mathlib.Omega.{arith}
 use lib.Bits.{bitAnd, bitOr, and-step, and-self, and-le-l, and-le-r, or-add-and}
 use lib.Count.{trailingZeros, under}
 use lib.Dec.{eqb}
-use lib.ListN.{length, getD, drop, drop-of-length-le}
-use lib.Seq.{drop-cons}
+use lib.ListN.{length, getD, drop, length-take, length-drop, drop-of-length-le, List·getD-eq-default}
+use lib.Seq.{drop-cons, getD-take, getD-drop}
 use Rattle.rules.specs.Words.{digit}
 use Rattle.sets.specs.Digits.{digit-low, digit-up, digit-zero}
-use Rattle.walk.specs.Walk.{ofWord, ofWords, members, left}
+use Rattle.walk.specs.Walk.{wordsFrom, ofWord, ofWords, members, left}
 
 -- the digits of the half, one place lower
 ofWord-up : (base w k d : ℕ) → ofWord base w (suc k) d ≡ ofWord (suc base) (w / 2) k d
@@ -83,51 +83,77 @@ ofWord-lowest base w (suc d) h n = go (ofWord-lowest (suc base) (w / 2) d) (ℕ-
         ∙ ap₂ _∷_ (sym (add-zero base) ∙ ap (λ (x : ℕ). base + under x (trailingZeros d (w / 2))) (sym odd))
         (ap (λ (x : ℕ). ofWord (suc base) x 0 d) (sym (and-self (w / 2))) ∙ others (w / 2) (omega arith))
 
+-- words whose | is 0 are 0
+or-none : (a b : ℕ) → bitOr a b ≡ 0 → (a ≡ 0) × (b ≡ 0)
+or-none a b e = (omega (arith, or-add-and a b, and-le-r a b, e), omega (arith, or-add-and a b, and-le-l a b, e))
+
 -- a walk begins before the first word's bits
 pub left-start : (xs : List ℕ) → left xs (record { at = 0; word = getD xs 0 0 }) ≡ members xs
 unfolding ofWords
 left-start [] = ap (λ (l : List ℕ). l ++ []) (ofWord-zero 0 0 64)
 left-start (x ∷ xs) = refl
 
--- no bit is left in the last word
-pub left-done : (xs : List ℕ) (i : ℕ) → length xs ≤ i + 1 → left xs (record { at = i; word = 0 }) ≡ []
-unfolding ofWords
-left-done xs i h =
-    ap₂ (λ (l m : List ℕ). l ++ ofWords (suc i) m) (ofWord-zero (64 * i) 0 64) (drop-of-length-le xs {i = suc i} (omega arith))
+-- the s words of the work area from a base on
+module _ (s base : ℕ) (work : List ℕ) (fits : base + s ≤ length work) where
+  abbrev xs : List ℕ
+  xs = wordsFrom s base work
 
--- no bit is left in word i: on to the next word
-pub left-over : (xs : List ℕ) (i : ℕ) → i + 1 < length xs
-    → left xs (record { at = i; word = 0 }) ≡ left xs (record { at = i + 1; word = getD xs (i + 1) 0 })
-unfolding ofWords
-left-over xs i h =
-    ap (λ (l : List ℕ). l ++ ofWords (suc i) (drop (suc i) xs)) (ofWord-zero (64 * i) 0 64)
-    ∙ ap (λ (j : ℕ). ofWords j (drop j xs)) (sym (add-one i))
-    ∙ ap (λ (l : List ℕ). ofWords (i + 1) l) (drop-cons xs (i + 1) 0 h)
+  long : length xs ≡ s
+  long = simp (length-take, length-drop) (omega arith)
 
--- the same where the next word is 0
-left-empty : (xs : List ℕ) (i j : ℕ) → j ≡ i + 1 → j < length xs → getD xs j 0 ≡ 0
-    → left xs (record { at = i; word = 0 }) ≡ left xs (record { at = j; word = 0 })
-left-empty xs i j q h e =
-    left-over xs i (omega (arith, q, h))
-    ∙ ap (λ (k : ℕ). left xs (record { at = k; word = getD xs k 0 })) (sym q)
-    ∙ ap (λ (x : ℕ). left xs (record { at = j; word = x })) e
+  -- word i of the set, as the code reads it
+  word-at : (i at : ℕ) → at ≡ base + i → i < s → getD xs i 0 ≡ getD work at 0
+  word-at i at e h = getD-take s (drop base work) i 0 h ∙ getD-drop base work i 0 ∙ ap (λ (k : ℕ). getD work k 0) (sym e)
 
--- words whose | is 0 are 0
-or-none : (a b : ℕ) → bitOr a b ≡ 0 → (a ≡ 0) × (b ≡ 0)
-or-none a b e = (omega (arith, or-add-and a b, and-le-r a b, e), omega (arith, or-add-and a b, and-le-l a b, e))
+  pub left-first : 0 < s → left (wordsFrom s base work) (record { at = 0; word = getD work base 0 }) ≡ members (wordsFrom s base work)
+  left-first h = ap (λ (x : ℕ). left xs (record { at = 0; word = x })) (sym (word-at 0 base (omega arith) h)) ∙ left-start xs
 
--- no bit is left in word i, and none is in the next four
-pub left-four : (xs : List ℕ) (i : ℕ) → i + 4 < length xs
-    → bitOr (bitOr (bitOr (getD xs (i + 1) 0) (getD xs (i + 2) 0)) (getD xs (i + 3) 0)) (getD xs (i + 4) 0) ≡ 0
-    → left xs (record { at = i; word = 0 }) ≡ left xs (record { at = i + 4; word = 0 })
-left-four xs i h e =
-    let (three, d) = or-none (bitOr (bitOr (getD xs (i + 1) 0) (getD xs (i + 2) 0)) (getD xs (i + 3) 0)) (getD xs (i + 4) 0) e in
-    let (two, c) = or-none (bitOr (getD xs (i + 1) 0) (getD xs (i + 2) 0)) (getD xs (i + 3) 0) three in
-    let (a, b) = or-none (getD xs (i + 1) 0) (getD xs (i + 2) 0) two in
-    left-empty xs i (i + 1) refl (omega (arith, h)) a
-    ∙ left-empty xs (i + 1) (i + 2) (omega arith) (omega (arith, h)) b
-    ∙ left-empty xs (i + 2) (i + 3) (omega arith) (omega (arith, h)) c
-    ∙ left-empty xs (i + 3) (i + 4) (omega arith) h d
+  -- also where there is no word
+  pub left-none : s ≡ 0 → left (wordsFrom s base work) (record { at = 0; word = 0 }) ≡ members (wordsFrom s base work)
+  left-none e =
+      ap (λ (x : ℕ). left xs (record { at = 0; word = x })) (sym (List·getD-eq-default xs 0 (omega (arith, long)))) ∙ left-start xs
+
+  -- no bit is left in the last word
+  pub left-done : (i : ℕ) → s ≤ i + 1 → left (wordsFrom s base work) (record { at = i; word = 0 }) ≡ []
+  unfolding ofWords
+  left-done i h =
+      ap₂ (λ (l m : List ℕ). l ++ ofWords (suc i) m) (ofWord-zero (64 * i) 0 64)
+      (drop-of-length-le xs {i = suc i} (omega (arith, long)))
+
+  -- no bit is left in word i: on to the next word
+  over : (i : ℕ) → i + 1 < s → left xs (record { at = i; word = 0 }) ≡ left xs (record { at = i + 1; word = getD xs (i + 1) 0 })
+  unfolding ofWords
+  over i h =
+      ap (λ (l : List ℕ). l ++ ofWords (suc i) (drop (suc i) xs)) (ofWord-zero (64 * i) 0 64)
+      ∙ ap (λ (j : ℕ). ofWords j (drop j xs)) (sym (add-one i))
+      ∙ ap (λ (l : List ℕ). ofWords (i + 1) l) (drop-cons xs (i + 1) 0 (omega (arith, long)))
+
+  pub left-over : (i : ℕ) → i + 1 < s
+      → left (wordsFrom s base work) (record { at = i; word = 0 })
+      ≡ left (wordsFrom s base work) (record { at = i + 1; word = getD work (base + (i + 1)) 0 })
+  left-over i h = over i h ∙ ap (λ (x : ℕ). left xs (record { at = i + 1; word = x })) (word-at (i + 1) (base + (i + 1)) refl h)
+
+  -- the same where the next word is 0
+  empty : (i j at : ℕ) → j ≡ i + 1 → at ≡ base + j → j < s → getD work at 0 ≡ 0
+      → left xs (record { at = i; word = 0 }) ≡ left xs (record { at = j; word = 0 })
+  empty i j at q e h none =
+      over i (omega arith)
+      ∙ ap (λ (k : ℕ). left xs (record { at = k; word = getD xs k 0 })) (sym q)
+      ∙ ap (λ (x : ℕ). left xs (record { at = j; word = x })) (word-at j at e h ∙ none)
+
+  -- no bit is left in word i, and none is in the next four
+  pub left-four : (i : ℕ) → i + 4 < s
+      → bitOr (bitOr (bitOr (getD work (base + i + 1) 0) (getD work (base + i + 2) 0)) (getD work (base + i + 3) 0)) (getD work (base + i + 4) 0) ≡ 0
+      → left (wordsFrom s base work) (record { at = i; word = 0 }) ≡ left (wordsFrom s base work) (record { at = i + 4; word = 0 })
+  left-four i h none =
+      let w : ℕ → ℕ = λ k. getD work (base + i + k) 0 in
+      let (three, d) = or-none (bitOr (bitOr (w 1) (w 2)) (w 3)) (w 4) none in
+      let (two, c) = or-none (bitOr (w 1) (w 2)) (w 3) three in
+      let (a, b) = or-none (w 1) (w 2) two in
+      empty i (i + 1) (base + i + 1) refl (omega arith) (omega arith) a
+      ∙ empty (i + 1) (i + 2) (base + i + 2) (omega arith) (omega arith) (omega arith) b
+      ∙ empty (i + 2) (i + 3) (base + i + 3) (omega arith) (omega arith) (omega arith) c
+      ∙ empty (i + 3) (i + 4) (base + i + 4) (omega arith) (omega arith) h d
 
 -- the next member
 pub left-member : (xs : List ℕ) (i w : ℕ) → w < 2 ^ 64 → (w ≡ 0 → ⊥)

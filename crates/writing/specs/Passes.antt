@@ -20,7 +20,7 @@ use Rattle.grammar.specs.Machine.{pastOwner, inTarget, pastComma, runFrom, Read
 use Rattle.grammar.specs.Free.{freeStep, Steps, Goes, stays, goes-step}
 use Rattle.grammar.specs.Classes.{digit-range}
 use Rattle.grammar.specs.Standing.{numbered, rankedAs, having}
-use Rattle.grammar.specs.Reaches.{Counts, counts}
+use Rattle.grammar.specs.Reaches.{DigitCounts, counts}
 use Rattle.grammar.specs.Limited.{far, limited}
 use Rattle.grammar.specs.Runs.{landed, next-landed}
 use Rattle.grammar.specs.Correct.{machine-reads}
@@ -89,7 +89,7 @@ passes-reads {l} {text} {h} {es} fits some p =
 
 passes-number :
     {l : Limits} {s : Machine} {φ : Phase} {d : List ℕ} {v : ℕ} →
-    Counts s φ →
+    DigitCounts s φ →
     Number d v →
     ((u : ℕ) → u ≤ v → far l (reading φ u s) ≡ false) →
     Passes l s d (reading φ v s)
@@ -137,7 +137,7 @@ withTargets e ws =
 passes-targets :
     {l : Limits} {φ : Phase} (h : Header) (es : List Entry) (e : Entry) (ws : List ℕ) →
     0 < length ws →
-    Counts (having φ h es e) inTarget →
+    DigitCounts (having φ h es e) inTarget →
     targetsIn es + length (e .targets) + length ws ≤ l .edges →
     ((i : ℕ) → i < length ws → getD ws i 0 ≤ highestNumber) →
     Passes l (having φ h es e) (targetsText ws ++ lineEnd) (having betweenRecords h (es ++ (withTargets e ws ∷ [])) noEntryYet)

@@ -11,7 +11,7 @@ use Rattle.rules.specs.Tables.{Tables, vertices, Accepted}
 use Rattle.rules.specs.Writing.{textOf}
 use Rattle.grammar.specs.OneReading.{reads-one}
 use Rattle.writing.specs.Entries.{entriesOf}
-use Rattle.writing.specs.Written.{Keeps, ReadAgain, written-reads}
+use Rattle.writing.specs.Written.{KeepsLimits, ReadAgain, written-reads}
 
 -- accepted tables are not refused, whether document 01's list is asked or not
 list-passes : (asks : Asks) (t : Tables) → Accepted t → listAsked asks t ≡ none
@@ -26,7 +26,7 @@ module _ (asks : Asks) (mostBytes : ℕ) (t : Tables) (ok : Accepted t) (some : 
 
   told-back :
       (before : Rooms) (after : Written) (o : Outcome) →
-      Keeps (limitsOf mostBytes before) t →
+      KeepsLimits (limitsOf mostBytes before) t →
       Told asks mostBytes (textOf t) before after o →
       (o ≡ answered 0) × (after ≡ written none t before)
   told-back before after o keeps told =
@@ -48,7 +48,7 @@ module _ (asks : Asks) (mostBytes : ℕ) (t : Tables) (ok : Accepted t) (some : 
   pub read-back :
       (before after : Written) (o : Outcome) →
       roomChecks (before .rooms) ≡ none →
-      Keeps (limitsOf mostBytes (before .rooms)) t →
+      KeepsLimits (limitsOf mostBytes (before .rooms)) t →
       ReadsText asks mostBytes (textOf t) before after o →
       (o ≡ answered 0) × (after ≡ written none t (before .rooms))
   read-back before after o lawful keeps reads =

@@ -8,7 +8,7 @@ use Rattle.rules.specs.Tables.{Tables, vertices, degree, targetsOf, Accepted}
 use Rattle.rules.specs.Writing.{targetsText, recordText, recordsText, headerText, textOf}
 use Rattle.theory.specs.Compaction.{compactedTables, compacted-accepted}
 use Rattle.theory.specs.Worked.{C7}
-use Rattle.writing.specs.Written.{Keeps, ReadAgain, written-reads}
+use Rattle.writing.specs.Written.{KeepsLimits, ReadAgain, written-reads}
 
 -- `parity 1;`, `0 2 0 1;` and `1 0 1 0,1;`, a line each
 abbrev pub workedLines : List ℕ
@@ -25,6 +25,6 @@ pub compacted-again :
     (l : Limits) (t : Tables) →
     Accepted t →
     0 < vertices t →
-    Keeps l (compactedTables t) →
+    KeepsLimits l (compactedTables t) →
     ReadAgain l (compactedTables t)
 compacted-again l t ok some keeps = written-reads l (compactedTables t) (compacted-accepted t ok) some keeps

@@ -22,7 +22,7 @@ use Rattle.writing.specs.Entries.{written-identifiers, tables-again}
 use Rattle.writing.specs.Passes.{Passes, passes-on, passes-goes, passes-reads, passes-header, SmallRecord, passes-record}
 
 -- game and text keep these limits
-pub record Keeps (l : Limits) (t : Tables) : Type 0 where
+pub record KeepsLimits (l : Limits) (t : Tables) : Type 0 where
   pub bytes : length (textOf t) ≤ l .bytes
   pub vertices : vertices t ≤ l .vertices
   pub edges : edgesIn t ≤ l .edges
@@ -31,7 +31,7 @@ pub record Keeps (l : Limits) (t : Tables) : Type 0 where
 abbrev closest : Tables → Limits
 closest t = record { bytes = length (textOf t); vertices = vertices t; edges = edgesIn t }
 
-closest-kept : (t : Tables) → Keeps (closest t) t
+closest-kept : (t : Tables) → KeepsLimits (closest t) t
 closest-kept t = record { bytes = omega arith; vertices = omega arith; edges = omega arith }
 
 -- ---- the machine passes over the text
@@ -40,7 +40,7 @@ closest-kept t = record { bytes = omega arith; vertices = omega arith; edges = o
 abbrev standing : Tables → List Entry → Machine
 standing t es = having betweenRecords (highest (vertices t - 1)) es noEntryYet
 
-module _ (l : Limits) (t : Tables) (ok : Accepted t) (keeps : Keeps l t) where
+module _ (l : Limits) (t : Tables) (ok : Accepted t) (keeps : KeepsLimits l t) where
   sound : Sound t
   sound = accepted-sound t ok
 
@@ -100,7 +100,7 @@ pub record ReadAgain (l : Limits) (t : Tables) : Type 0 where
   pub identifiers : check31 (highest (vertices t - 1)) (entriesOf t) ≡ none
   pub tables : tablesRead (entriesOf t) ≡ t
 
-pub written-reads : (l : Limits) (t : Tables) → Accepted t → 0 < vertices t → Keeps l t → ReadAgain l t
+pub written-reads : (l : Limits) (t : Tables) → Accepted t → 0 < vertices t → KeepsLimits l t → ReadAgain l t
 written-reads l t ok some keeps =
     record {
       reads = passes-reads (keeps .bytes) (omega (arith, entries-many t 0 (vertices t))) (passes-text l t ok keeps);

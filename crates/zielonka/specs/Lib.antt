@@ -1,5 +1,5 @@
--- Where a call keeps its sets, and what it promises.
-pub mod Ending
-pub mod Calling
-pub mod Solving
+-- From the recursion on all vertices to what the solver writes out (Solving), and what a reader may conclude (Promises).
+-- laws: what other crates cite
 pub mod Promises
+-- lemmas: steps of the proofs here
+pub mod Solving

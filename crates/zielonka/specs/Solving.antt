@@ -23,11 +23,11 @@ use Rattle.area.specs.Area.{free, setAt}
 use Rattle.area.specs.SetsAt.{set-kept}
 use Rattle.priority_sets.specs.Sorting.{Sortable, Sorts}
 use Rattle.zielonka_level.specs.Level.{wonPlace, onLevel, wonAt, entriesOf, Called, Done, Over}
-use Rattle.zielonka.specs.Calling.{level-fits}
-use Rattle.zielonka.specs.Ending.{CalledUnder, Under}
+use Rattle.zielonka_recursion.specs.Calling.{level-fits}
+use Rattle.zielonka_recursion.specs.Ending.{CalledUnder, Under}
 use Rattle.attractor.specs.Attracted.{edges-sound, listed-kept}
 use Rattle.solver.specs.Preparing.{Preparable, Prepared}
-use Rattle.solver.specs.Outputs.{wonFrom, Found}
+use Rattle.solver.specs.Outputs.{wonFrom, WinnersFound}
 
 -- where a set takes two words or more there are many vertices, so that the levels that are left over have room for a set for each
 -- priority; else those sets are 256 words
@@ -80,7 +80,7 @@ module _ (t : Tables) (ok : Accepted t) (w₀ : List ℕ)
         one-mul : 1 * words (vertices t) ≡ words (vertices t)
         one-mul = omega arith
 
-    -- what `sort` asks for
+    -- what `make` asks for
     pub run-sortable :
         {s : ℕ} {w : List ℕ} →
         s ≡ words (vertices t) →
@@ -172,7 +172,7 @@ module _ (t : Tables) (ok : Accepted t) (w₀ : List ℕ)
           pub run-found :
               {s : ℕ} →
               s ≡ words (vertices t) →
-              Found t (zielonka (gameOf t) .won) (zielonka (gameOf t) .entries) s (base + 2 * s) w₄
+              WinnersFound t (zielonka (gameOf t) .won) (zielonka (gameOf t) .entries) s (base + 2 * s) w₄
           unfolding gameOf
           run-found {s} size =
               record {

@@ -1,19 +1,20 @@
 // The solver, on accepted tables and their kept numbers: it checks all that it is lent, works in the first W words of
 // the work area, writes only when it answers, and leaves those words 0.
-use crate::recursion::zielonka_rec;
 use area::Area;
+use kept_numbers::HIGHEST;
 use parity_game::Answer;
 use parity_game::Priority;
 use solver::Ran;
+use zielonka_recursion::zielonka_rec;
 ghost use mathlib.Core.Path.{_≡_};
 ghost use lib.ListN.{length, replicate};
 ghost use Rattle.rules.specs.Solver.{Solves};
 ghost use Rattle.rules.specs.Tables.{gameOf, tablesOf};
 ghost use Rattle.rules.specs.Zielonka.{zielonka};
 ghost use Rattle.parity_game.specs.Said.{said};
-ghost use Rattle.kept_numbers.specs.Reading.{Counted};
+ghost use Rattle.kept_numbers.specs.Reading.{FreshlyCounted};
 ghost use Rattle.solver.specs.Running.{Runnable, Runs};
-ghost use Rattle.zielonka.specs.Ending.{Under};
+ghost use Rattle.zielonka_recursion.specs.Ending.{Under};
 
 // The work itself, in W words, which are left 0. No priority is above `top`.
 fn run(
@@ -48,7 +49,7 @@ fn run(
     let first = area.free();
     let base = priority_sets::behind_sets(n, m, s);
     solver::prepare(offsets, targets, n, s, work, base);
-    priority_sets::sort(priorities, s, work, first);
+    priority_sets::make(priorities, s, work, first);
     let calls = zielonka_rec(
         owners,
         priorities,
@@ -81,7 +82,7 @@ pub fn solve_zielonka(
     strategy: &mut [u16],
     work: &mut [u64],
 ) -> Answer
-    requires { ⌜ Counted (tablesOf (now owners) (now priorities) (now offsets) (now targets)) (now kept) ⌝ }
+    requires { ⌜ FreshlyCounted (tablesOf (now owners) (now priorities) (now offsets) (now targets)) (now kept) ⌝ }
     ensures { λ r.
         ⌜ (let t =
         tablesOf (now (owners .entry)) (now (priorities .entry)) (now (offsets .entry)) (now (targets .entry)) in
@@ -114,7 +115,7 @@ pub fn solve_zielonka(
         return r;
     }
     let w = parity_game::work_words(n, m);
-    let top = kept[257] as usize;
+    let top = kept[HIGHEST] as usize;
     let ran = run(
         owners,
         priorities,

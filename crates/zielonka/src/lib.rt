@@ -1,6 +1,5 @@
-// Zielonka's recursion over one lent work area, after zielonka.rs. A call keeps four sets at its own level: V, an
-// attractor, and the sets that Even and Odd win; the call below stands at the next level.
+// The public solver by Zielonka's recursion, for every input: its checks, a run of the recursion under a budget, and what
+// is written out. The recursion itself is in `zielonka_recursion`.
 mod door;
-mod recursion;
 
 pub use door::solve_zielonka;

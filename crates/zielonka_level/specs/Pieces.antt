@@ -9,7 +9,7 @@ use Rattle.rules.specs.Tables.{Tables, vertices, words, tablesOf}
 use Rattle.zielonka_level.specs.Level.{nextLevel, onLevel, drawnAt, wonAt, Called}
 
 -- a call with room for the level above it
-pub record Ready (t : Tables) (s base : ℕ) (work : List ℕ) : Type 0 where
+pub record CallReady (t : Tables) (s base : ℕ) (work : List ℕ) : Type 0 where
   pub called : Called t base work
   pub size : s ≡ words (vertices t)
   pub high : base + 8 * s ≤ length work
@@ -17,13 +17,13 @@ pub record Ready (t : Tables) (s base : ℕ) (work : List ℕ) : Type 0 where
 -- the sets of some priorities stand in the work area, and p is below 256
 pub record Sorted (owners offsets targets : List ℕ) (p s base : ℕ) (work : List ℕ) : Type 0 where
   pub priorities : List ℕ
-  pub ready : Ready (tablesOf owners priorities offsets targets) s base work
+  pub ready : CallReady (tablesOf owners priorities offsets targets) s base work
   pub small : p < 256
 
 -- a set to draw to stands in the attractor's place, for tables with any priorities
 pub record Cuttable (owners offsets targets : List ℕ) (s base : ℕ) (work : List ℕ) : Type 0 where
   pub priorities : List ℕ
-  pub ready : Ready (tablesOf owners priorities offsets targets) s base work
+  pub ready : CallReady (tablesOf owners priorities offsets targets) s base work
   pub part :
       (v : ℕ) →
       drawnAt (tablesOf owners priorities offsets targets) base work v ≡ true →
@@ -32,7 +32,7 @@ pub record Cuttable (owners offsets targets : List ℕ) (s base : ℕ) (work : L
 -- what the opponent of p's player won at the next level lies in V, for tables with any priorities
 pub record Losable (owners offsets targets : List ℕ) (p s base : ℕ) (work : List ℕ) : Type 0 where
   pub priorities : List ℕ
-  pub ready : Ready (tablesOf owners priorities offsets targets) s base work
+  pub ready : CallReady (tablesOf owners priorities offsets targets) s base work
   pub part :
       (v : ℕ) →
       wonAt (tablesOf owners priorities offsets targets) (nextLevel s base) work (opponent (parity p)) v ≡ true →

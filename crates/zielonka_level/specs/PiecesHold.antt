@@ -25,14 +25,14 @@ use Rattle.accepted.specs.Tables.{accepted-sound, accepted-few}
 use Rattle.area.specs.Area.{entries, free, wordsAt, setAt}
 use Rattle.attractor.specs.Attracted.{Attractable, Attracted, listed-kept, edges-sound}
 use Rattle.area.specs.Lent.{part-is, part-length}
-use Rattle.priority_sets.specs.Sorting.{setOfPriority, Placeable, set-room}
+use Rattle.priority_sets.specs.Sorting.{setOfPriority, PriorityPlaceable, set-room}
 use Rattle.priority_sets.specs.Meeting.{Meets, Met, met-set}
 use Rattle.successors.specs.Lowest.{lowestEnd}
 use Rattle.area.specs.SetsAt.{set-kept, set-cleared, set-copied, set-copied-here, set-united, set-reduced}
 use Rattle.zielonka_level.specs.Level.{nextLevel, wonPlace, onLevel, drawnAt, wonAt, entriesOf, Called, Stays}
 use Rattle.zielonka_level.specs.Steps.{CutBy, AllAt, JoinedAt, stays-on, sorted-kept, level-stays, cut-over}
 use Rattle.highest_priority.specs.Extending.{Extends, Extended}
-use Rattle.zielonka_level.specs.Pieces.{Ready, Cuttable, Losable}
+use Rattle.zielonka_level.specs.Pieces.{CallReady, Cuttable, Losable}
 
 -- ---- words below a bound stay
 
@@ -82,7 +82,7 @@ called-stays {t} {base} {x} {y} stays c =
     same : (v : ℕ) → onLevel t base y v ≡ onLevel t base x v
     same = level-stays (c .low) stays
 
-pub ready-stays : {t : Tables} {s base : ℕ} {x y : List ℕ} → Stays t base x y → Ready t s base x → Ready t s base y
+pub ready-stays : {t : Tables} {s base : ℕ} {x y : List ℕ} → Stays t base x y → CallReady t s base x → CallReady t s base y
 ready-stays stays r =
     record { called = called-stays stays (r .called); size = r .size; high = omega (arith, stays .long, r .high) }
 
@@ -236,12 +236,12 @@ both-tests : (n : ℕ) (x : Bool) (v p q : ℕ) → (x ≡ true → v < n) → (
 both-tests n true v p q h = rw (lt-ltb v n (h refl)) refl
 both-tests n false v p q h = refl
 
-module _ {t : Tables} {p s base : ℕ} {w₀ : List ℕ} (ready : Ready t s base w₀) (small : p < 256) where
+module _ {t : Tables} {p s base : ℕ} {w₀ : List ℕ} (ready : CallReady t s base w₀) (small : p < 256) where
   size : s ≡ words (vertices t)
   size = ready .size
 
   -- where the set of priority p stands, and that it stands below V
-  pub highest-placed : Placeable (vertices t) (edgesIn t) s p
+  pub highest-placed : PriorityPlaceable (vertices t) (edgesIn t) s p
   highest-placed =
       let sound = accepted-sound t (ready .called .accepted) in
       record { size = size; few = sound .few-vertices; few-edges = sound .few-edges; small = small }
@@ -401,7 +401,7 @@ player-number (suc a) zero h k e = let z : _≡_ {A = ℕ} 0 1 = cc in absurd (o
 player-number (suc a) (suc b) h k e = omega arith
 
 module _ {t : Tables} {s base : ℕ} (p : ℕ) {of place : ℕ} {w₀ w₁ w₂ w₃ : List ℕ}
-    (ready : Ready t s base w₀)
+    (ready : CallReady t s base w₀)
     (small : p < 256)
     (from : of ≡ setOfPriority (words (vertices t)) (free (vertices t) (edgesIn t)) p)
     (met : Met (base + s) base of s w₀ w₁)

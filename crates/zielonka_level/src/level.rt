@@ -10,24 +10,23 @@ ghost use Prim.Native.Nat.{ℕ, _+_, _*_, _^_, _≤_, _<_};
 ghost use lib.ListN.{length, take, drop};
 ghost use Rattle.rules.specs.Counting.{some};
 ghost use Rattle.rules.specs.Game.{opponent, parity};
-ghost use Rattle.rules.specs.Tables.{Tables, Accepted, gameOf, vertices, edgesIn, words, tablesOf};
+ghost use Rattle.rules.specs.Tables.{Tables, vertices, edgesIn, words, tablesOf};
 ghost use Rattle.rules.specs.Words.{setOf};
-ghost use Rattle.rules.specs.Zielonka.{withPriority};
 ghost use Rattle.parity_game.specs.Said.{is};
 ghost use Rattle.area.specs.Area.{free};
-ghost use Rattle.zielonka_level.specs.Level.{nextLevel, wonPlace, onLevel, drawnAt, wonAt};
-ghost use Rattle.zielonka_level.specs.Steps.{CutBy, AllAt, JoinedAt};
-ghost use Rattle.zielonka_level.specs.Pieces.{Ready, Sorted, Cuttable, Losable};
+ghost use Rattle.zielonka_level.specs.Level.{wonPlace};
+ghost use Rattle.zielonka_level.specs.Steps.{AllAt, JoinedAt};
+ghost use Rattle.zielonka_level.specs.Pieces.{CallReady, Sorted};
 
 // The player who does not have p's parity.
-fn opponent_of(p: Priority) -> Player
+pub fn opponent_of(p: Priority) -> Player
     ensures { λ r. ⌜ is r ≡ opponent (parity (p .0)) ⌝ }
 {
     Player::from_priority(p).opponent()
 }
 
 // Where the set that a player wins stands at a level.
-fn won_at(base: usize, s: usize, player: Player) -> usize
+pub fn won_at(base: usize, s: usize, player: Player) -> usize
     requires { ⌜ base + 3 * s < 2 ^ 64 ⌝ }
     ensures { λ r. ⌜ r ≡ wonPlace s base (is player) ⌝ }
 {
@@ -35,108 +34,6 @@ fn won_at(base: usize, s: usize, player: Player) -> usize
         Player::Even => base + 2 * s,
         Player::Odd => base + 3 * s,
     }
-}
-
-// Draws to the set in the attractor's place, and puts V without the attractor at the next level.
-fn cut(
-    owners: &[u8],
-    offsets: &[u16],
-    targets: &[u16],
-    player: Player,
-    s: usize,
-    work: &mut [u64],
-    base: usize,
-)
-    requires { ⌜ Cuttable (now owners) (now offsets) (now targets) s base (now work) ⌝ }
-    ensures { λ r.
-        ⌜ ((priorities : List ℕ) →
-        Accepted (tablesOf (now (owners .entry)) priorities (now (offsets .entry)) (now (targets .entry))) →
-        CutBy (tablesOf (now (owners .entry)) priorities (now (offsets .entry)) (now (targets .entry)))
-        (is player) base
-        (onLevel (tablesOf (now (owners .entry)) priorities (now (offsets .entry)) (now (targets .entry))) base
-        (now (work .entry)))
-        (drawnAt (tablesOf (now (owners .entry)) priorities (now (offsets .entry)) (now (targets .entry))) base
-        (now (work .entry)))
-        (now (work .entry)) (now (work .exit))) ⌝ }
-{
-    attractor::attract(
-        owners,
-        offsets,
-        targets,
-        player.index(),
-        work,
-        base,
-        base + s,
-    );
-    sets::copy_with(work, base + 4 * s, base, s);
-    sets::difference_with(work, base + 4 * s, base + s, s);
-}
-
-// U: the vertices of V with priority p; A: the attractor of U for p's player. V without A goes to the next level.
-pub fn attract_highest(
-    owners: &[u8],
-    offsets: &[u16],
-    targets: &[u16],
-    p: Priority,
-    s: usize,
-    work: &mut [u64],
-    base: usize,
-)
-    requires { ⌜ Sorted (now owners) (now offsets) (now targets) (p .0) s base (now work) ⌝ }
-    ensures { λ r.
-        ⌜ ((priorities : List ℕ) →
-        Ready (tablesOf (now (owners .entry)) priorities (now (offsets .entry)) (now (targets .entry))) s base
-        (now (work .entry)) →
-        CutBy (tablesOf (now (owners .entry)) priorities (now (offsets .entry)) (now (targets .entry)))
-        (parity (p .0)) base
-        (onLevel (tablesOf (now (owners .entry)) priorities (now (offsets .entry)) (now (targets .entry))) base
-        (now (work .entry)))
-        (withPriority (gameOf (tablesOf (now (owners .entry)) priorities (now (offsets .entry))
-        (now (targets .entry))))
-        (onLevel (tablesOf (now (owners .entry)) priorities (now (offsets .entry)) (now (targets .entry))) base
-        (now (work .entry))) (p .0))
-        (now (work .entry)) (now (work .exit))) ⌝ }
-{
-    let of = priority_sets::set_at(owners.len(), targets.len(), s, p.0);
-    priority_sets::meet(work, base + s, base, of, s);
-    cut(
-        owners,
-        offsets,
-        targets,
-        Player::from_priority(p),
-        s,
-        work,
-        base,
-    );
-}
-
-// B: the attractor of what the opponent of p's player won at the next level, for that opponent. V without B goes to
-// the next level.
-pub fn attract_lost(
-    owners: &[u8],
-    offsets: &[u16],
-    targets: &[u16],
-    p: Priority,
-    s: usize,
-    work: &mut [u64],
-    base: usize,
-)
-    requires { ⌜ Losable (now owners) (now offsets) (now targets) (p .0) s base (now work) ⌝ }
-    ensures { λ r.
-        ⌜ ((priorities : List ℕ) →
-        Accepted (tablesOf (now (owners .entry)) priorities (now (offsets .entry)) (now (targets .entry))) →
-        CutBy (tablesOf (now (owners .entry)) priorities (now (offsets .entry)) (now (targets .entry)))
-        (opponent (parity (p .0))) base
-        (onLevel (tablesOf (now (owners .entry)) priorities (now (offsets .entry)) (now (targets .entry))) base
-        (now (work .entry)))
-        (wonAt (tablesOf (now (owners .entry)) priorities (now (offsets .entry)) (now (targets .entry)))
-        (nextLevel s base) (now (work .entry)) (opponent (parity (p .0))))
-        (now (work .entry)) (now (work .exit))) ⌝ }
-{
-    let player = opponent_of(p);
-    let lost = won_at(base + 4 * s, s, player);
-    sets::copy_with(work, base + s, lost, s);
-    cut(owners, offsets, targets, player, s, work, base);
 }
 
 // Whether the opponent of p's player won nothing at a level.
@@ -164,7 +61,7 @@ pub fn win_everything(
     requires { ⌜ Sorted (now owners) (now offsets) (now targets) (p .0) s base (now work) ⌝ }
     ensures { λ r.
         ⌜ ((priorities : List ℕ) →
-        Ready (tablesOf (now (owners .entry)) priorities (now (offsets .entry)) (now (targets .entry))) s base
+        CallReady (tablesOf (now (owners .entry)) priorities (now (offsets .entry)) (now (targets .entry))) s base
         (now (work .entry)) →
         AllAt (tablesOf (now (owners .entry)) priorities (now (offsets .entry)) (now (targets .entry))) (p .0) base
         (now (work .entry)) (now (work .exit))) ⌝ }

@@ -68,7 +68,9 @@ ok23 c =
     went-on (f .result) _ (c .if3 .left) (c .before .number3 .ensures) (numbered-givenAt 23 _ _ (omega arith)) (f .ensures)
 
 check-partition-requires : tie.Need-check-partition-requires
-check-partition-requires c κs = partition-ready (c .before .before .before .before .before .before .before .before .before .pre .0)
+check-partition-requires c κs =
+    let s = c .before .before .before .before .before .before .before .before .before in
+    partition-ready (s .pre .0)
 
 number-requires : tie.Need-number-requires
 number-requires c κs = search needs

@@ -64,7 +64,8 @@ work-words-requires c κs = work-fits (certifiable (c .before .before .before .b
 clear-requires : tie.Need-clear-requires
 clear-requires c κs =
     let f = c .before .before .before .before .certify in
-    let room = certifiable (c .before .before .before .before .before .before) .room in
+    let d = c .before .before .before .before .before .before in
+    let room = certifiable d .room in
     (omega arith, omega (arith, f .ensures .long, c .work-words .ensures))
 
 same-length : tie.Need-same-length

@@ -13,9 +13,9 @@ use Rattle.rules.specs.Tables.{Tables, tablesOf, vertices, Accepted}
 use Rattle.parity_game.specs.Laws.{Sound, accepted-sound, numbered-check9, check9-table-none}
 use Rattle.parity_game.proofs.Matched.{went-on, stopped, refusal-not-zero}
 use Rattle.parity_game.specs.Said.{said}
-use Rattle.compaction.specs.Marks.{Small}
+use Rattle.compaction_numbers.specs.Marks.{Small}
 use Rattle.compaction.specs.Laws.{lentOf, tableRoom, compacts-table, compacts-kept, compacts-answered}
-use Rattle.compaction.specs.Steps.{numbers-compact}
+use Rattle.compaction_numbers.specs.Steps.{numbers-compact}
 use Rattle.compaction.proofs.compact.Statement.{statement}
 use Rattle.compaction.proofs.compact.Tie as tie
 

@@ -5,12 +5,12 @@ use Prim.Native.Nat.{_≤_, _-_}
 use native.Mathlib.Omega.{arith}
 use borrow.Author.Needs.{needs}
 use lib.ListN.{length, length-set}
-use Rattle.kept_numbers.specs.Steps.{Summed, summed-none, summed-some, summed-zero, summed-all}
+use Rattle.kept_numbers.specs.Steps.{CountsSummed, summed-none, summed-some, summed-zero, summed-all}
 use Rattle.kept_numbers.proofs.sum_up.Statement.{statement}
 use Rattle.kept_numbers.proofs.sum_up.Tie as tie
 
 abbrev Inv-loop : tie.InvT-loop
-Inv-loop kept different₀ highest₀ p₀ different highest p = (p ≤ 256) × (different ≤ p) × Summed p kept different highest
+Inv-loop kept different₀ highest₀ p₀ different highest p = (p ≤ 256) × (different ≤ p) × CountsSummed p kept different highest
 
 abbrev μ-loop : tie.MeasureT-loop
 μ-loop kept different₀ highest₀ p₀ different highest p = 256 - p

@@ -15,18 +15,19 @@ use Rattle.mend.specs.Laws.{export4, export5, export-grouped}
 use Rattle.mend.proofs.check_export.Statement.{statement}
 use Rattle.mend.proofs.check_export.Tie as tie
 
--- the tables as lent, from the start and from the place past each check
-abbrev tables : tie.Start → Tables
+-- the tables as lent, from where the first answer's number is asked and from the place past each check
+abbrev tables : tie.After-number → Tables
 tables c =
+    let args = c .before .before .before .before .before .before .args in
     record {
-      owners = c .args .owners .now;
-      priorities = c .args .priorities .now;
-      offsets = c .args .offsets .now;
-      targets = c .args .targets .now;
+      owners = args .owners .now;
+      priorities = args .priorities .now;
+      offsets = args .offsets .now;
+      targets = args .targets .now;
     }
 
 abbrev lent : tie.Else1 → Tables
-lent c = tables (c .before .before .before .before .before .before .before)
+lent c = tables (c .before)
 
 abbrev lent2 : tie.Else2 → Tables
 lent2 c = lent (c .before .before .before)
@@ -97,7 +98,7 @@ number-requires c κs = search needs
 
 returns : tie.Need-returns
 returns c =
-    let t = tables (c .before .before .before .before .before .before .before) in
+    let t = tables (c .before) in
     let called = c .before .before .check-lengths in
     stopped (called .result) (lengthChecks t) (export4 t) (answered 0) (c .if1 .taken) (c .before .number .ensures)
     (called .ensures) ∙
@@ -134,7 +135,9 @@ returns-3 c =
     out (left5 (c .before .before .before))
 
 check-offsets-requires : tie.Need-check-offsets-requires
-check-offsets-requires c κs = lengths-fit (c .before .before .before .before .before .before) .1
+check-offsets-requires c κs =
+    let first = c .before .before .before .before .before .before in
+    lengths-fit first .1
 
 returns-4 : tie.Need-returns-4
 returns-4 c = c .check-offsets .ensures ∙ out (left6 (c .before))

@@ -13,8 +13,8 @@ use Rattle.parity_game.proofs.Matched.{went-on, stopped, refusal-not-zero}
 use Rattle.parity_game.specs.Said.{said, refusal}
 use Rattle.theory.specs.Mending.{exportChecks, Mendable, export-mendable}
 use Rattle.mend_counts.specs.Bare.{bared-shaped, bared-offsets, bared-targets}
-use Rattle.mend.specs.Laws.{lentOf, roomChecks, Sizes, sizes-told, lateChecks, mending-grouped, numbered-export, too-many}
-use Rattle.mend.specs.Laws.{rooms-left, Rooms, rooms-fit, numbered-rooms, refusal-same, mends-refused, mends-answered}
+use Rattle.mend.specs.Laws.{lentOf, roomChecks, ExportSizes, sizes-told, lateChecks, mending-grouped, numbered-export, too-many}
+use Rattle.mend.specs.Laws.{rooms-left, ExportRooms, rooms-fit, numbered-rooms, refusal-same, mends-refused, mends-answered}
 use Rattle.mend.proofs.mend.Statement.{statement}
 use Rattle.mend.proofs.mend.Tie as tie
 
@@ -51,7 +51,7 @@ begun c = start (c .before .before .before .before)
 
 sizes :
     (c : tie.After-altered-vertices) →
-    Sizes (tables (begun c)) (c .before .dropped-edges .result) (c .altered-vertices .result)
+    ExportSizes (tables (begun c)) (c .before .dropped-edges .result) (c .altered-vertices .result)
 sizes c =
     sizes-told (tables (begun c)) (c .before .dropped-edges .result) (c .altered-vertices .result)
     (mendable (c .before .before) .shaped)
@@ -164,7 +164,7 @@ rooms :
     (c : tie.Else3) →
     let t = tables (begun (last c)) in
     let l = lent (begun (last c)) in
-    Rooms (vertices t) (length (mended t .targets)) (length (mendingList t)) (length (l .priorities)) (length (l .offsets))
+    ExportRooms (vertices t) (length (mended t .targets)) (length (mendingList t)) (length (l .priorities)) (length (l .offsets))
     (length (l .targets)) (length (l .list))
 rooms c = rooms-fit _ _ _ _ _ _ _ (passes c)
 

@@ -1,8 +1,8 @@
 -- `mark_within` meets its contract: each stage leaves what the next one needs.
 use Rattle.search_rows.specs.Rows.{marks, behind}
-use Rattle.depth_first.specs.Area.{Cleared, cleared-as}
-use Rattle.depth_first.specs.Graph.{Graph, graph, size, edgeCount}
-use Rattle.parts.specs.Noting.{noteable-as, noted-as}
+use Rattle.search_links.specs.Area.{ClearedUpTo, cleared-as}
+use Rattle.search_links.specs.Graph.{Graph, graph, size, edgeCount}
+use Rattle.good_parts.specs.Noting.{noteable-as, noted-as}
 use Rattle.parts.specs.Whole.{passes, labelling, hits-noteable, pairs-noteable, collectable, marked-parts}
 use borrow.Author.Needs.{needs}
 use Rattle.parts.proofs.mark_within.Statement.{statement}
@@ -34,7 +34,7 @@ cast-p c = search needs
 cleared :
     (c : tie.After-clear) →
     let G = graph-of (at1 c) in
-    Cleared (marks (size G) (edgeCount G)) (behind (size G) (edgeCount G)) (at1 c .args .work .now) (c .clear .last .0)
+    ClearedUpTo (marks (size G) (edgeCount G)) (behind (size G) (edgeCount G)) (at1 c .args .work .now) (c .clear .last .0)
 cleared c = cleared-as (c .before .before .marks .ensures) (c .before .behind .ensures) (c .clear .ensures)
 
 marks-requires : tie.Need-marks-requires

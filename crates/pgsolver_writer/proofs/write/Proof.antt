@@ -5,7 +5,7 @@ use native.Mathlib.Omega.{arith}
 use borrow.Author.Needs.{needs}
 use Rattle.rules.specs.Tables.{Tables, tablesOf}
 use Rattle.rules.specs.Writing.{Writes}
-use Rattle.pgsolver_put.specs.Written.{Written, above}
+use Rattle.pgsolver_line.specs.Written.{PutWritten, above}
 use Rattle.pgsolver_put.specs.Texts.{writes-empty, writes-short, writes-answered}
 use Rattle.pgsolver_writer.proofs.write.Statement.{statement}
 use Rattle.pgsolver_writer.proofs.write.Tie as tie
@@ -18,7 +18,7 @@ abbrev start : tie.Else1 → tie.Start
 start c = c .before .before .before .before .before .before
 
 -- past 33 the tables have a vertex
-written : (c : tie.Else1) → Written (tables (start c))
+written : (c : tie.Else1) → PutWritten (tables (start c))
 written c = record { accepted = start c .pre; some = above _ (c .if1 .left) }
 
 -- the length is that of the text

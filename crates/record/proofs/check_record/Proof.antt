@@ -16,22 +16,22 @@ use Rattle.kept_numbers.proofs.check_kept.Reads as check-kept-reads
 use Rattle.parity_game.proofs.answer.Answer.number.Reads as number-reads
 use Rattle.record.proofs.check_room.Reads as check-room-reads
 
--- the record as lent
-abbrev lent : tie.Start → Record
+-- the record as lent, from where an answer's number is asked
+abbrev lent : tie.After-number → Record
 lent c =
-    recordOf (c .args .n) (c .args .m) (c .args .owners .now) (c .args .priorities .now) (c .args .offsets .now) (c .args .targets .now)
-    (c .args .kept .now)
+    let args = c .before .before .before .before .before .before .before .args in
+    recordOf (args .n) (args .m) (args .owners .now) (args .priorities .now) (args .offsets .now) (args .targets .now) (args .kept .now)
 
 -- past the first check the tables pass
-tables-ok : (c : tie.Else1) → recordTables (lent (c .before .before .before .before .before .before .before .before)) ≡ none
+tables-ok : (c : tie.Else1) → recordTables (lent (c .before)) ≡ none
 tables-ok c =
     let called = c .before .before .check-room in
-    let r = lent (c .before .before .before .before .before .before .before .before) in
+    let r = lent (c .before) in
     went-on (called .result) (recordTables r) (c .if1 .left) (c .before .number .ensures) (numbered-record-tables r)
     (rw (tables-unkept r) at (called .ensures))
 
-room : (c : tie.Else1) → Roomy (lent (c .before .before .before .before .before .before .before .before))
-room c = tables-pass (lent (c .before .before .before .before .before .before .before .before)) (tables-ok c) .0
+room : (c : tie.Else1) → Roomy (lent (c .before))
+room c = tables-pass (lent (c .before)) (tables-ok c) .0
 
 check-room-requires : tie.Need-check-room-requires
 check-room-requires c κs = search needs
@@ -43,7 +43,7 @@ returns : tie.Need-returns
 unfolding recordChecks
 returns c =
     let called = c .before .before .check-room in
-    let r = lent (c .before .before .before .before .before .before .before .before) in
+    let r = lent (c .before) in
     stopped (called .result) (recordTables r) (check47 r) (answered 0) (c .if1 .taken) (c .before .number .ensures)
     (rw (tables-unkept r) at (called .ensures))
 
@@ -62,7 +62,7 @@ check-kept-requires c κs = search needs
 returns-2 : tie.Need-returns-2
 unfolding recordChecks
 returns-2 c =
-    let r = lent (c .before .before .before .before .before .before .before .before .before .before) in
+    let r = lent (c .before .before .before) in
     c .check-kept .ensures ∙
     ap (λ (ps : List ℕ). outcome (keptCheck ps (r .kept)) (answered 0)) (part-front (r .n) (r .priorities)) ∙
     sym (outcome-pass (recordTables r) (check47 r) (answered 0) (tables-ok (c .before .before)))

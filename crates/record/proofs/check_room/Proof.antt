@@ -15,16 +15,17 @@ use Rattle.parity_game.proofs.answer.Answer.number.Reads as number-reads
 use Rattle.record.proofs.check_fronts.Reads as check-fronts-reads
 use Rattle.record.proofs.check_sizes.Reads as check-sizes-reads
 
--- the record as lent
-abbrev lent : tie.Start → Record
+-- the record as lent, from where an answer's number is asked
+abbrev lent : tie.After-number → Record
 lent c =
-    recordOf (c .args .n) (c .args .m) (c .args .owners .now) (c .args .priorities .now) (c .args .offsets .now) (c .args .targets .now) []
+    let args = c .before .before .before .before .before .before .args in
+    recordOf (args .n) (args .m) (args .owners .now) (args .priorities .now) (args .offsets .now) (args .targets .now) []
 
 -- past the first check the sizes pass
-sizes-pass : (c : tie.Else1) → sizeChecks (lent (c .before .before .before .before .before .before .before)) ≡ none
+sizes-pass : (c : tie.Else1) → sizeChecks (lent (c .before)) ≡ none
 sizes-pass c =
     let called = c .before .before .check-sizes in
-    let r = lent (c .before .before .before .before .before .before .before) in
+    let r = lent (c .before) in
     went-on (called .result) (sizeChecks r) (c .if1 .left) (c .before .number .ensures) (numbered-sizes r) (called .ensures)
 
 check-sizes-requires : tie.Need-check-sizes-requires
@@ -37,17 +38,17 @@ returns : tie.Need-returns
 unfolding recordTables
 returns c =
     let called = c .before .before .check-sizes in
-    let r = lent (c .before .before .before .before .before .before .before) in
+    let r = lent (c .before) in
     stopped (called .result) (sizeChecks r) (tableChecks (tablesIn r)) (answered 0) (c .if1 .taken) (c .before .number .ensures)
     (called .ensures)
 
 check-fronts-requires : tie.Need-check-fronts-requires
-check-fronts-requires c κs = roomy (lent (c .before .before .before .before .before .before .before)) (sizes-pass c)
+check-fronts-requires c κs = roomy (lent (c .before)) (sizes-pass c)
 
 returns-2 : tie.Need-returns-2
 unfolding recordTables
 returns-2 c =
-    let r = lent (c .before .before .before .before .before .before .before .before) in
+    let r = lent (c .before .before) in
     c .check-fronts .ensures ∙ sym (outcome-pass (sizeChecks r) (tableChecks (tablesIn r)) (answered 0) (sizes-pass (c .before)))
 
 pub check-room-spec : {M : Type 1} → statement M

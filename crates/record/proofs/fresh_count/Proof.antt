@@ -18,22 +18,22 @@ use Rattle.kept_numbers.proofs.write_fresh.Reads as write-fresh-reads
 use Rattle.parity_game.proofs.answer.Answer.number.Reads as number-reads
 use Rattle.record.proofs.check_room.Reads as check-room-reads
 
--- the record as lent
-abbrev lent : tie.Start → Record
+-- the record as lent, from where an answer's number is asked
+abbrev lent : tie.After-number → Record
 lent c =
-    recordOf (c .args .n) (c .args .m) (c .args .owners .now) (c .args .priorities .now) (c .args .offsets .now) (c .args .targets .now)
-    (c .args .kept .now)
+    let args = c .before .before .before .before .before .before .before .args in
+    recordOf (args .n) (args .m) (args .owners .now) (args .priorities .now) (args .offsets .now) (args .targets .now) (args .kept .now)
 
 -- past the first check the tables pass
-tables-ok : (c : tie.Else1) → recordTables (lent (c .before .before .before .before .before .before .before .before)) ≡ none
+tables-ok : (c : tie.Else1) → recordTables (lent (c .before)) ≡ none
 tables-ok c =
     let called = c .before .before .check-room in
-    let r = lent (c .before .before .before .before .before .before .before .before) in
+    let r = lent (c .before) in
     went-on (called .result) (recordTables r) (c .if1 .left) (c .before .number .ensures) (numbered-record-tables r)
     (rw (tables-unkept r) at (called .ensures))
 
-room : (c : tie.Else1) → Roomy (lent (c .before .before .before .before .before .before .before .before))
-room c = tables-pass (lent (c .before .before .before .before .before .before .before .before)) (tables-ok c) .0
+room : (c : tie.Else1) → Roomy (lent (c .before))
+room c = tables-pass (lent (c .before)) (tables-ok c) .0
 
 check-room-requires : tie.Need-check-room-requires
 check-room-requires c κs = search needs
@@ -45,7 +45,7 @@ returns : tie.Need-returns
 unfolding freshChecks
 returns c =
     let called = c .before .before .check-room in
-    let r = lent (c .before .before .before .before .before .before .before .before) in
+    let r = lent (c .before) in
     fresh-refused r (said (called .result))
     (stopped (called .result) (recordTables r) (keptRoom (r .kept)) (answered 0) (c .if1 .taken)
     (c .before .number .ensures)
@@ -53,7 +53,7 @@ returns c =
     (refusal-not-zero (called .result) (c .if1 .taken) (c .before .number .ensures))
 
 returns-2 : tie.Need-returns-2
-returns-2 c = fresh-nine (lent (c .before .before .before .before .before .before .before .before .before)) (tables-ok (c .before)) (c .if2 .taken)
+returns-2 c = fresh-nine (lent (c .before .before)) (tables-ok (c .before)) (c .if2 .taken)
 
 sub-write-fresh : tie.Need-sub-write-fresh
 sub-write-fresh c = search needs
@@ -72,9 +72,9 @@ same-length c = search needs
 
 returns-3 : tie.Need-returns-3
 returns-3 c =
-    let r = lent (c .before .before .before .before .before .before .before .before .before .before .before .before .before .before) in
     let wrote = c .before .before in
     let sized = wrote .before .before .before in
+    let r = lent (sized .before .before) in
     fresh-written r (wrote .write-fresh .last .1 .0) (fresh-passes r (tables-ok (sized .before)) (sized .if2 .left))
     (wrote .write-fresh .ensures ∙ ap (λ (ps : List ℕ). freshCount ps) (part-front (r .n) (r .priorities)))
 

@@ -1,6 +1,6 @@
 -- `print_refused` writes no more than the line that was put.
 use borrow.Author.Needs.{needs}
-use Rattle.printing.specs.Puts.{puts-within}
+use Rattle.putting.specs.Puts.{puts-within}
 use Rattle.solve.proofs.print_refused.Statement.{statement}
 use Rattle.solve.proofs.print_refused.Tie as tie
 

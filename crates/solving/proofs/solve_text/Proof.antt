@@ -9,7 +9,7 @@ use Rattle.rules.specs.Outcome.{Outcome}
 use Rattle.rules.specs.Printing.{refusedLine, PrintsText}
 use Rattle.rules.specs.Reading.{Written}
 use Rattle.parity_game.specs.Said.{said}
-use Rattle.printing.specs.Puts.{puts-front, puts-within}
+use Rattle.putting.specs.Puts.{puts-front, puts-within}
 use Rattle.solving.specs.Texts.{prints-refused, few, short, game-given, prints-solved}
 use Rattle.solving.proofs.solve_text.Statement.{statement}
 use Rattle.solving.proofs.solve_text.Tie as tie
@@ -149,7 +149,9 @@ part-solve-tables-start-4 : tie.Need-part-solve-tables-start-4
 part-solve-tables-start-4 c = search needs
 
 part-solve-tables-end-4 : tie.Need-part-solve-tables-end-4
-part-solve-tables-end-4 c = omega (arith, m-few (c .before .before .before .before .before .before .before))
+part-solve-tables-end-4 c =
+    let test = c .before .before .before .before .before .before .before in
+    omega (arith, m-few test)
 
 solve-tables-requires : tie.Need-solve-tables-requires
 solve-tables-requires c κs =

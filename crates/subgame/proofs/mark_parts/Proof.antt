@@ -43,8 +43,8 @@ use denote.Exit.{yes}
 use Rattle.parity_game.specs.declared.player.Priority.{Priority}
 use Rattle.parity_game.proofs.player.Priority as Pr
 use Rattle.parity_game.proofs.player.Priority.Laws as Pr′
-use Rattle.depth_first.specs.Graph.{Graph, graph}
-use Rattle.parts.specs.Whole.{Markable, Marked}
+use Rattle.search_links.specs.Graph.{Graph, graph}
+use Rattle.parts.specs.Whole.{PartsMarkable, PartsMarked}
 use Rattle.by_hand.proofs.Walk.{_▸_, full, span, begins, leaves, apart, knowing, arg, _&_, sets}
 use Rattle.subgame.specs.declared.Subgame.{Subgame}
 use Rattle.subgame.proofs.Held.{sv, Slice, Prio, pv, View, made, unnamed, prio-fits, view-fits, Tokens, inward}
@@ -124,7 +124,7 @@ module _ {M : Type 1} (𝓤 : URA M) (H : Heap 𝓤) (A : Atoms 𝓤) (W : Given
     G = graph (priorities .now) (offsets .now) (targets .now) (entries .now) (top .0)
 
     abbrev Ready : Type 0
-    Ready = Markable G (work .now) row × (top .0 < 256)
+    Ready = PartsMarkable G (work .now) row × (top .0 < 256)
 
     -- the view, at the table's lifetime
     abbrev d : Subgame
@@ -248,36 +248,36 @@ module _ {M : Type 1} (𝓤 : URA M) (H : Heap 𝓤) (A : Atoms 𝓤) (W : Given
         move ! (7 ∷ 8 ∷ 2 ∷ 3 ∷ 5 ∷ 9 ∷ 1 ∷ 0 ∷ []) $ group ! 8 $
         use1 W (raw (Thin 𝓤 H A at-mem run .pre (to v))) (knowing 𝓤 H A W _ ready) $ keep ! (0 ∷ 2 ∷ []) $ done !
 
-    record Outcome (w : Val) : Type 0 where
+    record PartsOutcome (w : Val) : Type 0 where
       list : List ℕ
-      met : Marked G row (work .now) list
+      met : PartsMarked G row (work .now) list
       long : length list ≡ length (work .now)
       is-unit : w ≡ vunit
 
-    abbrev Got : (w : Val) → Outcome w → Item 𝓤
+    abbrev Got : (w : Val) → PartsOutcome w → Item 𝓤
     Got w g = Toks ⊛ ‵ (finally u64 (work .name) (g .list))
 
     gets : (v w : Val) → ent 𝓤 (Thin 𝓤 H A at-mem run .post (to v) w)
-        (H .⇛ (ex 𝓤 (λ (g : Outcome w). mean 𝓤 H A (Got w g))))
+        (H .⇛ (ex 𝓤 (λ (g : PartsOutcome w). mean 𝓤 H A (Got w g))))
     gets v w =
         qed W (raw (Thin 𝓤 H A at-mem run .post (to v) w) ∷ []) ∵ updating ! $
         use1 W (later (some (λ (r : Unit {0}). (Toks′ ⊛ ‵ (unit .own r (w ∷ []))) ⊛
         some (λ (zs : Unit {0} × (Unit {0} × (Unit {0} × (Unit {0} × (List ℕ × (Unit {0} × Unit {0})))))).
         ‵ (lasts thin.ended (to v .0 .0) (to v .0 .3) zs) ⊛
-        raw (fact 𝓤 (Marked G row (work .now) (zs .1 .1 .1 .1 .0))))))) (id⊢ 𝓤 _) $
+        raw (fact 𝓤 (PartsMarked G row (work .now) (zs .1 .1 .1 .1 .0))))))) (id⊢ 𝓤 _) $
         await ! tt $ pick ! (λ r. split ! $ split ! $ use1 W Toks back-turn $ move ! (2 ∷ []) $ pick ! (λ zs. split ! $
-        move ! (1 ∷ []) $ heard ! (Marked G row (work .now) (zs .1 .1 .1 .1 .0)) (λ e.
+        move ! (1 ∷ []) $ heard ! (PartsMarked G row (work .now) (zs .1 .1 .1 .1 .0)) (λ e.
         fsplit ! $ drop ! $ fsplit ! $ drop ! $ fsplit ! $ drop ! $ fsplit ! $ drop ! $ fsplit ! $ fsplit ! $
         -- [the last list; its length; true; the tokens; the result]
         move ! (1 ∷ []) $ feqL ! (λ l. move ! (3 ∷ []) $ feqL ! (λ u. at-once ! $
-        show ! (λ (g : Outcome w). mean 𝓤 H A (Got w g))
+        show ! (λ (g : PartsOutcome w). mean 𝓤 H A (Got w g))
         (record { list = zs .1 .1 .1 .1 .0; met = e; long = l; is-unit = ap only u }) $
         keep ! (2 ∷ 0 ∷ []) $ done !)))))
 
     abbrev Post : Val → SProp 𝓤
     Post = walkOf 𝓤 H A mark.ended stayed (mark.clauses 𝓤 H A at-mem run) .post ((κs, qs, tt, a, vals κs a), tt)
 
-    exits : (w : Val) (g : Outcome w) → ent 𝓤
+    exits : (w : Val) (g : PartsOutcome w) → ent 𝓤
         (⋆ 𝓤 H A (Toks ∷ ‵ (finally u64 (work .name) (g .list)) ∷ Lent ∷ [])) (Post vunit)
     exits w g =
         qed W (Toks ∷ ‵ (finally u64 (work .name) (g .list)) ∷ Lent ∷ []) ∵

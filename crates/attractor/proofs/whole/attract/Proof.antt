@@ -9,12 +9,12 @@ use Rattle.rules.specs.Counting.{count}
 use Rattle.rules.specs.Tables.{words}
 use Rattle.basics.specs.Basics.{count-le}
 use Rattle.layer.specs.Laws.{unmarked-empty}
-use Rattle.attractor_step.specs.View.{layerAt}
+use Rattle.attractor_look.specs.InArea.{layerAt}
 use Rattle.area.specs.Area.{layerWords}
-use Rattle.attractor.specs.Attracted.{Attractable}
-use Rattle.attractor.specs.Started.{begin-ready, started-same, started-given, started}
-use Rattle.attractor.specs.Going.{Going, nowAt, takenAt}
-use Rattle.attractor.specs.Running.{Running, Same, marks-read, layer-fits, pop-ready}
+use Rattle.attractor_word.specs.Attracted.{Attractable}
+use Rattle.attractor.specs.LoopBegins.{begin-ready, started-same, started-given, started}
+use Rattle.attractor_word.specs.Going.{Going, nowAt, takenAt}
+use Rattle.attractor.specs.Running.{Running, SameAreas, marks-read, layer-fits, pop-ready}
 use Rattle.attractor.specs.Running.{take-word-ready, word-grows, word-looks-few, going-word, turned}
 use Rattle.attractor.specs.Running.{running-on, running-turn, running-all, attracted-moved}
 use Rattle.attractor.proofs.whole.attract.Statement.{statement}
@@ -58,7 +58,7 @@ given c =
 same :
     (c : tie.After-begin-layers Inv-loop μ-loop) →
     let a = start-of c .args in
-    Same (length (a .owners .now)) (length (a .targets .now)) (a .within) (a .set) (a .work .now) (c .begin-layers .last .0)
+    SameAreas (length (a .owners .now)) (length (a .targets .now)) (a .within) (a .set) (a .work .now) (c .begin-layers .last .0)
 same c =
     let w = sized c in
     let g = at1 w in

@@ -10,8 +10,8 @@ use Rattle.parity_game.specs.Laws.{accepted-sound}
 use Rattle.parity_game.specs.Said.{said, is}
 use Rattle.parity_game.proofs.Matched.{went-on, refusal-not-zero}
 use Rattle.rules.specs.Attracts.{LentResult, attractorChecks}
-use Rattle.attractor_run.specs.Work.{Ran}
-use Rattle.attractor_door.specs.Answered.{Passed, accepted-checks, numbered-checks, checks-passed, run-ready, attracts-refused, attracts-answered}
+use Rattle.attractor_run.specs.Work.{AttractorRan}
+use Rattle.attractor_door.specs.Answered.{AttractorPassed, accepted-checks, numbered-checks, checks-passed, run-ready, attracts-refused, attracts-answered}
 use Rattle.area.specs.Lent.{work-cleared}
 use Rattle.attractor_door.proofs.door.attractor.Statement.{statement}
 use Rattle.attractor_door.proofs.door.attractor.Tie as tie
@@ -60,7 +60,7 @@ no-refusal c =
 passed :
     (c : tie.Else1) →
     let g = at2 c in
-    Passed (tables g) (g .args .within .now) (g .args .target .now) (length (g .args .result .now))
+    AttractorPassed (tables g) (g .args .within .now) (g .args .target .now) (length (g .args .result .now))
     (length (g .args .strategy .now)) (length (g .args .distances .now))
     (length (g .args .work .now))
 passed c =
@@ -138,7 +138,7 @@ returns-2 c =
     (r .run .result)
     (no-refusal e)
     (subst
-    (λ (p : Player). Ran (tables g) p (a .within .now) (a .target .now) (r .run .last .1 .1 .1 .1 .1 .1 .0)
+    (λ (p : Player). AttractorRan (tables g) p (a .within .now) (a .target .now) (r .run .last .1 .1 .1 .1 .1 .1 .0)
     (r .run .last .1 .1 .1 .1 .1 .1 .1 .0) (r .run .last .1 .1 .1 .1 .1 .1 .1 .1 .0) (r .run .result))
     (d .index .ensures .0)
     (r .run .ensures .1 (a .priorities .now) (passed e .accepted)))

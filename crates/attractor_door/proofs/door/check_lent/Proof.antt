@@ -8,7 +8,7 @@ use Rattle.rules.specs.Outcome.{Verdict, none, _then_, outcome, answered}
 use Rattle.rules.specs.Tables.{check9, check10}
 use Rattle.parity_game.specs.Laws.{passed, then-assoc, numbered-then, numbered-check9, numbered-check10}
 use Rattle.parity_game.proofs.Matched.{went-on, stopped}
-use Rattle.attractor_door.specs.Door.{sizeChecks, lentChecks}
+use Rattle.attractor_checks.specs.Door.{sizeChecks, lentChecks}
 use Rattle.attractor_door.specs.Answered.{sizes-right}
 use Rattle.attractor_door.proofs.door.check_lent.Statement.{statement}
 use Rattle.attractor_door.proofs.door.check_lent.Tie as tie

@@ -12,8 +12,8 @@ use Rattle.rules.specs.Words.{setOf}
 use Rattle.rules.specs.Zielonka.{zielonka}
 use Rattle.printing.specs.declared.line.Counted.{Counted}
 use Rattle.printing.specs.Line.{lineBytes}
-use Rattle.printing.specs.Puts.{Puts}
-use Rattle.both_engines.specs.Solved.{Ready, ready-passes, words-cover, countedFor}
+use Rattle.putting.specs.Puts.{Puts}
+use Rattle.both_engines.specs.Solved.{EnginesReady, ready-passes, words-cover, countedFor}
 use Rattle.both_engines.specs.Solved.{solves-counted, solves-kept, line-solved}
 use Rattle.both_engines.proofs.tables.solve_in.Statement.{statement}
 use Rattle.both_engines.proofs.tables.solve_in.Tie as tie
@@ -70,7 +70,7 @@ odd-again : (c : tie.After-solve-zielonka) → length (odd-after c) ≡ length (
 odd-again c = c .solve-zielonka .kept .1 .1 .1 .1 .1 .1 .1 .0
 
 -- Zielonka's rooms have the sizes that promotion's had
-again : (c : tie.After-solve-priority-promotion) → Ready (tables (start c)) (start c .args .kept .now) (between c) (start c .args .out .now)
+again : (c : tie.After-solve-priority-promotion) → EnginesReady (tables (start c)) (start c .args .kept .now) (between c) (start c .args .out .now)
 again c =
     let r = start c .pre in
     record {

@@ -3,8 +3,8 @@ use mathlib.Core.Path.{subst}
 use Prim.Native.Nat.{ℕ}
 use Rattle.sets.specs.After.{Cleared}
 use Rattle.search_rows.specs.Rows.{labels}
-use Rattle.depth_first.specs.Graph.{Graph, graph, size, edgeCount}
-use Rattle.breadth_first.specs.Beginning.{round-lookable, round-standing, rounded}
+use Rattle.search_links.specs.Graph.{Graph, graph, size, edgeCount}
+use Rattle.breadth_first.specs.SearchBegins.{round-lookable, round-standing, rounded}
 use borrow.Author.Needs.{needs}
 use Rattle.breadth_first.proofs.round.spread_round.Statement.{statement}
 use Rattle.breadth_first.proofs.round.spread_round.Tie as tie

@@ -2,8 +2,8 @@
 use mathlib.Core.Path.{_≡_, subst}
 use Prim.Native.Nat.{ℕ, _-_}
 use lib.ListN.{length}
-use Rattle.depth_first.specs.Graph.{Graph, graph}
-use Rattle.breadth_first.specs.Spreading.{Standing, Kept, kept-same, look-ready, standing-moves, kept-moves}
+use Rattle.search_links.specs.Graph.{Graph, graph}
+use Rattle.breadth_first.specs.Spreading.{QueueStanding, SpreadKept, kept-same, look-ready, standing-moves, kept-moves}
 use native.Mathlib.Omega.{arith}
 use borrow.Author.Needs.{needs}
 use Rattle.breadth_first.proofs.search.spread.Statement.{statement}
@@ -11,7 +11,7 @@ use Rattle.breadth_first.proofs.search.spread.Tie as tie
 
 abbrev Inv-loop : tie.InvT-loop
 Inv-loop priorities offsets targets entries p work₀ begun n m queue head₀ tail₀ work head tail =
-    Standing (graph priorities offsets targets entries p) work head tail × Kept
+    QueueStanding (graph priorities offsets targets entries p) work head tail × SpreadKept
     (graph priorities offsets targets entries p) work₀ work
 
 abbrev μ-loop : tie.MeasureT-loop
@@ -79,7 +79,7 @@ returns c =
     record {
       kept = l .inv .1;
       tail = l .tail;
-      standing = subst (λ (k : ℕ). Standing (graph-of s) (l .work) k (l .tail)) all
+      standing = subst (λ (k : ℕ). QueueStanding (graph-of s) (l .work) k (l .tail)) all
           (l .inv .0);
     }
 

@@ -4,7 +4,7 @@ use Prim.Native.Nat.{ℕ, _<_, _^_}
 use lib.ListN.{length}
 use Rattle.rules.specs.Outcome.{outcome, answered, givenAt}
 use Rattle.search_rows.specs.Rows.{behind}
-use Rattle.checker.specs.Cycles.{losingAt, Scannable}
+use Rattle.checker.specs.Cycles.{losingAt, CyclesScannable}
 use Rattle.checker.specs.Checks.{cycles-ready, scan-ready, cycles-told}
 use native.Mathlib.Omega.{arith}
 use borrow.Author.Needs.{needs}
@@ -20,7 +20,7 @@ scannable :
     (d : tie.After-mark-cycles) →
     let a = start d .args in
     let n = length (a .priorities .now) in
-    Scannable (a .even .now) (d .mark-cycles .last .1 .1 .1 .1 .1 .1 .0) (behind n (length (a .targets .now))) n
+    CyclesScannable (a .even .now) (d .mark-cycles .last .1 .1 .1 .1 .1 .1 .0) (behind n (length (a .targets .now))) n
 scannable d = scan-ready (start d .pre .0) (d .mark-cycles .ensures)
 
 mark-cycles-requires : tie.Need-mark-cycles-requires
@@ -40,7 +40,7 @@ find-losing-requires c κs =
     let d = c .before .before .before .before in
     let a = start d .args in
     subst
-    (λ (k : ℕ). Scannable (a .even .now) (d .mark-cycles .last .1 .1 .1 .1 .1 .1 .0) k (length (a .priorities .now)))
+    (λ (k : ℕ). CyclesScannable (a .even .now) (d .mark-cycles .last .1 .1 .1 .1 .1 .1 .0) k (length (a .priorities .now)))
     (sym (c .behind .ensures)) (scannable d)
 
 same-length : tie.Need-same-length

@@ -3,7 +3,7 @@ use mathlib.Core.Path.{ap}
 use Prim.Native.Nat.{ℕ, _+_}
 use lib.ListN.{length}
 use Rattle.search_rows.specs.Rows.{behind}
-use Rattle.depth_first.specs.Area.{Cleared, cleared-as}
+use Rattle.search_links.specs.Area.{ClearedUpTo, cleared-as}
 use Rattle.subgame.specs.Parity.{sweepable-as, swept-as}
 use Rattle.checker.specs.Cycles.{CyclesMarked, build-ready, evens-ready, odds-ready, cycles-marked}
 use borrow.Author.Needs.{needs}
@@ -29,7 +29,7 @@ bare :
     let a = start k .args in
     let n = length (a .priorities .now) in
     let b = behind n (length (a .targets .now)) in
-    Cleared b (b + n + n) (a .work .now) (k .clear .last .0)
+    ClearedUpTo b (b + n + n) (a .work .now) (k .clear .last .0)
 bare k =
     let n = length (start k .args .priorities .now) in
     let e = row-of k .behind .ensures in

@@ -10,7 +10,8 @@ use lib.ListN.{length, getD}
 use Rattle.rules.specs.Counting.{Set}
 use Rattle.rules.specs.Outcome.{answered}
 use Rattle.parity_game.specs.Search.{FailsBelow, outcome-found, outcome-none}
-use Rattle.checker_sides.specs.Sides.{leavesSet, sideOf, edges-end, from-more, own-stays, own-leaves, other-leaves, other-stays}
+use Rattle.checker_entries.specs.Entries.{edges-end, from-more}
+use Rattle.checker_sides.specs.Sides.{leavesSet, sideOf, own-stays, own-leaves, other-leaves, other-stays}
 use native.Mathlib.Omega.{arith}
 use borrow.Author.Needs.{needs}
 use Rattle.checker_sides.proofs.sides.check_sides.Statement.{statement}

@@ -141,7 +141,8 @@ returns-3 c =
     out (left5 (c .before .before .before))
 
 check-offsets-requires : tie.Need-check-offsets-requires
-check-offsets-requires c κs = fit (c .before .before .before .before .before .before) .1
+check-offsets-requires c κs =
+    let checked = c .before .before .before .before .before .before in fit checked .1
 
 number-requires-4 : tie.Need-number-requires-4
 number-requires-4 c κs = search needs
@@ -169,7 +170,8 @@ returns-5 c =
     out (left7 (c .before .before .before))
 
 is-total-requires : tie.Need-is-total-requires
-is-total-requires c κs = fit (c .before .before .before .before .before .before .before .before .before .before .before .before) .1
+is-total-requires c κs =
+    let checked = c .before .before .before .before .before .before .before .before .before .before .before .before in fit checked .1
 
 returns-6 : tie.Need-returns-6
 returns-6 c = c .is-total .ensures ∙ out (left8 (c .before))

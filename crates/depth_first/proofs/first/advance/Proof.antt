@@ -3,7 +3,7 @@ use mathlib.Core.Path.{_≡_, _∙_}
 use Prim.Native.Nat.{_-_}
 use lib.ListN.{length-set}
 use Rattle.search_rows.specs.Rows.{marks}
-use Rattle.depth_first.specs.Graph.{Graph, graph, size, edgeCount}
+use Rattle.search_links.specs.Graph.{Graph, graph, size, edgeCount}
 use Rattle.depth_first.specs.Walking.{markOf, Scanned, advance-pushable, advance-pushes, advance-pops}
 use native.Mathlib.Omega.{arith}
 use borrow.Author.Needs.{needs}
@@ -105,8 +105,9 @@ returns c =
     let s = start (row-of e) in
     let a = s .args in
     let f = e .next-edge in
+    let asked = c .before .before .before .before .before .before in
     advance-pushes (graph-of s) (a .work .now) (a .t) (a .at .top) (a .at .done) (s .pre) (f .result) (scanned e)
-    (c .before .before .before .before .before .before .if1 .taken) (c .before .before .before .push .last .1 .1 .0)
+    (asked .if1 .taken) (c .before .before .before .push .last .1 .1 .0)
     (rw (row-is (row-of e)) at (c .before .before .before .push .ensures))
 
 order-requires : tie.Need-order-requires

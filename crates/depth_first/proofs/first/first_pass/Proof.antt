@@ -3,7 +3,7 @@ use mathlib.Core.Logic.{⊎-elim}
 use mathlib.Core.Path.{_≡_, refl, sym, _∙_}
 use Prim.Native.Nat.{_-_, _<_}
 use lib.ListN.{length}
-use Rattle.depth_first.specs.Graph.{Graph, graph}
+use Rattle.search_links.specs.Graph.{Graph, graph}
 use Rattle.depth_first.specs.Pass.{Rooting, rooting-as, roots-start, root-ready, root-passes, root-searched, roots-end}
 use native.Mathlib.Omega.{arith}
 use borrow.Author.Needs.{needs}
@@ -34,9 +34,10 @@ loop-holds c =
 
 is-fresh-requires : tie.Need-is-fresh-requires Inv-loop μ-loop
 is-fresh-requires c κs =
-    let l = c .before .before in (
+    let l = c .before .before in
+    let start = row-of l .before .before .before .before .before .before in (
       search needs,
-      omega (arith, row-of l .marks .ensures, row-of l .before .before .before .before .before .before .pre .room, l .loop .inv .1 .long),
+      omega (arith, row-of l .marks .ensures, start .pre .room, l .loop .inv .1 .long),
     )
 
 search-from-requires : tie.Need-search-from-requires Inv-loop μ-loop

@@ -1,7 +1,7 @@
 -- `next_edge` meets its contract. The loop's invariant: no edge passed leads to a vertex not yet visited.
 use mathlib.Core.Path.{sym, _∙_}
 use Prim.Native.Nat.{_+_, _-_}
-use Rattle.depth_first.specs.Graph.{Graph, graph}
+use Rattle.search_links.specs.Graph.{Graph, graph}
 use Rattle.depth_first.specs.Walking.{Scanning, scanning-starts, scanning-more, scan-found, scan-nothing}
 use native.Mathlib.Omega.{arith}
 use borrow.Author.Needs.{needs}
@@ -38,7 +38,8 @@ shared-slice-read-end : tie.Need-shared-slice-read-end Inv-loop μ-loop
 shared-slice-read-end c = search needs
 
 cast-end : tie.Need-cast-end Inv-loop μ-loop
-cast-end c = omega (arith, c .shared-slice-known6 .given (c .before .before .before .before .before .before .before .args .t + 1))
+cast-end c =
+    let start = c .before .before .before .before .before .before .before in omega (arith, c .shared-slice-known6 .given (start .args .t + 1))
 
 loop-holds : tie.Need-loop-holds Inv-loop μ-loop
 loop-holds c =

@@ -1,7 +1,7 @@
 -- `search_from` meets its contract. The loop's invariant: the search from r so far. Each move brings a vertex onto the stack or off it.
 use Prim.Native.Nat.{_+_, _-_, _*_}
 use lib.ListN.{length}
-use Rattle.depth_first.specs.Graph.{Graph, graph}
+use Rattle.search_links.specs.Graph.{Graph, graph}
 use Rattle.depth_first.specs.Pass.{Searching, root-pushable, search-starts, move-ready, search-moves, search-ends, search-long}
 use borrow.Author.Needs.{needs}
 use Rattle.depth_first.proofs.first.search_from.Statement.{statement}

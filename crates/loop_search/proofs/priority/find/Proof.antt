@@ -3,9 +3,9 @@ use mathlib.Core.Path.{ap}
 use Prim.Native.Nat.{ℕ, _+_}
 use lib.ListN.{length}
 use Rattle.search_rows.specs.Rows.{labels, behind}
-use Rattle.depth_first.specs.Area.{Cleared, cleared-as}
+use Rattle.search_links.specs.Area.{ClearedUpTo, cleared-as}
 use Rattle.parts.specs.Whole.{markable-as, marked-as}
-use Rattle.loop_search.specs.Heads.{headable-as, headed-as}
+use Rattle.loop_heads.specs.Heads.{headable-as, headed-as}
 use borrow.Author.Needs.{needs}
 use Rattle.loop_search.specs.Finding.{find-markable, find-headable, found}
 use Rattle.loop_search.proofs.priority.find.Statement.{statement}
@@ -34,7 +34,7 @@ bare :
     let a = start d .args in
     let n = length (a .priorities .now) in
     let b = behind n (length (a .targets .now)) in
-    Cleared b (b + n) (a .work .now) (d .clear .last .0)
+    ClearedUpTo b (b + n) (a .work .now) (d .clear .last .0)
 bare d =
     let n = length (start d .args .priorities .now) in
     let e = row-of d .behind .ensures in
@@ -47,7 +47,7 @@ blank :
     let a = start d .args in
     let n = length (a .priorities .now) in
     let l = labels n (length (a .targets .now)) in
-    Cleared l (l + n) (m .mark-used .last .1 .1 .1 .1 .1 .1 .0) (b .clear2 .last .0)
+    ClearedUpTo l (l + n) (m .mark-used .last .1 .1 .1 .1 .1 .1 .0) (b .clear2 .last .0)
 blank b =
     let d = bared (marked b) in
     let n = length (start d .args .priorities .now) in

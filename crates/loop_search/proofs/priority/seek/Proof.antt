@@ -5,13 +5,13 @@ use lib.ListN.{length, getD}
 use Rattle.search_rows.specs.Rows.{labels}
 use native.Mathlib.Omega.{arith}
 use borrow.Author.Needs.{needs}
-use Rattle.loop_search.specs.Finding.{Seeking, seeking-starts, seeking-on, seeking-met, seeking-ends}
+use Rattle.loop_search.specs.Finding.{LoopSeeking, seeking-starts, seeking-on, seeking-met, seeking-ends}
 use Rattle.loop_search.proofs.priority.seek.Statement.{statement}
 use Rattle.loop_search.proofs.priority.seek.Tie as tie
 
 abbrev Inv-loop : tie.InvT-loop
 Inv-loop priorities offsets targets kept entries parity work₀ v n m labels k₀ work k =
-    (k ≤ 128) × Seeking priorities offsets targets entries parity v work₀ k work
+    (k ≤ 128) × LoopSeeking priorities offsets targets entries parity v work₀ k work
 
 abbrev μ-loop : tie.MeasureT-loop
 μ-loop priorities offsets targets kept entries parity work₀ v n m labels k₀ work k = 128 - k
@@ -131,7 +131,7 @@ returns-2 c =
     (a .loop .work)
     (subst
     (λ (k : ℕ).
-    Seeking (s .args .priorities .now) (s .args .offsets .now) (s .args .targets .now) (s .args .entries .now)
+    LoopSeeking (s .args .priorities .now) (s .args .offsets .now) (s .args .targets .now) (s .args .entries .now)
     (s .args .parity) (s .args .v)
     (s .args .work .now) k (a .loop .work))
     all (a .loop .inv .1))

@@ -71,7 +71,9 @@ add-kept c =
     omega (arith, kept-few t (getD (t .offsets) (start .args .v) 0) (at .loop .e), start .pre .0 .few-edges)
 
 add-e : tie.Need-add-e Inv-loop μ-loop
-add-e c = omega (arith, c .before .before .before .before .before .before .pre .0 .few-edges)
+add-e c =
+    let start = c .before .before .before .before .before .before in
+    omega (arith, start .pre .0 .few-edges)
 
 loop-less : tie.Need-loop-less Inv-loop μ-loop
 loop-less c = search needs

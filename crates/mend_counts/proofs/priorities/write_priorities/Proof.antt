@@ -7,14 +7,14 @@ use lib.ListN.{length}
 use Rattle.rules.specs.Counting.{listed}
 use Rattle.rules.specs.Mending.{newPriority, mended}
 use Rattle.rules.specs.Tables.{Tables, tablesOf}
-use Rattle.mend_counts.specs.Placed.{Written, written-none, written-listed, written-length, written-front}
+use Rattle.mend_counts.specs.Placed.{WrittenUpTo, written-none, written-listed, written-length, written-front}
 use Rattle.mend_counts.proofs.priorities.write_priorities.Statement.{statement}
 use Rattle.mend_counts.proofs.priorities.write_priorities.Tie as tie
 
 abbrev Inv-loop : tie.InvT-loop
 Inv-loop owners priorities offsets targets new-priorities₀ v₀ v-end new-priorities v =
     (v ≤ length owners) × (v-end ≡ length owners) ×
-    Written 0 (listed v (newPriority (tablesOf owners priorities offsets targets))) new-priorities₀ new-priorities v
+    WrittenUpTo 0 (listed v (newPriority (tablesOf owners priorities offsets targets))) new-priorities₀ new-priorities v
 
 abbrev μ-loop : tie.MeasureT-loop
 μ-loop owners priorities offsets targets new-priorities₀ v₀ v-end new-priorities v = length owners - v

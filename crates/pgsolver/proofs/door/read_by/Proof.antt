@@ -26,6 +26,10 @@ entry c =
 checked : (c : tie.After-check-rooms) (x : Fits) → c .check-rooms .result ≡ x → roomChecks (entry (start c) .rooms) ≡ fitsSaid x
 checked c x is = size-checks (entry (start c) .rooms) ∙ sym (c .check-rooms .ensures) ∙ ap fitsSaid is
 
+-- the rooms fit
+abbrev fits : tie.After-read-fitting-arg7 → tie.After-enum-told3
+fits c = c .before .before .before .before .before .before .before
+
 check-rooms-requires : tie.Need-check-rooms-requires
 check-rooms-requires c κs = search needs
 
@@ -40,9 +44,9 @@ enum-told-3 c = search needs
 
 read-fitting-requires : tie.Need-read-fitting-requires
 read-fitting-requires c κs =
-    let at = c .before .before .before .before .before .before .before .before
-    .before in fitted (entry (start at) .rooms) (checked at Fit (c .before .before .before .before .before
-    .before .before .enum-told3 .given .1))
+    let fit = fits c in
+    let at = fit .before .before in
+    fitted (entry (start at) .rooms) (checked at Fit (fit .enum-told3 .given .1))
 
 returns : tie.Need-returns
 returns c =
@@ -73,18 +77,15 @@ same-length-5 c = search needs
 
 returns-3 : tie.Need-returns-3
 returns-3 c =
-    let at = c .before .before .before .before .before .before .before .before .before .before .before .before
-    .before .before .before .before .before .before .before .before in
     let end = c .before .before .before .before .before .before .before .before .before .before in
+    let fit = fits (end .before) in
+    let at = fit .before .before in
+    let left = end .read-fitting .last .1 .1 .1 in
     reads-fit (asksIn (start at .args .asks)) (start at .args .most-bytes) (start at .args .text .now) (entry (start at))
-    (writtenOf (end .read-fitting .last .1 .1 .1 .0) (end .read-fitting .last .1 .1 .1 .1 .0)
-    (end .read-fitting .last .1 .1 .1 .1 .1 .0)
-    (end .read-fitting .last .1 .1 .1 .1 .1 .1 .0) (end .read-fitting .last .1 .1 .1 .1 .1 .1 .1 .0) (end .read-fitting
-    .last .1 .1 .1 .1 .1 .1 .1 .1 .0)
-    (end .read-fitting .last .1 .1 .1 .1 .1 .1 .1 .1 .1 .0))
+    (writtenOf (left .0) (left .1 .0) (left .1 .1 .0) (left .1 .1 .1 .0) (left .1 .1 .1 .1 .0) (left .1 .1 .1 .1 .1 .0)
+    (left .1 .1 .1 .1 .1 .1 .0))
     (said (end .read-fitting .result))
-    (checked at Fit (c .before .before .before .before .before .before .before .before .before .before .before
-    .before .before .before .before .before .before .before .enum-told3 .given .1))
+    (checked at Fit (fit .enum-told3 .given .1))
     (end .read-fitting .ensures)
 
 pub read-by-spec : {M : Type 1} → statement M

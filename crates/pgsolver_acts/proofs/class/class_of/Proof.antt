@@ -66,11 +66,14 @@ returns-4 : tie.Need-returns-4
 returns-4 c = sym (class-digit (c .before .before .before .before .before .args .b) (omega arith) (omega arith))
 
 returns-5 : tie.Need-returns-5
-returns-5 c = letter (c .before .before .before .before .before .before) (omega arith) (inl (omega arith, omega arith))
+returns-5 c =
+    let at = c .before .before .before .before .before .before in
+    letter at (omega arith) (inl (omega arith, omega arith))
 
 returns-6 : tie.Need-returns-6
-returns-6 c = letter (c .before .before .before .before .before .before .before
-    .before) (omega arith) (inr (omega arith, omega arith))
+returns-6 c =
+    let at = c .before .before .before .before .before .before .before .before in
+    letter at (omega arith) (inr (omega arith, omega arith))
 
 returns-7 : tie.Need-returns-7
 returns-7 c = other (c .before) (λ e. omega arith) (λ e. omega arith) (inl (omega arith)) (inl (omega arith)) (inl (omega arith))
@@ -82,21 +85,18 @@ returns-8 c =
 
 returns-9 : tie.Need-returns-9
 returns-9 c =
-    other (c .before .before .before .before
-    .before) (λ e. omega arith) (λ e. omega arith) (inr (omega arith)) (inl (omega arith))
-    (inl (omega arith))
+    let at = c .before .before .before .before .before in
+    other at (λ e. omega arith) (λ e. omega arith) (inr (omega arith)) (inl (omega arith)) (inl (omega arith))
 
 returns-10 : tie.Need-returns-10
 returns-10 c =
-    other (c .before .before .before .before .before .before
-    .before) (λ e. omega arith) (λ e. omega arith) (inr (omega arith)) (inr (omega arith))
-    (inl (omega arith))
+    let at = c .before .before .before .before .before .before .before in
+    other at (λ e. omega arith) (λ e. omega arith) (inr (omega arith)) (inr (omega arith)) (inl (omega arith))
 
 returns-11 : tie.Need-returns-11
 returns-11 c =
-    other (c .before .before .before .before .before .before .before
-    .before) (λ e. omega arith) (λ e. omega arith) (inr (omega arith)) (inr (omega arith))
-    (inr (omega arith))
+    let at = c .before .before .before .before .before .before .before .before in
+    other at (λ e. omega arith) (λ e. omega arith) (inr (omega arith)) (inr (omega arith)) (inr (omega arith))
 
 returns-12 : tie.Need-returns-12
 unfolding classOf

@@ -22,10 +22,11 @@ same-length-2 c = search needs
 
 returns : tie.Need-returns
 returns c =
-    let start = c .before .before .before .before .before .before .before .before .before .before .before .before .before
-    .before .before in
+    let at = c .before .before in
+    let found = at .before .before .before .before .before in
+    let start = found .before .before .before .before .before .before .before .before in
     let args = start .args in
-    let end = c .before .before .end-again in
+    let end = at .end-again in
     closed-again (args .state .now) (args .owners .now) (args .priorities .now) (args .offsets .now) (args .targets .now)
     (args .work .now)
     (args .n .now)
@@ -34,7 +35,7 @@ returns c =
     (end .last .1 .1 .1 .0)
     (end .last .1 .1 .1 .1 .0)
     (said (end .result))
-    (c .before .before .before .before .before .before .before .if1 .taken)
+    (found .if1 .taken)
     (end .ensures)
     (start .pre .fitted .area)
 
@@ -61,10 +62,10 @@ same-length-8 c = search needs
 
 returns-2 : tie.Need-returns-2
 returns-2 c =
-    let args = c .before .before .before .before .before .before .before .before .before .before .before .before .before
-    .before .before .before .before .before .before .before .before .before .before .before .before .before .before .before
-    .before .args in
-    let end = c .before .before .before .before .before .before .before .before .before .before .before .before .end-on in
+    let at = c .before .before .before .before .before .before .before .before .before .before .before .before in
+    let reading = at .before .before .before .before .before .before .before .before .before in
+    let args = reading .before .before .before .before .before .before .before .before .args in
+    let end = at .end-on in
     closed-on (args .state .now) (args .owners .now) (args .priorities .now) (args .offsets .now) (args .targets .now)
     (args .work .now)
     (args .n .now)
@@ -72,8 +73,7 @@ returns-2 c =
     (closingOf (end .last .0) (end .last .1 .0) (end .last .1 .1 .0) (end .last .1 .1 .1 .0) (end .last .1 .1 .1 .1 .0)
     (end .last .1 .1 .1 .1 .1 .0) (end .last .1 .1 .1 .1 .1 .1 .0) (end .last .1 .1 .1 .1 .1 .1 .1 .0))
     (said (end .result))
-    (c .before .before .before .before .before .before .before .before .before .before .before .before .before .before
-    .before .before .before .before .before .before .before .if1 .left)
+    (reading .if1 .left)
     (end .ensures)
 
 pub end-fitting-spec : {M : Type 1} → statement M

@@ -9,7 +9,7 @@ use Rattle.pgsolver_acts.specs.declared.state.State.{State}
 use Rattle.pgsolver_finish.specs.Finishing.{writtenOf}
 use Rattle.pgsolver_end.specs.Told.{EndsText}
 use Rattle.pgsolver_words.specs.Words.{stateIn, placeIn, Gives}
-use Rattle.pgsolver_serial.specs.Stands.{SameLengths}
+use Rattle.pgsolver_serial.specs.Stands.{SerialLengths}
 use Rattle.pgsolver_close.specs.Ending.{ends-on}
 use borrow.Author.Needs.{needs}
 use Rattle.pgsolver_close.proofs.ending.end_on.Statement.{statement}
@@ -19,12 +19,16 @@ abbrev start : tie.After-end-text → tie.Start
 start c = c .before .before .before .before .before .before .before .before .before .before .before .before .before .before
     .before .before .before .before
 
+-- back from where all that the end was lent is known again
+abbrev ended : tie.After-slice-known11 → tie.After-end-text
+ended c = c .before .before .before .before .before .before .before .before .before .before
+
 same-lengths :
     (c : tie.After-slice-known11) →
-    let at = c .before .before .before .before .before .before .before .before .before .before in
+    let at = ended c in
     let args = start at .args in
     let end = at .end-text in
-    SameLengths (args .owners .now) (args .priorities .now) (args .offsets .now) (args .targets .now) (end .last .1 .1 .1 .0)
+    SerialLengths (args .owners .now) (args .priorities .now) (args .offsets .now) (args .targets .now) (end .last .1 .1 .1 .0)
     (end .last .1 .1 .1 .1 .0)
     (end .last .1 .1 .1 .1 .1 .0)
     (end .last .1 .1 .1 .1 .1 .1 .0)
@@ -47,8 +51,7 @@ place-requires : tie.Need-place-requires
 place-requires c κs = search needs
 
 give-requires : tie.Need-give-requires
-give-requires c κs = start (c .before .before .before .before .before .before .before .before .before .before .before .before
-    .before .before .before) .pre .long
+give-requires c κs = start (ended (c .before .before .before .before .before)) .pre .long
 
 same-length : tie.Need-same-length
 same-length c = search needs
@@ -70,50 +73,42 @@ same-length-6 c = search needs
 
 returns : tie.Need-returns
 returns c =
-    let at = c .before .before .before .before .before .before .before .before .before .before .before .before .before
-    .before .before .before .before .before in
+    let gave = c .before .before in
+    let known = gave .before .before .before .before .before .before in
+    let at = ended known in
+    let found = at .before .before .before .before .before .before .before .before in
     let args = start at .args in
     let s = args .state .now in
+    let s' = gave .give .last .0 in
     let end = at .end-text in
+    let left = end .last .1 .1 .1 in
+    let n = left .1 .1 .1 .1 .1 .0 in
+    let m = left .1 .1 .1 .1 .1 .1 .0 in
     let r = said (end .result) in
-    let after = writtenOf (end .last .1 .1 .1 .0) (end .last .1 .1 .1 .1 .0) (end .last .1 .1 .1 .1 .1 .0)
-    (end .last .1 .1 .1 .1 .1 .1 .0) (end .last .1 .1 .1 .1 .1 .1 .1 .0) (end .last .1 .1 .1 .1 .1 .1 .1 .1 .0)
-    (end .last .1 .1 .1 .1 .1 .1 .1 .1 .1 .0) in
+    let after = writtenOf (left .0) (left .1 .0) (left .1 .1 .0) (left .1 .1 .1 .0) (left .1 .1 .1 .1 .0) n m in
     let rooms = roomsOf (args .owners .now) (args .priorities .now) (args .offsets .now) (args .targets .now) (args .work
     .now) in
-    let long : length (c .before .before .give .last .0) ≡ length s = search needs in
+    let number = gave .before .before .before .before .number in
+    let long : length s' ≡ length s = search needs in
     ends-on s (args .owners .now) (args .priorities .now) (args .offsets .now) (args .targets .now) (args .work .now)
     (args .n .now)
     (args .m .now)
-    (c .before .before .give .last .0)
-    (end .last .1 .1 .1 .0)
-    (end .last .1 .1 .1 .1 .0)
-    (end .last .1 .1 .1 .1 .1 .0)
-    (end .last .1 .1 .1 .1 .1 .1 .0)
-    (end .last .1 .1 .1 .1 .1 .1 .1 .0)
-    (end .last .1 .1 .1 .1 .1 .1 .1 .1 .0)
-    (end .last .1 .1 .1 .1 .1 .1 .1 .1 .1 .0)
+    s'
+    (left .0)
+    (left .1 .0)
+    (left .1 .1 .0)
+    (left .1 .1 .1 .0)
+    (left .1 .1 .1 .1 .0)
+    n
+    m
     r
-    (same-lengths (c .before .before .before .before .before .before .before .before))
+    (same-lengths known)
     long
-    (subst (λ (x : State). EndsText Rules.game x (placeIn s) rooms after r) (at .before .before .before .before .before
-    .before .before .before .found .ensures)
-    (subst (λ (k : ℕ). EndsText Rules.game (at .before .before .before .before .before .before .before .before .found
-    .result) k rooms after r) (at .before .before .before .before .before .before .before .before .before .before
-    .place-found .ensures)
+    (subst (λ (x : State). EndsText Rules.game x (placeIn s) rooms after r) (found .found .ensures)
+    (subst (λ (k : ℕ). EndsText Rules.game (found .found .result) k rooms after r) (found .before .before .place-found .ensures)
     (end .ensures)))
-    (subst
-    (λ (k : ℕ).
-    Gives k (r .place) (end .last .1 .1 .1 .1 .1 .1 .1 .1 .0) (end .last .1 .1 .1 .1 .1 .1 .1 .1 .1 .0) s (c .before .before
-    .give .last .0))
-    (c .before .before .before .before .before .before .number .ensures)
-    (subst
-    (λ (k : ℕ).
-    Gives (c .before .before .before .before .before .before .number .result) k (end .last .1 .1 .1 .1 .1 .1 .1 .1 .0) (end
-    .last .1 .1 .1 .1 .1 .1 .1 .1 .1 .0) s
-    (c .before .before .give .last .0))
-    (c .before .before .before .before .before .place .ensures)
-    (c .before .before .give .ensures)))
+    (subst (λ (k : ℕ). Gives k (r .place) n m s s') (number .ensures)
+    (subst (λ (k : ℕ). Gives (number .result) k n m s s') (gave .before .before .before .place .ensures) (gave .give .ensures)))
 
 pub end-on-spec : {M : Type 1} → statement M
 end-on-spec =

@@ -1,6 +1,6 @@
 -- `read_end` meets its contract: 9 and 10 write nothing, and else the words decide.
 use mathlib.Core.Path.{_≡_, sym, ap, _∙_}
-use Rattle.rules.specs.Portions.{Closing, writtenIn, endChecks, Closed}
+use Rattle.rules.specs.Portions.{Closing, writtenIn, endChecks, ClosedBy}
 use Rattle.rules.specs.Reading.{roomChecks}
 use Rattle.parity_game.specs.Said.{said, refusal}
 use Rattle.reading_rooms.specs.declared.checks.Fits.{Fits}
@@ -32,6 +32,10 @@ checked :
     fitsSaid x
 checked c x is = size-checks (writtenIn (entry (start c)) .rooms) ∙ sym (c .check-rooms .ensures) ∙ ap fitsSaid is
 
+-- the words are enough
+abbrev enough : tie.After-end-fitting-arg8 → tie.Else1
+enough c = c .before .before .before .before .before .before .before .before
+
 check-rooms-requires : tie.Need-check-rooms-requires
 check-rooms-requires c κs = search needs
 
@@ -48,23 +52,23 @@ returns : tie.Need-returns
 returns c =
     let at = c .before .before .before in
     let e = entry (start at) in
-    unless-unfit (endChecks (e .lent) (e .work)) 10 e (Closed Stands e e (refusal 10 0))
+    unless-unfit (endChecks (e .lent) (e .work)) 10 e (ClosedBy Stands e e (refusal 10 0))
     (end-short (e .lent) (e .work) (checked at Fit (c .before .enum-told3 .given .1)) (c .if1 .taken))
 
 end-fitting-requires : tie.Need-end-fitting-requires
 end-fitting-requires c κs =
-    let at = c .before .before .before .before .before .before .before .before .before .before .before in
+    let long = enough c in
+    let at = long .before .before .before in
     record {
-      fitted = fitted (writtenIn (entry (start at)) .rooms) (checked at Fit (c .before .before .before .before .before
-          .before .before .before .before .enum-told3 .given .1));
-      long = c .before .before .before .before .before .before .before .before .if1 .left;
+      fitted = fitted (writtenIn (entry (start at)) .rooms) (checked at Fit (long .before .enum-told3 .given .1));
+      long = long .if1 .left;
     }
 
 returns-2 : tie.Need-returns-2
 returns-2 c =
     let at = c .before .before in
     let e = entry (start at) in
-    unless-unfit (endChecks (e .lent) (e .work)) 9 e (Closed Stands e e (refusal 9 0))
+    unless-unfit (endChecks (e .lent) (e .work)) 9 e (ClosedBy Stands e e (refusal 9 0))
     (end-unfit (e .lent) (e .work) 9 0 (checked at Sizes (c .enum-told
     .given .1)))
 
@@ -72,7 +76,7 @@ returns-3 : tie.Need-returns-3
 returns-3 c =
     let at = c .before .before in
     let e = entry (start at) in
-    unless-unfit (endChecks (e .lent) (e .work)) 10 e (Closed Stands e e (refusal 10 0))
+    unless-unfit (endChecks (e .lent) (e .work)) 10 e (ClosedBy Stands e e (refusal 10 0))
     (end-unfit (e .lent) (e .work) 10 0 (checked at Work (c .enum-told2
     .given .1)))
 
@@ -96,18 +100,16 @@ same-length-6 c = search needs
 
 returns-4 : tie.Need-returns-4
 returns-4 c =
-    let at = c .before .before .before .before .before .before .before .before .before .before .before .before .before
-    .before .before .before .before .before .before .before .before .before .before .before in
+    let ended = c .before .before .before .before .before .before .before .before .before .before .before .before in
+    let long = enough (ended .before) in
+    let at = long .before .before .before in
     let e = entry (start at) in
-    let end = c .before .before .before .before .before .before .before .before .before .before .before .before .end-fitting in
+    let end = ended .end-fitting in
     let after = closingOf (end .last .0) (end .last .1 .0) (end .last .1 .1 .0) (end .last .1 .1 .1 .0) (end .last .1 .1 .1
     .1 .0)
     (end .last .1 .1 .1 .1 .1 .0) (end .last .1 .1 .1 .1 .1 .1 .0) (end .last .1 .1 .1 .1 .1 .1 .1 .0) in
-    unless-fit (endChecks (e .lent) (e .work)) (said (end .result)) e after (Closed Stands e after (said (end .result)))
-    (end-fit (e .lent) (e .work) (checked at Fit (c .before .before .before .before .before .before .before .before .before
-    .before .before .before .before .before .before .before .before .before .before .before .before .before .enum-told3
-    .given .1)) (c .before .before .before .before .before .before .before .before .before .before .before .before .before
-    .before .before .before .before .before .before .before .before .if1 .left))
+    unless-fit (endChecks (e .lent) (e .work)) (said (end .result)) e after (ClosedBy Stands e after (said (end .result)))
+    (end-fit (e .lent) (e .work) (checked at Fit (long .before .enum-told3 .given .1)) (long .if1 .left))
     (end .ensures)
 
 pub read-end-spec : {M : Type 1} → statement M

@@ -34,8 +34,8 @@ same-length-5 c = search needs
 returns : tie.Need-returns
 returns c =
     let at = c .before .before .before .before .before .before .before .before .before .before in
-    let asked = c .before .before .before .before .before .before .before .before .before .before .before
-    .before .before .before .before .before .before .before .before .before in
+    let refused = at .before .before .before .before .before .before .before .before in
+    let asked = refused .before .before in
     let args = asked .before .before .before .before .before .before .before .before .before .before .args in
     finish-refused (asksIn (args .asks)) (args .records) (args .edges)
     (roomsOf (args .owners .now) (args .priorities .now) (args .offsets .now) (args .targets .now) (args .work .now))
@@ -43,10 +43,7 @@ returns c =
     (asked .ask .ensures)
     (writtenOf (at .refuse .last .0) (at .refuse .last .1 .0) (at .refuse .last .1 .1 .0) (at .refuse .last .1 .1 .1 .0)
     (at .refuse .last .1 .1 .1 .1 .0) (at .refuse .last .1 .1 .1 .1 .1 .0) (at .refuse .last .1 .1 .1 .1 .1 .1 .0))
-    (λ zero. c .before .before .before .before .before .before .before .before .before .before .before .before
-    .before .before .before .before .before .before .if1 .taken (c .before .before .before .before .before
-    .before .before .before .before .before .before .before .before .before .before .before .before
-    .before .before .number .ensures ∙ zero))
+    (λ zero. refused .if1 .taken (refused .before .number .ensures ∙ zero))
     (at .refuse .ensures)
 
 same-length-6 : tie.Need-same-length-6

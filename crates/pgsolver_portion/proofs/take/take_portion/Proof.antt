@@ -1,8 +1,12 @@
 -- `take_portion` meets its contract: each end of the portion by its own law.
+use mathlib.Core.List.{List}
 use mathlib.Core.Path.{_≡_}
 use Prim.Native.Nat.{ℕ, _<_}
 use native.Mathlib.Omega.{arith}
 use lib.ListN.{length, getD}
+use Rattle.pgsolver_acts.specs.declared.state.State.{State}
+use Rattle.pgsolver_step.specs.declared.portion.Portion.{Portion}
+use Rattle.pgsolver_step.specs.Portions.{Portions}
 use Rattle.pgsolver_portion.specs.Reached.{takes-on, takes-stuck, takes-beyond}
 use borrow.Author.Needs.{needs}
 use Rattle.pgsolver_portion.proofs.take.take_portion.Statement.{statement}
@@ -11,28 +15,84 @@ use Rattle.pgsolver_portion.proofs.take.take_portion.Tie as tie
 abbrev start : tie.After-read-portion → tie.Start
 start c = c .before .before .before .before .before .before .before .before .before .before
 
+-- the tables as the portion left them
+abbrev owners : tie.After-read-portion → List ℕ
+owners c = c .read-portion .last .1 .1 .1 .1 .0
+
+abbrev priorities : tie.After-read-portion → List ℕ
+priorities c = c .read-portion .last .1 .1 .1 .1 .1 .0
+
+abbrev offsets : tie.After-read-portion → List ℕ
+offsets c = c .read-portion .last .1 .1 .1 .1 .1 .1 .0
+
+abbrev targets : tie.After-read-portion → List ℕ
+targets c = c .read-portion .last .1 .1 .1 .1 .1 .1 .1 .0
+
 -- each byte is below 256
 small : (c : tie.After-read-portion) (k : ℕ) → getD (start c .args .text .now) k 0 < 256
-small c k = omega (
-  arith,
-  c .before .before .before .before .before .before .before .before .before .shared-slice-known
-      .given k,
-)
+small c k =
+    let lent = c .before .before .before .before .before .before .before .before .before in
+    omega (arith, lent .shared-slice-known .given k)
 
--- the tables as the portion left them have the lengths that they had
-pub record SameLengths (c : tie.After-slice-known8) : Type 0 where
-  pub owners : length (c .before .before .before .before .before .before .before .before .read-portion .last .1 .1 .1 .1 .0)
-      ≡ length (start (c .before .before .before .before .before .before .before .before) .args .owners .now)
-  pub priorities : length (c .before .before .before .before .before .before .before .before .read-portion .last .1 .1 .1 .1
-      .1 .0) ≡ length (start (c .before .before .before .before .before .before .before .before) .args .priorities .now)
-  pub offsets : length (c .before .before .before .before .before .before .before .before .read-portion .last .1 .1 .1 .1 .1
-      .1 .0) ≡ length (start (c .before .before .before .before .before .before .before .before) .args .offsets .now)
-  pub targets : length (c .before .before .before .before .before .before .before .before .read-portion .last .1 .1 .1 .1 .1
-      .1 .1 .0) ≡ length (start (c .before .before .before .before .before .before .before .before) .args .targets .now)
+-- back from where all that the portion was lent is known again
+abbrev read : tie.After-slice-known8 → tie.After-read-portion
+read c = c .before .before .before .before .before .before .before .before
 
-same-lengths : (c : tie.After-slice-known8) → SameLengths c
+-- the tables have the lengths that they had
+pub record PortionLengths (c : tie.After-read-portion) : Type 0 where
+  pub owners : length (owners c) ≡ length (start c .args .owners .now)
+  pub priorities : length (priorities c) ≡ length (start c .args .priorities .now)
+  pub offsets : length (offsets c) ≡ length (start c .args .offsets .now)
+  pub targets : length (targets c) ≡ length (start c .args .targets .now)
+
+same-lengths : (c : tie.After-slice-known8) → PortionLengths (read c)
 same-lengths c =
     record { owners = search needs; priorities = search needs; offsets = search needs; targets = search needs }
+
+-- a law over what `read_portion` is given and gives
+abbrev Claim : Type 1
+Claim = (mostBytes place : ℕ) → State → (text o p f t : List ℕ) → Portion → (o' p' f' t' : List ℕ) → Type 0
+
+abbrev Law : Claim → Type 0
+Law P =
+    (mostBytes place : ℕ) (s : State) (text o p f t : List ℕ) (r : Portion) (o' p' f' t' : List ℕ) →
+    ((k : ℕ) → getD text k 0 < 256) →
+    length o' ≡ length o →
+    length t' ≡ length t →
+    Portions mostBytes place s text o p f t r o' p' f' t' →
+    P mostBytes place s text o p f t r o' p' f' t'
+
+-- at what it was given and gave here
+here :
+    {P : Claim} →
+    Law P →
+    (c : tie.After-slice-known8) →
+    let at = read c in
+    let args = start at .args in
+    P (args .most-bytes) (args .place) (args .state) (args .text .now) (args .owners .now) (args .priorities .now)
+    (args .offsets .now)
+    (args .targets .now)
+    (at .read-portion .result)
+    (owners at)
+    (priorities at)
+    (offsets at)
+    (targets at)
+here law c =
+    let at = read c in
+    let args = start at .args in
+    let same = same-lengths c in
+    law (args .most-bytes) (args .place) (args .state) (args .text .now) (args .owners .now) (args .priorities .now)
+    (args .offsets .now)
+    (args .targets .now)
+    (at .read-portion .result)
+    (owners at)
+    (priorities at)
+    (offsets at)
+    (targets at)
+    (small at)
+    (same .owners)
+    (same .targets)
+    (at .read-portion .ensures)
 
 read-portion-requires : tie.Need-read-portion-requires
 read-portion-requires c κs = search needs
@@ -66,23 +126,8 @@ same-length-4 c = search needs
 
 returns : tie.Need-returns
 returns c =
-    let at = c .before .before .before .before .before .before .before .before .before .before .before in
-    let args = start at .args in
-    let same = same-lengths (c .before .before .before) in
-    takes-on (args .most-bytes) (args .place) (args .state) (args .text .now) (args .owners .now) (args .priorities .now)
-    (args .offsets .now)
-    (args .targets .now)
-    (at .read-portion .result)
-    (at .read-portion .last .1 .1 .1 .1 .0)
-    (at .read-portion .last .1 .1 .1 .1 .1 .0)
-    (at .read-portion .last .1 .1 .1 .1 .1 .1 .0)
-    (at .read-portion .last .1 .1 .1 .1 .1 .1 .1 .0)
-    (small at)
-    (same .owners)
-    (same .targets)
-    (at .read-portion .ensures)
-    (c .before .s .given .0 .0)
-    (c .before .s .given .1)
+    let on = c .before .s .given in
+    here takes-on (c .before .before .before) (on .0 .0) (on .1)
 
 same-length-5 : tie.Need-same-length-5
 same-length-5 c = search needs
@@ -99,34 +144,15 @@ same-length-8 c = search needs
 returns-2 : tie.Need-returns-2
 returns-2 c =
     let end = c .before .before .before .before .before .before .before .before in
-    let at = c .before .before .before .before .before .before .before .before .before .before .before .before .before
-    .before .before .before .before .before .before .before .before .before .before .before in
-    let args = start at .args in
-    let same = same-lengths (c .before .before .before .before .before .before .before .before .before .before .before
-    .before .before .before .before .before) in
-    takes-stuck (args .most-bytes) (args .place) (args .state) (args .text .now) (args .owners .now) (args .priorities .now)
-    (args .offsets .now)
-    (args .targets .now)
-    (at .read-portion .result)
-    (at .read-portion .last .1 .1 .1 .1 .0)
-    (at .read-portion .last .1 .1 .1 .1 .1 .0)
-    (at .read-portion .last .1 .1 .1 .1 .1 .1 .0)
-    (at .read-portion .last .1 .1 .1 .1 .1 .1 .1 .0)
-    (small at)
-    (same .owners)
-    (same .targets)
-    (at .read-portion .ensures)
-    (end .clear-tables .last .0)
-    (end .clear-tables .last .1 .0)
-    (end .clear-tables .last .1 .1 .0)
-    (end .clear-tables .last .1 .1 .1 .0)
+    let at = end .before .before .before .before .before .before in
+    let zero = end .clear-tables in
+    let same = same-lengths (at .before .before) in
+    here takes-stuck (at .before .before) (zero .last .0) (zero .last .1 .0) (zero .last .1 .1 .0) (zero .last .1 .1 .1 .0)
     (same .priorities)
     (same .offsets)
-    (end .clear-tables .ensures)
-    (c .before .before .before .before .before .before .before .before .before .before .before .before .before .before .k
-    .given .0 .0)
-    (c .before .before .before .before .before .before .before .before .before .before .before .before .before .before .k
-    .given .1)
+    (zero .ensures)
+    (at .k .given .0 .0)
+    (at .k .given .1)
 
 same-length-9 : tie.Need-same-length-9
 same-length-9 c = search needs
@@ -143,34 +169,15 @@ same-length-12 c = search needs
 returns-3 : tie.Need-returns-3
 returns-3 c =
     let end = c .before .before .before .before .before .before .before .before in
-    let at = c .before .before .before .before .before .before .before .before .before .before .before .before .before
-    .before .before .before .before .before .before .before .before .before .before .before in
-    let args = start at .args in
-    let same = same-lengths (c .before .before .before .before .before .before .before .before .before .before .before
-    .before .before .before .before .before) in
-    takes-beyond (args .most-bytes) (args .place) (args .state) (args .text .now) (args .owners .now) (args .priorities .now)
-    (args .offsets .now)
-    (args .targets .now)
-    (at .read-portion .result)
-    (at .read-portion .last .1 .1 .1 .1 .0)
-    (at .read-portion .last .1 .1 .1 .1 .1 .0)
-    (at .read-portion .last .1 .1 .1 .1 .1 .1 .0)
-    (at .read-portion .last .1 .1 .1 .1 .1 .1 .1 .0)
-    (small at)
-    (same .owners)
-    (same .targets)
-    (at .read-portion .ensures)
-    (end .clear-tables2 .last .0)
-    (end .clear-tables2 .last .1 .0)
-    (end .clear-tables2 .last .1 .1 .0)
-    (end .clear-tables2 .last .1 .1 .1 .0)
+    let at = end .before .before .before .before .before .before in
+    let zero = end .clear-tables2 in
+    let same = same-lengths (at .before .before) in
+    here takes-beyond (at .before .before) (zero .last .0) (zero .last .1 .0) (zero .last .1 .1 .0) (zero .last .1 .1 .1 .0)
     (same .priorities)
     (same .offsets)
-    (end .clear-tables2 .ensures)
-    (c .before .before .before .before .before .before .before .before .before .before .before .before .before .before .k2
-    .given .0 .0)
-    (c .before .before .before .before .before .before .before .before .before .before .before .before .before .before .k2
-    .given .1)
+    (zero .ensures)
+    (at .k2 .given .0 .0)
+    (at .k2 .given .1)
 
 pub take-portion-spec : {M : Type 1} → statement M
 take-portion-spec =

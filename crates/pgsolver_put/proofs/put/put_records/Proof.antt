@@ -6,8 +6,8 @@ use borrow.Author.Needs.{needs}
 use lib.ListN.{length}
 use Rattle.rules.specs.Tables.{Tables, tablesOf}
 use Rattle.rules.specs.Writing.{recordsText}
-use Rattle.printing.specs.Puts.{Puts}
-use Rattle.pgsolver_put.specs.Records.{Row, row, records-none, records-put}
+use Rattle.putting.specs.Puts.{Puts}
+use Rattle.pgsolver_line.specs.Records.{RecordRow, row, records-none, records-put}
 use Rattle.pgsolver_put.proofs.put.put_records.Statement.{statement}
 use Rattle.pgsolver_put.proofs.put.put_records.Tie as tie
 
@@ -27,7 +27,7 @@ tables c = tablesOf (c .args .owners .now) (c .args .priorities .now) (c .args .
 abbrev begun : tie.At-loop Inv-loop μ-loop → tie.Start Inv-loop μ-loop
 begun c = c .before .before .before .before .before .before
 
-row-at : (c : tie.In-loop Inv-loop μ-loop) → Row (tables (begun (c .before))) (c .before .loop .v)
+row-at : (c : tie.In-loop Inv-loop μ-loop) → RecordRow (tables (begun (c .before))) (c .before .loop .v)
 row-at c = row (tables (begun (c .before))) (begun (c .before) .pre .0) (c .before .loop .v) (omega arith)
 
 loop-holds : tie.Need-loop-holds Inv-loop μ-loop
@@ -93,9 +93,10 @@ part-put-record-end c =
 
 put-record-requires : tie.Need-put-record-requires Inv-loop μ-loop
 put-record-requires c κs =
-    let here = row-at (c .before .before .before .before .before .before) in
-    let at = c .before .before .before .before .before .before .before .before .before .before .before .before .before in
-    let inv = c .before .before .before .before .before .before .before .loop .inv in
+    let inside = c .before .before .before .before .before .before in
+    let here = row-at inside in
+    let at = begun (inside .before) in
+    let inv = inside .before .loop .inv in
     (here .some, omega (arith, here .more, here .room, at .pre .1, inv .2 .place, inv .2 .long))
 
 add-v : tie.Need-add-v Inv-loop μ-loop

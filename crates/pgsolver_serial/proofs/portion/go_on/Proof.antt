@@ -8,8 +8,8 @@ use Rattle.pgsolver_acts.specs.declared.state.State.{State}
 use Rattle.pgsolver_portion.specs.declared.take.Taken.{Taken}
 use Rattle.pgsolver_portion.specs.declared.take.Taken.the-variants.{On}
 use Rattle.pgsolver_portion.specs.Reached.{FitsAs, Takes}
-use Rattle.pgsolver_words.specs.Words.{stateIn, mostIn, placeIn, Keeps}
-use Rattle.pgsolver_serial.specs.Stands.{SameLengths, goes-on, goes-over}
+use Rattle.pgsolver_words.specs.Words.{stateIn, mostIn, placeIn, KeepsReading}
+use Rattle.pgsolver_serial.specs.Stands.{SerialLengths, goes-on, goes-over}
 use borrow.Author.Needs.{needs}
 use Rattle.pgsolver_serial.proofs.portion.go_on.Statement.{statement}
 use Rattle.pgsolver_serial.proofs.portion.go_on.Tie as tie
@@ -30,11 +30,19 @@ offsets c = c .take-portion .last .1 .1 .1 .1 .1 .1 .0
 abbrev targets : tie.After-take-portion → List ℕ
 targets c = c .take-portion .last .1 .1 .1 .1 .1 .1 .1 .0
 
+-- back from where all that the portion was lent is known again
+abbrev taken : tie.After-slice-known10 → tie.After-take-portion
+taken c = c .before .before .before .before .before .before .before .before
+
+-- the place that the words say
+abbrev placed : tie.After-take-portion → tie.After-place-found
+placed c = c .before .before .before .before .before .before .before
+
 same-lengths :
     (c : tie.After-slice-known10) →
-    let at = c .before .before .before .before .before .before .before .before in
+    let at = taken c in
     let args = start at .args in
-    SameLengths (args .owners .now) (args .priorities .now) (args .offsets .now) (args .targets .now) (owners at) (priorities
+    SerialLengths (args .owners .now) (args .priorities .now) (args .offsets .now) (args .targets .now) (owners at) (priorities
     at)
     (offsets at)
     (targets at)
@@ -57,6 +65,7 @@ takes :
 takes c =
     let args = start c .args in
     let s = args .state .now in
+    let found = c .before .before .before .before .before .found in
     subst
     (λ (x : State).
     Takes (mostIn s) (placeIn s) x (args .portion .now) (args .owners .now) (args .priorities .now) (args .offsets .now)
@@ -66,10 +75,10 @@ takes c =
     (priorities c)
     (offsets c)
     (targets c))
-    (c .before .before .before .before .before .found .ensures)
+    (found .ensures)
     (subst
     (λ (k : ℕ).
-    Takes (mostIn s) k (c .before .before .before .before .before .found .result) (args .portion .now) (args .owners .now)
+    Takes (mostIn s) k (found .result) (args .portion .now) (args .owners .now)
     (args .priorities .now)
     (args .offsets .now)
     (args .targets .now)
@@ -78,7 +87,7 @@ takes c =
     (priorities c)
     (offsets c)
     (targets c))
-    (c .before .before .before .before .before .before .before .place-found .ensures)
+    (placed c .place-found .ensures)
     (c .take-portion .ensures))
 
 slice-read-most : tie.Need-slice-read-most
@@ -98,25 +107,18 @@ enum-known-next c = search needs
 
 add-keep : tie.Need-add-keep
 add-keep c =
-    let at = c .before .before .before .before .before .before .before .before .before .before .before .before in
+    let at = taken (c .before .before .before .before) in
     let args = start at .args in
     let s = args .state .now in
     let read : placeIn s + length (args .portion .now) ≤ mostIn s =
     subst (λ (x : Taken). FitsAs (mostIn s) (placeIn s + length (args .portion .now)) x) (c .before .before .next .given .1)
     (takes at .fits (omega arith)) in
     record {
-      fits = omega (
-        arith,
-        read,
-        at .before .before .before .before .before .before .before .place-found .ensures,
-        at
-            .before .before .before .before .before .before .before .before .before .slice-known6 .given 1,
-      );
+      fits = omega (arith, read, placed at .place-found .ensures, placed at .before .before .slice-known6 .given 1);
     }
 
 keep-requires : tie.Need-keep-requires
-keep-requires c κs = start (c .before .before .before .before .before .before .before .before .before .before .before
-    .before) .pre .long
+keep-requires c κs = start (taken (c .before .before .before .before)) .pre .long
 
 enum-known-number : tie.Need-enum-known-number
 enum-known-number c = search needs
@@ -141,11 +143,13 @@ same-length-5 c = search needs
 
 returns : tie.Need-returns
 returns c =
-    let at = c .before .before .before .before .before .before .before .before .before .before .before .before .before
-    .before .before in
+    let kept = c .before .before in
+    let on = kept .before .before .before in
+    let known = on .before .before in
+    let at = taken known in
     let args = start at .args in
     let s = args .state .now in
-    let end = c .before .before .keep in
+    let end = kept .keep in
     let long : length (end .last .0) ≡ length s = search needs in
     goes-on (args .portion .now) s (args .owners .now) (args .priorities .now) (args .offsets .now) (args .targets .now)
     (at .take-portion .result)
@@ -154,14 +158,13 @@ returns c =
     (offsets at)
     (targets at)
     (end .last .0)
-    (same-lengths (c .before .before .before .before .before .before .before))
+    (same-lengths known)
     long
     (takes at)
-    (c .before .before .before .before .before .next .given .0 .0)
-    (c .before .before .before .before .before .next .given .1)
-    (subst (λ (k : ℕ). Keeps (mostIn s) (k + length (args .portion .now)) (c .before .before .before .before .before .next
-    .given .0 .0) s (end .last .0))
-    (at .before .before .before .before .before .before .before .place-found .ensures)
+    (on .next .given .0 .0)
+    (on .next .given .1)
+    (subst (λ (k : ℕ). KeepsReading (mostIn s) (k + length (args .portion .now)) (on .next .given .0 .0) s (end .last .0))
+    (placed at .place-found .ensures)
     (end .ensures))
 
 same-length-6 : tie.Need-same-length-6
@@ -181,11 +184,13 @@ same-length-10 c = search needs
 
 returns-2 : tie.Need-returns-2
 returns-2 c =
-    let at = c .before .before .before .before .before .before .before .before .before .before .before .before .before
-    .before .before in
+    let gave = c .before .before in
+    let over = gave .before .before .before in
+    let known = over .before .before in
+    let at = taken known in
     let args = start at .args in
     let s = args .state .now in
-    let end = c .before .before .give in
+    let end = gave .give in
     let long : length (end .last .0) ≡ length s = search needs in
     goes-over (args .portion .now) s (args .owners .now) (args .priorities .now) (args .offsets .now) (args .targets .now)
     (at .take-portion .result)
@@ -194,12 +199,12 @@ returns-2 c =
     (offsets at)
     (targets at)
     (end .last .0)
-    (same-lengths (c .before .before .before .before .before .before .before))
+    (same-lengths known)
     long
     (takes at)
-    (c .before .before .before .before .before .number .given .0 .0)
-    (c .before .before .before .before .before .number .given .0 .1 .0)
-    (c .before .before .before .before .before .number .given .1)
+    (over .number .given .0 .0)
+    (over .number .given .0 .1 .0)
+    (over .number .given .1)
     (end .ensures)
 
 pub go-on-spec : {M : Type 1} → statement M

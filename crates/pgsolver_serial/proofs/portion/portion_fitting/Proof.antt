@@ -41,16 +41,16 @@ same-length-5 c = search needs
 
 returns-2 : tie.Need-returns-2
 returns-2 c =
-    let args = c .before .before .before .before .before .before .before .before .before .before .before .before .before
-    .before .before .before .before .before .before .before .before .before .before .before .args in
-    let end = c .before .before .before .before .before .before .before .before .before .before .go-on in
+    let at = c .before .before .before .before .before .before .before .before .before .before in
+    let reading = at .before .before .before .before .before .before in
+    let args = reading .before .before .before .before .before .before .before .before .args in
+    let end = at .go-on in
     portioned-on (args .portion .now) (args .state .now) (args .owners .now) (args .priorities .now) (args .offsets .now)
     (args .targets .now)
     (lentOf (end .last .1 .0) (end .last .1 .1 .0) (end .last .1 .1 .1 .0) (end .last .1 .1 .1 .1 .0)
     (end .last .1 .1 .1 .1 .1 .0))
     (said (end .result))
-    (c .before .before .before .before .before .before .before .before .before .before .before .before .before .before
-    .before .before .if1 .left)
+    (reading .if1 .left)
     (end .ensures)
 
 pub portion-fitting-spec : {M : Type 1} → statement M

@@ -1,6 +1,6 @@
 -- `read_portion` meets its contract: 9 and 10 write nothing, and else the words decide.
 use mathlib.Core.Path.{_≡_, sym, ap, _∙_}
-use Rattle.rules.specs.Portions.{Lent, lentChecks, Portioned}
+use Rattle.rules.specs.Portions.{LentBetween, lentChecks, Portioned}
 use Rattle.parity_game.specs.Said.{said}
 use Rattle.reading_rooms.specs.declared.checks.Fits.{Fits}
 use Rattle.reading_rooms.specs.declared.checks.Fits.the-variants.{Fit, Sizes, Work}
@@ -14,7 +14,7 @@ use Rattle.pgsolver_serial.proofs.portion.read_portion.Tie as tie
 abbrev start : tie.After-check-rooms → tie.Start
 start c = c .before .before .before .before .before .before .before
 
-abbrev entry : tie.Start → Lent
+abbrev entry : tie.Start → LentBetween
 entry c =
     lentOf (c .args .state .now) (c .args .owners .now) (c .args .priorities .now) (c .args .offsets .now) (c .args .targets
     .now)
@@ -22,6 +22,10 @@ entry c =
 -- what the check of the rooms said
 checked : (c : tie.After-check-rooms) (x : Fits) → c .check-rooms .result ≡ x → lentChecks (entry (start c)) ≡ fitsSaid x
 checked c x is = lent-checks (entry (start c)) (fitsSaid x) (sym (ap fitsSaid is) ∙ c .check-rooms .ensures)
+
+-- the rooms fit
+abbrev fits : tie.After-portion-fitting-arg5 → tie.After-enum-told3
+fits c = c .before .before .before .before .before
 
 add-check-rooms : tie.Need-add-check-rooms
 add-check-rooms c = search needs
@@ -40,8 +44,8 @@ enum-told-3 c = search needs
 
 portion-fitting-requires : tie.Need-portion-fitting-requires
 portion-fitting-requires c κs =
-    let at = c .before .before .before .before .before .before .before in
-    fit-lent (entry (start at)) (checked at Fit (c .before .before .before .before .before .enum-told3 .given .1))
+    let at = fits c .before .before in
+    fit-lent (entry (start at)) (checked at Fit (fits c .enum-told3 .given .1))
 
 returns : tie.Need-returns
 returns c =
@@ -70,15 +74,15 @@ same-length-5 c = search needs
 
 returns-3 : tie.Need-returns-3
 returns-3 c =
-    let at = c .before .before .before .before .before .before .before .before .before .before .before .before .before
-    .before .before .before .before .before in
-    let end = c .before .before .before .before .before .before .before .before .before .before .portion-fitting in
+    let ended = c .before .before .before .before .before .before .before .before .before .before in
+    let fit = fits (ended .before) in
+    let at = fit .before .before in
+    let end = ended .portion-fitting in
     let after = lentOf (end .last .1 .0) (end .last .1 .1 .0) (end .last .1 .1 .1 .0) (end .last .1 .1 .1 .1 .0)
     (end .last .1 .1 .1 .1 .1 .0) in
     unless-fit (lentChecks (entry (start at))) (said (end .result)) (entry (start at)) after
     (Portioned Stands (start at .args .portion .now) (entry (start at)) after (said (end .result)))
-    (checked at Fit (c .before .before .before .before .before .before .before .before .before .before .before .before
-    .before .before .before .before .enum-told3 .given .1))
+    (checked at Fit (fit .enum-told3 .given .1))
     (end .ensures)
 
 pub read-portion-spec : {M : Type 1} → statement M

@@ -1,7 +1,7 @@
 -- `start_fitting` meets its contract: a reading begins, and the words keep it.
 use mathlib.Core.Path.{_≡_}
 use lib.ListN.{length}
-use Rattle.pgsolver_serial.specs.Stands.{SameLengths, starts}
+use Rattle.pgsolver_serial.specs.Stands.{SerialLengths, starts}
 use borrow.Author.Needs.{needs}
 use Rattle.pgsolver_serial.proofs.starting.start_fitting.Statement.{statement}
 use Rattle.pgsolver_serial.proofs.starting.start_fitting.Tie as tie
@@ -13,7 +13,7 @@ same-lengths :
     (c : tie.After-slice-known9) →
     let at = c .before .before .before .before .before .before .before .before in
     let args = start at .args in
-    SameLengths (args .owners .now) (args .priorities .now) (args .offsets .now) (args .targets .now) (at .begin .last .0)
+    SerialLengths (args .owners .now) (args .priorities .now) (args .offsets .now) (args .targets .now) (at .begin .last .0)
     (at .begin .last .1 .0)
     (at .begin .last .1 .1 .0)
     (at .begin .last .1 .1 .1 .0)

@@ -8,14 +8,14 @@ use Rattle.pgsolver_step.specs.declared.step.Step.{Step}
 use Rattle.pgsolver_step.specs.declared.step.Step.the-variants.{Off, Over}
 use Rattle.pgsolver_step.specs.declared.portion.Portion.{Portion}
 use Rattle.pgsolver_step.specs.declared.portion.Portion.the-variants.{Reading, Stuck, Beyond}
-use Rattle.pgsolver_step.specs.Portions.{Portions, portions, Passed, passed-none, passed-more, passed-past, passed-all}
+use Rattle.pgsolver_step.specs.Portions.{Portions, portions, BytesPassed, passed-none, passed-more, passed-past, passed-all}
 use Rattle.pgsolver_step.specs.Portions.{Stops, stuck, beyond, stops-within, passed-stops}
 use Rattle.pgsolver_step.proofs.portion.read_portion.Statement.{statement}
 use Rattle.pgsolver_step.proofs.portion.read_portion.Tie as tie
 
 abbrev Inv-loop : tie.InvT-loop
 Inv-loop text place most o₀ p₀ f₀ t₀ vertices edges s₀ at₀ i₀ end o p f t s at i =
-    (end ≡ length text) × Passed most vertices edges place s₀ text o₀ p₀ f₀ t₀ s at i o p f t
+    (end ≡ length text) × BytesPassed most vertices edges place s₀ text o₀ p₀ f₀ t₀ s at i o p f t
 
 abbrev μ-loop : tie.MeasureT-loop
 μ-loop text place most o₀ p₀ f₀ t₀ vertices edges s₀ at₀ i₀ end o p f t s at i =
@@ -24,17 +24,21 @@ abbrev μ-loop : tie.MeasureT-loop
 abbrev done-at : tie.After-slice-known8 Inv-loop μ-loop → tie.After-read-byte Inv-loop μ-loop
 done-at c = c .before .before .before .before .before .before .before .before
 
+-- the byte's place is below the limit
+abbrev limited : tie.After-read-byte Inv-loop μ-loop → tie.Else1 Inv-loop μ-loop
+limited c = c .before .before .before .before .before .before
+
 abbrev loop-at : tie.After-slice-known8 Inv-loop μ-loop → tie.At-loop Inv-loop μ-loop
-loop-at c = done-at c .before .before .before .before .before .before .before .before
+loop-at c = limited (done-at c) .before .before
 
 abbrev start : tie.At-loop Inv-loop μ-loop → tie.Start Inv-loop μ-loop
 start c = c .before .before .before .before .before .before .before .before
 
 below : (c : tie.After-slice-known8 Inv-loop μ-loop) → loop-at c .loop .i < length (start (loop-at c) .args .text .now)
-below c = omega (arith, done-at c .before .before .before .before .before .before .before .loop-test .taken)
+below c = omega (arith, limited (done-at c) .before .loop-test .taken)
 
 early : (c : tie.After-slice-known8 Inv-loop μ-loop) → loop-at c .loop .at < start (loop-at c) .args .most-bytes
-early c = done-at c .before .before .before .before .before .before .if1 .left
+early c = limited (done-at c) .if1 .left
 
 -- a step that ends the portion
 stops :
@@ -105,14 +109,15 @@ limit-requires-2 c κs = search needs
 
 loop-holds : tie.Need-loop-holds Inv-loop μ-loop
 loop-holds c =
-    let args = c .before .before .before .before .before .before .before .args in (
+    let begun = c .before .before .before .before .before .before .before in
+    let args = begun .args in (
       refl,
       passed-none (args .most-bytes) (c .before .limit .result) (c .limit2 .result) (args .place) (args .state) (args .text .now)
           (args .owners .now)
           (args .priorities .now)
           (args .offsets .now)
           (args .targets .now)
-          (c .before .before .before .before .before .before .before .pre)
+          (begun .pre)
           (c .before .limit .ensures)
           (c .limit2 .ensures),
     )
@@ -132,7 +137,7 @@ same-length-4 c = search needs
 returns : tie.Need-returns Inv-loop μ-loop
 returns c =
     let at = c .before .before in
-    let args = at .before .before .before .before .before .before .before .before .args in
+    let args = start at .args in
     portions (args .most-bytes) (at .before .before .limit .result) (at .before .limit2 .result) (args .place) (args .state)
     (args .text .now)
     (args .owners .now)
@@ -214,11 +219,9 @@ add-at c = omega (arith, early (c .before .before .before), start (loop-at (c .b
 
 add-i : tie.Need-add-i Inv-loop μ-loop
 add-i c =
-    let at =
-    c .before .before .before .before .before .before .before .before .before .before .before
-    .before .before .before .before .before .before .before .before in
-    let more : at .loop .i < length (at .before .before .before .before .before .before .before
-    .before .args .text .now) = below (c .before .before .before) in
+    let here = c .before .before .before in
+    let at = loop-at here in
+    let more : at .loop .i < length (start at .args .text .now) = below here in
     search needs
 
 loop-less : tie.Need-loop-less Inv-loop μ-loop
@@ -276,7 +279,7 @@ same-length-16 c = search needs
 returns-4 : tie.Need-returns-4 Inv-loop μ-loop
 returns-4 c =
     let at = c .before in
-    let args = at .before .before .before .before .before .before .before .before .args in
+    let args = start at .args in
     let all : at .loop .i ≡ length (args .text .now) = omega (arith, at .loop .inv .1 .up-to, c .loop-test .left) in
     portions (args .most-bytes) (at .before .before .limit .result) (at .before .limit2 .result) (args .place) (args .state)
     (args .text .now)

@@ -1,9 +1,50 @@
 -- `read_byte` meets its contract: each move by its own law.
-use mathlib.Core.Path.{sym, _∙_}
-use Rattle.pgsolver_step.specs.Steps.{steps-on, steps-off, steps-over, steps-aim, steps-close, steps-aim-close}
+use mathlib.Core.List.{List}
+use mathlib.Core.Path.{_≡_}
+use Prim.Native.Nat.{ℕ}
+use Rattle.grammar.specs.Machine.{classOf}
+use Rattle.pgsolver_acts.specs.declared.state.State.{State}
+use Rattle.pgsolver_acts.specs.Acts.{actOn}
+use Rattle.pgsolver_moves.specs.declared.moves.Move.{Move}
+use Rattle.pgsolver_moves.specs.Moves.{moveOf}
+use Rattle.pgsolver_step.specs.Steps.{LimitRoom, steps-on, steps-off, steps-over, steps-aim, steps-close, steps-aim-close}
 use borrow.Author.Needs.{needs}
 use Rattle.pgsolver_step.proofs.step.read_byte.Statement.{statement}
 use Rattle.pgsolver_step.proofs.step.read_byte.Tie as tie
+
+-- where the function begins, from the byte's move
+abbrev start : tie.After-advance → tie.Start
+start c = c .before .before .before .before .before
+
+-- a law over what a byte is read with
+abbrev Claim : Type 1
+Claim = (vertices edges b : ℕ) → State → (o p f t : List ℕ) → Type 0
+
+abbrev Law : Claim → Type 0
+Law P =
+    (vertices edges b : ℕ) (s : State) (o p f t : List ℕ) → LimitRoom vertices edges o p f t → P vertices edges b s o p f t
+
+-- at what it is read with here
+here :
+    {P : Claim} →
+    Law P →
+    (c : tie.After-advance) →
+    let args = start c .args in
+    P (args .vertices) (args .edges) (args .b) (args .s) (args .owners .now) (args .priorities .now) (args .offsets .now)
+    (args .targets .now)
+here law c =
+    let args = start c .args in
+    law (args .vertices) (args .edges) (args .b) (args .s) (args .owners .now) (args .priorities .now) (args .offsets .now)
+    (args .targets .now)
+    (start c .pre)
+
+-- the machine's move is the one that was told
+moved :
+    (c : tie.After-advance) {x : Move} →
+    c .advance .result ≡ x →
+    let args = start c .args in
+    moveOf (actOn (classOf (args .b)) (args .s .phase)) (args .s) (args .b) (args .vertices) (args .edges) ≡ x
+moved c is = rw (c .advance .ensures) at is
 
 advance-requires : tie.Need-advance-requires
 advance-requires c κs = search needs
@@ -41,49 +82,29 @@ close-requires-2 c κs = search needs
 returns : tie.Need-returns
 returns c =
     let at = c .before .before .before in
-    let args = at .before .before .before .before .before .args in
-    steps-on (args .vertices) (args .edges) (args .b) (args .s) (args .owners .now) (args .priorities .now)
-    (args .offsets .now)
-    (args .targets .now)
-    (at .before .before .before .before .before .pre)
-    (c .before .next .given .0 .0)
-    (sym (at .advance .ensures) ∙ c .before .next .given .1)
+    let on = c .before .next .given in
+    here steps-on at (on .0 .0) (moved at (on .1))
 
 returns-2 : tie.Need-returns-2
 returns-2 c =
     let at = c .before .before in
-    let args = at .before .before .before .before .before .args in
-    steps-off (args .vertices) (args .edges) (args .b) (args .s) (args .owners .now) (args .priorities .now)
-    (args .offsets .now)
-    (args .targets .now)
-    (at .before .before .before .before .before .pre)
-    (sym (at .advance .ensures) ∙ c .enum-told .given .1)
+    here steps-off at (moved at (c .enum-told .given .1))
 
 returns-3 : tie.Need-returns-3
 returns-3 c =
     let at = c .before .before in
-    let args = at .before .before .before .before .before .args in
-    steps-over (args .vertices) (args .edges) (args .b) (args .s) (args .owners .now) (args .priorities .now)
-    (args .offsets .now)
-    (args .targets .now)
-    (at .before .before .before .before .before .pre)
-    (sym (at .advance .ensures) ∙ c .enum-told2 .given .1)
+    here steps-over at (moved at (c .enum-told2 .given .1))
 
 same-length : tie.Need-same-length
 same-length c = search needs
 
 returns-4 : tie.Need-returns-4
 returns-4 c =
-    let at = c .before .before .before .before .before .before .before in
-    let args = at .before .before .before .before .before .args in
-    steps-aim (args .vertices) (args .edges) (args .b) (args .s) (args .owners .now) (args .priorities .now)
-    (args .offsets .now)
-    (args .targets .now)
-    (at .before .before .before .before .before .pre)
-    (c .before .before .before .before .before .next2 .given .0 .0)
-    (c .before .before .aim .last .0)
-    (sym (at .advance .ensures) ∙ c .before .before .before .before .before .next2 .given .1)
-    (c .before .before .aim .ensures)
+    let aimed = c .before .before in
+    let known = aimed .before .before .before in
+    let at = known .before .before in
+    let on = known .next2 .given in
+    here steps-aim at (on .0 .0) (aimed .aim .last .0) (moved at (on .1)) (aimed .aim .ensures)
 
 same-length-2 : tie.Need-same-length-2
 same-length-2 c = search needs
@@ -96,19 +117,12 @@ same-length-4 c = search needs
 
 returns-5 : tie.Need-returns-5
 returns-5 c =
-    let known = c .before .before .before .before .before .before .before .before .before .before .before in
     let done = c .before .before .before .before .before .before in
-    let at = c .before .before .before .before .before .before .before .before .before .before .before .before .before in
-    let args = at .before .before .before .before .before .args in
-    steps-close (args .vertices) (args .edges) (args .b) (args .s) (args .owners .now) (args .priorities .now)
-    (args .offsets .now)
-    (args .targets .now)
-    (at .before .before .before .before .before .pre)
-    (known .next3 .given .0 .0)
-    (done .close .last .0)
-    (done .close .last .1 .0)
-    (done .close .last .1 .1 .0)
-    (sym (at .advance .ensures) ∙ known .next3 .given .1)
+    let known = done .before .before .before .before .before in
+    let at = known .before .before in
+    let on = known .next3 .given in
+    here steps-close at (on .0 .0) (done .close .last .0) (done .close .last .1 .0) (done .close .last .1 .1 .0)
+    (moved at (on .1))
     (done .close .ensures)
 
 same-length-5 : tie.Need-same-length-5
@@ -125,23 +139,14 @@ same-length-8 c = search needs
 
 returns-6 : tie.Need-returns-6
 returns-6 c =
-    let known = c .before .before .before .before .before .before .before .before .before .before .before
-    .before .before .before .before in
-    let aimed = c .before .before .before .before .before .before .before .before .before .before .before .before in
     let done = c .before .before .before .before .before .before in
-    let at = c .before .before .before .before .before .before .before .before .before .before .before .before
-    .before .before .before .before .before in
-    let args = at .before .before .before .before .before .args in
-    steps-aim-close (args .vertices) (args .edges) (args .b) (args .s) (args .owners .now) (args .priorities .now)
-    (args .offsets .now)
-    (args .targets .now)
-    (at .before .before .before .before .before .pre)
-    (known .next4 .given .0 .0)
-    (done .close2 .last .0)
-    (done .close2 .last .1 .0)
-    (done .close2 .last .1 .1 .0)
+    let aimed = done .before .before .before .before .before .before in
+    let known = aimed .before .before .before in
+    let at = known .before .before in
+    let on = known .next4 .given in
+    here steps-aim-close at (on .0 .0) (done .close2 .last .0) (done .close2 .last .1 .0) (done .close2 .last .1 .1 .0)
     (aimed .aim2 .last .0)
-    (sym (at .advance .ensures) ∙ known .next4 .given .1)
+    (moved at (on .1))
     (aimed .aim2 .ensures)
     (done .close2 .ensures)
 

@@ -64,21 +64,26 @@ low-requires-8 c κs = search needs
 
 returns : tie.Need-returns
 returns c =
+    let begins = c .before .before in
+    let owner = begins .before .before in
+    let priority = owner .before .before in
+    let identifier = priority .before .before in
+    let edges = identifier .before .before in
+    let records = edges .before .before in
+    let highest = records .before .before in
+    let phase = highest .before .before .before in
+    let args = phase .before .before .before .args in
     λ i.
     record {
-      phase = c .before .before .before .before .before .before .before .before .before .before .before .before .before
-          .before .before .before .before .phase-in .ensures i;
-      said = eqb (getD (c .before .before .before .before .before .before .before .before .before .before .before .before
-          .before .before .before .before .before .before .before .before .args .words .now) 4 0) 1;
-      highest = c .before .before .before .before .before .before .before .before .before .before .before .before .before
-          .before .low .ensures i;
-      records = c .before .before .before .before .before .before .before .before .before .before .before .before .low2
-          .ensures i;
-      edges = c .before .before .before .before .before .before .before .before .before .before .low3 .ensures i;
-      identifier = c .before .before .before .before .before .before .before .before .low4 .ensures i;
-      priority = c .before .before .before .before .before .before .low5 .ensures i;
-      owner = c .before .before .before .before .low6 .ensures i;
-      begins = c .before .before .low7 .ensures i;
+      phase = phase .phase-in .ensures i;
+      said = eqb (getD (args .words .now) 4 0) 1;
+      highest = highest .low .ensures i;
+      records = records .low2 .ensures i;
+      edges = edges .low3 .ensures i;
+      identifier = identifier .low4 .ensures i;
+      priority = priority .low5 .ensures i;
+      owner = owner .low6 .ensures i;
+      begins = begins .low7 .ensures i;
       value = c .low8 .ensures i;
     }
 

@@ -65,15 +65,13 @@ same-length c = search needs
 returns : tie.Need-returns
 returns c =
     let known = c .before .before .before .before .before .struct-known8 .given in
-    let args = c .before .before .before .before .before .before .before .before .before .before .before .before .before
-    .before .before .before .args in
+    let flagged = c .before .before .before .before .before .before .before .before .before .before .before .before .before in
+    let named = flagged .before in
+    let args = named .before .before .args in
     let kept = c .before .before .copy-from in
-    keeps (args .most-bytes) (args .place) (c .before .before .before .before .before .before .before .before .before .before
-    .before .before .before .before .phase-word .result) (c .before .before .before .before .before .before .before .before
-    .before .before .before .before .before .flag .result) (args .state) (args .words .now) _
-    (c .before .before .before .before .before .before .before .before .before .before .before .before .before .before
-    .phase-word .ensures)
-    (c .before .before .before .before .before .before .before .before .before .before .before .before .before .flag .ensures)
+    keeps (args .most-bytes) (args .place) (named .phase-word .result) (flagged .flag .result) (args .state) (args .words .now) _
+    (named .phase-word .ensures)
+    (flagged .flag .ensures)
     (record {
       highest = small (known .1 .1 .0);
       records = small (known .1 .1 .1 .0);

@@ -7,7 +7,7 @@ use lib.ListN.{length}
 use Rattle.rules.specs.Tables.{Tables, tablesOf}
 use Rattle.rules.specs.Writing.{recordsText, headerText}
 use Rattle.writing.specs.Lengths.{header-length, text-length, text-bounded}
-use Rattle.pgsolver_put.specs.Records.{Row, row, records-empty}
+use Rattle.pgsolver_line.specs.Records.{RecordRow, row, records-empty}
 use Rattle.pgsolver_writer.proofs.length.text_length.Statement.{statement}
 use Rattle.pgsolver_writer.proofs.length.text_length.Tie as tie
 
@@ -27,7 +27,7 @@ tables c = tablesOf (c .args .owners .now) (c .args .priorities .now) (c .args .
 abbrev begun : tie.At-loop Inv-loop μ-loop → tie.Start Inv-loop μ-loop
 begun c = c .before .before .before .before .before .before
 
-row-at : (c : tie.In-loop Inv-loop μ-loop) → Row (tables (begun (c .before))) (c .before .loop .v)
+row-at : (c : tie.In-loop Inv-loop μ-loop) → RecordRow (tables (begun (c .before))) (c .before .loop .v)
 row-at c = row (tables (begun (c .before))) (begun (c .before) .pre) (c .before .loop .v) (omega arith)
 
 sub-digits : tie.Need-sub-digits Inv-loop μ-loop
@@ -117,14 +117,15 @@ record-length-requires c κs =
 
 add-sum-2 : tie.Need-add-sum-2 Inv-loop μ-loop
 add-sum-2 c =
-    let here = row-at (c .before .before .before .before .before .before) in
-    let at = c .before .before .before .before .before .before .before .before .before .before .before .before .before in
+    let inside = c .before .before .before .before .before .before in
+    let here = row-at inside in
+    let at = begun (inside .before) in
     omega (
       arith,
       here .more,
       here .room,
       c .record-length .ensures,
-      c .before .before .before .before .before .before .before .loop .inv .2,
+      inside .before .loop .inv .2,
       text-length (tables at),
       text-bounded (tables at) (at .pre .accepted),
     )

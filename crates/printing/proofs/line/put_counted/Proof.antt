@@ -7,7 +7,7 @@ use lib.ListN.{length}
 use Rattle.rules.specs.Decimal.{decimal}
 use Rattle.printing.specs.declared.line.Counted.{Counted}
 use Rattle.printing.specs.Line.{countedBytes, word-short}
-use Rattle.printing.specs.Puts.{Puts}
+use Rattle.putting.specs.Puts.{Puts}
 use Rattle.printing.proofs.line.put_counted.Statement.{statement}
 use Rattle.printing.proofs.line.put_counted.Tie as tie
 

@@ -5,8 +5,8 @@ use native.Mathlib.Omega.{arith}
 use borrow.Author.Needs.{needs}
 use Rattle.rules.specs.Words.{setOf}
 use Rattle.printing.specs.Line.{winnersBytes}
-use Rattle.printing.specs.Puts.{Puts}
-use Rattle.printing.specs.Winners.{winners-long}
+use Rattle.putting.specs.Puts.{Puts}
+use Rattle.putting.specs.Winners.{winners-long}
 use Rattle.printing.proofs.line.put_decided.Statement.{statement}
 use Rattle.printing.proofs.line.put_decided.Tie as tie
 

@@ -1,7 +1,7 @@
 -- `refused_line` meets its contract: its pieces, one after another, are the line.
 use native.Mathlib.Omega.{arith}
 use borrow.Author.Needs.{needs}
-use Rattle.printing.specs.Puts.{puts-both}
+use Rattle.putting.specs.Puts.{puts-both}
 use Rattle.printing.specs.Line.{word-short}
 use Rattle.printing.proofs.line.refused_line.Statement.{statement}
 use Rattle.printing.proofs.line.refused_line.Tie as tie

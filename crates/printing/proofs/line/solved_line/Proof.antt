@@ -7,7 +7,7 @@ use borrow.Author.Needs.{needs}
 use lib.ListN.{length}
 use Rattle.rules.specs.Words.{setOf}
 use Rattle.printing.specs.Line.{winnersBytes, winners-short}
-use Rattle.printing.specs.Puts.{Puts, puts-both}
+use Rattle.putting.specs.Puts.{Puts, puts-both}
 use Rattle.printing.proofs.line.solved_line.Statement.{statement}
 use Rattle.printing.proofs.line.solved_line.Tie as tie
 

@@ -8,11 +8,11 @@ use Rattle.rules.specs.Tables.{Tables, words, tablesOf}
 use Rattle.accepted.specs.Tables.{accepted-sound}
 use Rattle.area.specs.Lent.{words-few}
 use Rattle.sets.specs.Laws.{cleared-all}
-use Rattle.solver.specs.Outputs.{Found, found-writable, found-finished}
+use Rattle.solver.specs.Outputs.{WinnersFound, found-writable, found-finished}
 use Rattle.area.specs.Area.{entries}
 use Rattle.kept_numbers.specs.Reading.{kept-long}
 use Rattle.promotion_levels.specs.Layout.{heldAt, deep}
-use Rattle.promotion_begin.specs.Beginning.{Begun}
+use Rattle.promotion_begin.specs.FirstLevel.{Begun}
 use Rattle.priority_promotion.specs.Running.{wonIn, entriesIn, run-preparable, run-beginnable, run-begun, run-reached}
 use Rattle.priority_promotion.specs.Running.{run-over, run-rounds, run-found}
 use borrow.Author.Needs.{needs}
@@ -122,13 +122,13 @@ found :
     (d : tie.After-struct-known) →
     ended d .solve .result .unsolved ≡ 0 →
     let g = start d in
-    Found (tables g) (wonIn (tables g)) (entriesIn (tables g)) (size-at (sized d)) (held-in (placed d) + size-at (sized d))
+    WinnersFound (tables g) (wonIn (tables g)) (entriesIn (tables g)) (size-at (sized d)) (held-in (placed d) + size-at (sized d))
     (left d)
 found d z =
     let g = start d in
     subst
     (λ (h : ℕ).
-    Found (tables g) (wonIn (tables g)) (entriesIn (tables g)) (size-at (sized d)) (h + size-at (sized d)) (left d))
+    WinnersFound (tables g) (wonIn (tables g)) (entriesIn (tables g)) (size-at (sized d)) (h + size-at (sized d)) (left d))
     (sym (held-at (placed d)))
     (run-found (ended d .solve .ensures) z)
 

@@ -171,7 +171,8 @@ same-length-4 : tie.Need-same-length-4
 same-length-4 c = search needs
 
 returns-2 : tie.Need-returns-2
-returns-2 c = solved (c .before .before .before .before .before .before .before .before .before .before) (c .enum-told .given .1)
+returns-2 c =
+    let asked = c .before .before .before .before .before .before .before .before .before .before in solved asked (c .enum-told .given .1)
 
 same-length-5 : tie.Need-same-length-5
 same-length-5 c = search needs

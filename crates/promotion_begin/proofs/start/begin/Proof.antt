@@ -5,7 +5,7 @@ use lib.ListN.{length}
 use Rattle.area.specs.Area.{free}
 use native.Mathlib.Omega.{arith}
 use Rattle.sets.specs.After.{Cleared}
-use Rattle.promotion_begin.specs.Beginning.{begin-sortable, begin-descends, begun}
+use Rattle.promotion_begin.specs.FirstLevel.{begin-sortable, begin-descends, begun}
 use borrow.Author.Needs.{needs}
 use Rattle.promotion_begin.proofs.start.begin.Statement.{statement}
 use Rattle.promotion_begin.proofs.start.begin.Tie as tie
@@ -31,7 +31,7 @@ won-cleared c =
       rest = λ i out. gone .rest i (⊎-elim (λ l. inl l) (λ l. inr (omega arith)) out);
     }
 
-abbrev cleared : tie.After-sort → tie.After-clear
+abbrev cleared : tie.After-make → tie.After-clear
 cleared c = c .before .before .before .before
 
 free-requires : tie.Need-free-requires
@@ -49,14 +49,14 @@ mul-clear c = search needs
 clear-requires : tie.Need-clear-requires
 clear-requires c κs = search needs
 
-sort-requires : tie.Need-sort-requires
-sort-requires c κs = let d = c .before .before .before in begin-sortable (first d .pre) (placed d .free .ensures) (won-cleared d)
+make-requires : tie.Need-make-requires
+make-requires c κs = let d = c .before .before .before in begin-sortable (first d .pre) (placed d .free .ensures) (won-cleared d)
 
 descend-requires : tie.Need-descend-requires
 descend-requires c κs =
     let o = c .before .before .before in
     let d = cleared o in
-    begin-descends (first d .pre) (placed d .free .ensures) (won-cleared d) (o .sort .ensures)
+    begin-descends (first d .pre) (placed d .free .ensures) (won-cleared d) (o .make .ensures)
 
 same-length : tie.Need-same-length
 same-length c = search needs
@@ -66,7 +66,7 @@ returns c =
     let e = c .before .before in
     let o = e .before .before .before .before in
     let d = cleared o in
-    begun (first d .pre) (placed d .free .ensures) (won-cleared d) (o .sort .ensures) (e .descend .ensures)
+    begun (first d .pre) (placed d .free .ensures) (won-cleared d) (o .make .ensures) (e .descend .ensures)
 
 pub begin-spec : {M : Type 1} → statement M
 begin-spec =
@@ -76,7 +76,7 @@ begin-spec =
     add-clear
     mul-clear
     clear-requires
-    sort-requires
+    make-requires
     descend-requires
     same-length
     returns)

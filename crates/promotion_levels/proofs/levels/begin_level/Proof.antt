@@ -1,5 +1,5 @@
 -- `begin_level` meets its contract: what is taken from the level twice, and forgotten, begins it.
-use Rattle.promotion_levels.specs.Beginning.{begin-next, begin-held, begin-forgettable, begun}
+use Rattle.promotion_levels.specs.LevelBegins.{begin-next, begin-held, begin-forgettable, begun}
 use borrow.Author.Needs.{needs}
 use Rattle.promotion_levels.proofs.levels.begin_level.Statement.{statement}
 use Rattle.promotion_levels.proofs.levels.begin_level.Tie as tie

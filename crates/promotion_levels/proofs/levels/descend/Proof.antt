@@ -11,7 +11,7 @@ abbrev start-of : tie.After-entries → tie.Start
 start-of c = c .before .before .before .before
 
 abbrev placed : tie.After-get-highest-prio → tie.After-entries
-placed c = c .before .before .before
+placed c = c .before .before
 
 mul-base : tie.Need-mul-base
 mul-base c = let g = c .before .before in omega (arith, descend-room (g .pre), g .good)
@@ -25,23 +25,8 @@ depth-at-requires c κs = search needs
 entries-requires : tie.Need-entries-requires
 entries-requires c κs = search needs
 
-add-get-highest-prio : tie.Need-add-get-highest-prio
-add-get-highest-prio c = let g = start-of c in omega (arith, descend-room (g .pre), g .good)
-
-mul-get-highest-prio : tie.Need-mul-get-highest-prio
-mul-get-highest-prio c = let g = start-of c in omega (arith, descend-room (g .pre), g .good)
-
-sub-get-highest-prio : tie.Need-sub-get-highest-prio
-sub-get-highest-prio c = search needs
-
-part-get-highest-prio-start : tie.Need-part-get-highest-prio-start
-part-get-highest-prio-start c = search needs
-
-part-get-highest-prio-end : tie.Need-part-get-highest-prio-end
-part-get-highest-prio-end c = omega (arith, descend-room (start-of (c .before) .pre))
-
 get-highest-prio-requires : tie.Need-get-highest-prio-requires
-get-highest-prio-requires c κs = descend-searchable (start-of (c .before .before) .pre)
+get-highest-prio-requires c κs = descend-searchable (start-of (c .before) .pre)
 
 add-work : tie.Need-add-work
 add-work c = search needs
@@ -86,11 +71,6 @@ descend-spec =
     add-base
     depth-at-requires
     entries-requires
-    add-get-highest-prio
-    mul-get-highest-prio
-    sub-get-highest-prio
-    part-get-highest-prio-start
-    part-get-highest-prio-end
     get-highest-prio-requires
     add-work
     add-work-2

@@ -1,35 +1,56 @@
 -- `solve_dominion` meets its contract: each call finds what it asks for in what the calls before it left.
-use mathlib.Core.Logic.{inl, inr, ⊎-elim}
-use mathlib.Core.Path.{_≡_}
-use native.Mathlib.Omega.{arith}
-use Rattle.rules.specs.Game.{parity}
-use Rattle.promotion_moves.specs.Dominion.{wonBehind, won-picked, attract-ready, union-parts, difference-parts, dominated}
+use mathlib.Core.Logic.{⊎-elim}
+use mathlib.Core.Path.{_≡_, sym, ap, _∙_}
+use Prim.Native.Nat.{ℕ}
+use Rattle.rules.specs.Game.{parity, playerOf}
+use Rattle.parity_game.specs.Said.{is}
+use Rattle.parity_game.specs.declared.player.Player.{Player}
+use Rattle.promotion_moves.specs.Dominion.{wonBehind, attract-ready, union-parts, difference-parts, dominated}
 use borrow.Author.Needs.{needs}
 use Rattle.promotion_moves.proofs.dominion.solve_dominion.Statement.{statement}
 use Rattle.promotion_moves.proofs.dominion.solve_dominion.Tie as tie
 
 -- where the function begins, and where R was drawn in
-abbrev first : tie.After-attract → tie.Start
-first c = c .before .before .before .before .before .before
+abbrev begun : tie.After-index → tie.Start
+begun c = c .before .before .before .before .before .before
 
-abbrev drawn : tie.Joined1 → tie.After-attract
+abbrev first : tie.After-attract → tie.Start
+first c = begun (c .before .before)
+
+abbrev drawn : tie.At-match-came → tie.After-attract
 drawn c = c .before .before .before
 
--- the place of the set won
-picked : (c : tie.Joined1) → let args = first (drawn c) .args in c .if1 .won ≡ wonBehind (args .s) (args .held) (parity (args .p))
-picked c =
-    let args = first (drawn c) .args in
-    won-picked (args .s) (args .held) (args .p) (c .if1 .won)
-    (⊎-elim (λ came. inl (came .0 .taken, came .1)) (λ came. inr (came .0 .left, came .1)) (c .if1 .came))
+-- the player who draws R in
+own : (c : tie.After-attract) → playerOf (c .before .before .index .result) ≡ parity (first c .args .p .0)
+own c = let named = c .before .before in named .index .ensures .0 ∙ named .before .from-priority .ensures
 
-cast-alpha : tie.Need-cast-alpha
-cast-alpha c = search needs
+-- the place of the set won
+picked : (c : tie.At-match-came) → let a = first (drawn c) .args in c .match .won ≡ wonBehind (a .s) (a .held) (parity (a .p .0))
+picked c =
+    let d = drawn c in
+    let a = first d .args in
+    let behind : Player → ℕ = λ q. wonBehind (a .s) (a .held) (is q) in
+    ⊎-elim (λ y. y .2 ∙ ap behind (sym (y .1 .given .1))) (λ y. y .2 ∙ ap behind (sym (y .1 .given .1))) (c .match .came) ∙
+    ap (wonBehind (a .s) (a .held)) (d .before .before .before .from-priority .ensures)
+
+from-priority-requires : tie.Need-from-priority-requires
+from-priority-requires c κs = search needs
+
+index-requires : tie.Need-index-requires
+index-requires c κs = search needs
 
 attract-requires : tie.Need-attract-requires
-attract-requires c κs = let g = c .before .before .before .before .before in attract-ready (g .pre) (g .args .p)
+attract-requires c κs =
+    let g = begun (c .before) in attract-ready (g .pre) (g .args .p .0) (c .before .index .ensures .1)
+
+enum-told : tie.Need-enum-told
+enum-told c = search needs
 
 add-won : tie.Need-add-won
 add-won c = search needs
+
+enum-told-2 : tie.Need-enum-told-2
+enum-told-2 c = search needs
 
 mul-won : tie.Need-mul-won
 mul-won c = search needs
@@ -42,7 +63,7 @@ union-with-requires c κs =
     let j = c .before in
     let d = drawn j in
     let g = first d in
-    union-parts (g .pre) (g .args .p) (g .pre .priorities) (g .pre .accepted)
+    union-parts (g .pre) (g .args .p .0) (g .pre .priorities) (g .pre .accepted) (own d)
     (d .attract .ensures (g .pre .priorities) (g .pre .accepted)) (picked j)
 
 difference-with-requires : tie.Need-difference-with-requires
@@ -51,7 +72,7 @@ difference-with-requires c κs =
     let j = u .before .before in
     let d = drawn j in
     let g = first d in
-    difference-parts (g .pre) (g .args .p) (g .pre .priorities) (g .pre .accepted)
+    difference-parts (g .pre) (g .args .p .0) (g .pre .priorities) (g .pre .accepted) (own d)
     (d .attract .ensures (g .pre .priorities) (g .pre .accepted)) (picked j) (u .union-with .ensures)
 
 same-length : tie.Need-same-length
@@ -64,16 +85,19 @@ returns c priorities ok =
     let j = u .before .before in
     let d = drawn j in
     let g = first d in
-    dominated (g .pre) (g .args .p) priorities ok (d .attract .ensures priorities ok) (picked j) (u .union-with .ensures)
+    dominated (g .pre) (g .args .p .0) priorities ok (own d) (d .attract .ensures priorities ok) (picked j) (u .union-with .ensures)
     (f .difference-with .ensures)
 
 pub solve-dominion-spec : {M : Type 1} → statement M
 solve-dominion-spec =
     tie.close
     (tie.spec
-    cast-alpha
+    from-priority-requires
+    index-requires
     attract-requires
+    enum-told
     add-won
+    enum-told-2
     mul-won
     add-won-2
     union-with-requires

@@ -7,8 +7,8 @@ use Rattle.promotion_moves.proofs.fill.fill_entry.Tie as tie
 shared-slice-read-if1 : tie.Need-shared-slice-read-if1
 shared-slice-read-if1 c = search needs
 
-add-if2 : tie.Need-add-if2
-add-if2 c = search needs
+add-entry : tie.Need-add-entry
+add-entry c = search needs
 
 mul-if2 : tie.Need-mul-if2
 mul-if2 c = search needs
@@ -34,9 +34,6 @@ part-lowest-inside-end c = search needs
 lowest-inside-requires : tie.Need-lowest-inside-requires
 lowest-inside-requires c κs =
     let g = c .before .before .before .before .before .before .before .before .before .before in search-ready (g .pre)
-
-add-work : tie.Need-add-work
-add-work c = search needs
 
 mul-work : tie.Need-mul-work
 mul-work c = search needs
@@ -67,7 +64,7 @@ fill-entry-spec =
     tie.close
     (tie.spec
     shared-slice-read-if1
-    add-if2
+    add-entry
     mul-if2
     slice-read-if2
     add-lowest-inside
@@ -76,7 +73,6 @@ fill-entry-spec =
     part-lowest-inside-start
     part-lowest-inside-end
     lowest-inside-requires
-    add-work
     mul-work
     slice-write-work
     same-length

@@ -8,15 +8,21 @@ use borrow.Author.Needs.{needs}
 use Rattle.promotion_region.proofs.region.query.Statement.{statement}
 use Rattle.promotion_region.proofs.region.query.Tie as tie
 
--- where the function begins, from where R is drawn in
-abbrev start-of : tie.After-attract → tie.Start
-start-of c = c .before .before .before .before .before .before
+-- where the function begins, from where the player is known and from where R is drawn in
+abbrev first : tie.After-index → tie.Start
+first c = c .before .before .before .before .before .before
 
-cast-alpha : tie.Need-cast-alpha
-cast-alpha c = search needs
+abbrev start-of : tie.After-attract → tie.Start
+start-of c = first (c .before .before)
+
+from-priority-requires : tie.Need-from-priority-requires
+from-priority-requires c κs = search needs
+
+index-requires : tie.Need-index-requires
+index-requires c κs = search needs
 
 attract-requires : tie.Need-attract-requires
-attract-requires c κs = given-attract (c .before .before .before .before .before .pre)
+attract-requires c κs = given-attract (first (c .before) .pre) (c .before .index .ensures .1)
 
 add-without : tie.Need-add-without
 add-without c =
@@ -70,14 +76,17 @@ returns c priorities ok ready =
     let known = met .before .before in
     let lost = lost-of known in
     let drawn = drawn-of lost in
-    given-queried (start-of drawn .pre) priorities ok ready (drawn .attract .ensures priorities ok) (lost .without .ensures)
+    let named = drawn .before .before in
+    given-queried (first named .pre) priorities ok ready (named .index .ensures .0 ∙ named .before .from-priority .ensures)
+    (drawn .attract .ensures priorities ok) (lost .without .ensures)
     (known .set-at .ensures) (met .meet .ensures)
 
 pub query-spec : {M : Type 1} → statement M
 query-spec =
     tie.close
     (tie.spec
-    cast-alpha
+    from-priority-requires
+    index-requires
     attract-requires
     add-without
     without-requires

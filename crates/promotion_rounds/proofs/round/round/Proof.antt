@@ -8,11 +8,11 @@ use Rattle.promotion_levels.specs.Layout.{endAt, Ready}
 use Rattle.promotion_region.specs.Query.{Queried}
 use Rattle.promotion_moves.specs.Filling.{FilledAll}
 use Rattle.promotion_moves.specs.Promotion.{Promotable}
-use Rattle.promotion_rounds.specs.Round.{Begins, begins-by, round-places, round-depth, base-room, round-query}
-use Rattle.promotion_rounds.specs.Round.{round-openable, round-descend, opened-same, round-opens, round-fill}
-use Rattle.promotion_rounds.specs.Round.{filled-long, round-escapable, top-fits, round-promotable, promoted-same}
-use Rattle.promotion_rounds.specs.Round.{round-promotes, round-dominion, round-first, solved-same, round-solves}
-use Rattle.promotion_rounds.specs.Round.{solved-ready, first-room, left-few, left-counted}
+use Rattle.promotion_rounds.specs.RoundMade.{RoundBegins, begins-by, round-places, round-depth, base-room, round-query}
+use Rattle.promotion_rounds.specs.RoundMade.{round-openable, round-descend, opened-same, round-opens, round-fill}
+use Rattle.promotion_rounds.specs.RoundMade.{filled-long, round-escapable, top-fits, round-promotable, promoted-same}
+use Rattle.promotion_rounds.specs.RoundMade.{round-promotes, round-dominion, round-first, solved-same, round-solves}
+use Rattle.promotion_rounds.specs.RoundMade.{solved-ready, first-room, left-few, left-counted}
 use borrow.Author.Needs.{needs}
 use Rattle.promotion_rounds.proofs.round.round.Statement.{statement}
 use Rattle.promotion_rounds.proofs.round.round.Tie as tie
@@ -25,14 +25,14 @@ abbrev begun : tie.After-levels-at → tie.Start
 begun l = first (l .before .before)
 
 abbrev placed : tie.After-query → tie.After-levels-at
-placed q = q .before .before .before .before
+placed q = q .before .before .before .before .before .before
 
 -- R, the levels and the current level's number are where they should be, with what else a round begins with
 at :
     (l : tie.After-levels-at) →
     let a = begun l .args in
     let d = l .before .depth-at .result in
-    Begins (a .owners .now) (a .priorities .now) (a .offsets .now) (a .targets .now) (a .s) (a .state .current .0)
+    RoundBegins (a .owners .now) (a .priorities .now) (a .offsets .now) (a .targets .now) (a .s) (a .state .current .0)
     (l .before .before .held-at .result) d (l .levels-at .result) (getD (a .work .now) d 0) (a .work .now)
 at l = begins-by (begun l .pre) (l .before .before .held-at .ensures) (l .before .depth-at .ensures) (l .levels-at .ensures)
 
@@ -102,22 +102,22 @@ add-base c =
 cast-alpha : tie.Need-cast-alpha
 cast-alpha c = search needs
 
-add-rounds : tie.Need-add-rounds
-add-rounds c = search needs
-
 add-below : tie.Need-add-below
 add-below c =
-    let l = c .before .before in
+    let l = c .before .before .before in
     omega (arith, room l, begun l .good)
 
 add-heads : tie.Need-add-heads
 add-heads c =
-    let l = c .before .before in
+    let l = c .before .before .before in
     omega (arith, room l, begun l .good)
+
+add-after : tie.Need-add-after
+add-after c = search needs
 
 query-requires : tie.Need-query-requires
 query-requires c κs =
-    let l = c .before .before .before in
+    let l = c .before .before .before .before .before in
     let g = begun l in
     round-query (g .pre .accepted) (g .pre .made) (g .pre .shows) (at l)
 
@@ -128,12 +128,9 @@ is-open-requires c κs =
     let g = begun l in
     round-openable (g .pre .accepted) (g .pre .made) (g .pre .shows) (at l) (queried q)
 
-one-less-requires : tie.Need-one-less-requires
-one-less-requires c κs = search needs
-
 add-descend : tie.Need-add-descend
 add-descend c =
-    let i = c .before .before in
+    let i = c .before in
     let o = i .before in
     let q = asked o in
     let l = placed q in
@@ -143,6 +140,9 @@ add-descend c =
     refl in
     omega (arith, down .depth, l .levels-at .ensures, room l, g .good)
 
+one-less-requires : tie.Need-one-less-requires
+one-less-requires c κs = search needs
+
 descend-requires : tie.Need-descend-requires
 descend-requires c κs =
     let i = c .before .before in
@@ -151,7 +151,7 @@ descend-requires c κs =
     let l = placed q in
     let g = begun l in
     round-descend (g .pre .accepted) (g .pre .made) (g .pre .shows) (at l) (queried q) (o .is-open .ensures) (i .if1 .taken)
-    (c .before .one-less .ensures)
+    (c .one-less .ensures)
 
 same-length : tie.Need-same-length
 same-length c = search needs
@@ -250,30 +250,30 @@ able c =
     round-promotable (g .pre .accepted) (g .pre .made) (g .pre .shows) (at l) (queried q) (filling f)
     (o .is-open .ensures) (f .before .before .before .if1 .left) (b .best-escape .ensures) (c .if2 .taken)
 
-add-q : tie.Need-add-q
-add-q c =
+add-promote : tie.Need-add-promote
+add-promote c =
     let l = placed (asked (told (filled (c .before)))) in omega (arith, fits c, room l, begun l .good)
 
-mul-q : tie.Need-mul-q
-mul-q c =
+mul-promote : tie.Need-mul-promote
+mul-promote c =
     let l = placed (asked (told (filled (c .before)))) in omega (arith, fits c, room l, begun l .good)
 
-slice-read-q : tie.Need-slice-read-q
-slice-read-q c =
+slice-read-promote : tie.Need-slice-read-promote
+slice-read-promote c =
     let f = filled (c .before .before) in omega (arith, fits (c .before), room (placed (asked (told f))), long2 f)
 
 sub-promote : tie.Need-sub-promote
 sub-promote c = search needs
 
-mul-promote : tie.Need-mul-promote
-mul-promote c =
+mul-promote-2 : tie.Need-mul-promote-2
+mul-promote-2 c =
     let i = c .before .before in
     let f = filled (i .before) in
     let more = able i in
     omega (arith, more .high, long2 f, begun (placed (asked (told f))) .good)
 
-add-promote : tie.Need-add-promote
-add-promote c =
+add-promote-2 : tie.Need-add-promote-2
+add-promote-2 c =
     let i = c .before .before in
     let f = filled (i .before) in
     let more = able i in
@@ -449,25 +449,25 @@ round-spec =
     mul-base
     add-base
     cast-alpha
-    add-rounds
     add-below
     add-heads
+    add-after
     query-requires
     is-open-requires
-    one-less-requires
     add-descend
+    one-less-requires
     descend-requires
     same-length
     returns
     entries-requires
     assign-missing-strategies-requires
     best-escape-requires
-    add-q
-    mul-q
-    slice-read-q
-    sub-promote
-    mul-promote
     add-promote
+    mul-promote
+    slice-read-promote
+    sub-promote
+    mul-promote-2
+    add-promote-2
     sub-promote-2
     promote-requires
     same-length-2

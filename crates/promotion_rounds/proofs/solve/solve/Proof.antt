@@ -51,8 +51,8 @@ use denote.Exit.{yes}
 use borrow.Rule.Slice.Lend.{keptF, sl-relend, sl-relent-backˡ}
 use Rattle.promotion_rounds.specs.declared.round.State.{State}
 use Rattle.promotion_levels.specs.Layout.{endAt}
-use Rattle.promotion_rounds.specs.Rounds.{RoundReady, RoundDone}
-use Rattle.promotion_rounds.specs.Solve.{Reached, reached-ready, reached-more}
+use Rattle.promotion_rounds.specs.RoundPromise.{RoundReady, RoundDone}
+use Rattle.promotion_rounds.specs.SolveAll.{RoundsReached, reached-ready, reached-more}
 use Rattle.promotion_rounds.proofs.Bare.{Bare, bared, valued}
 use Rattle.promotion_rounds.proofs.Stored.{R, mach, unsolved-fits, rounds-fits, typed, lies-in, lies-out}
 use Rattle.promotion_rounds.proofs.Tables.{sv, O₁, O₂, O₃, O₄, Tables, copies}
@@ -140,33 +140,33 @@ module _ {M : Type 1} (𝓤 : URA M) (H : Heap 𝓤) (A : Atoms 𝓤) (W : Given
     o = work .ptr .1
 
     -- where the loop stands: the state and the work area, with what is known of them
-    record Turn : Type 0 where
+    record LoopTurn : Type 0 where
       at : State
       list : List ℕ
       is : Is R at (mach at ∷ [])
       long : length list ≡ length (work .now)
-      reached : Reached (owners .now) (priorities .now) (offsets .now) (targets .now) s (at .current .0) (at .unsolved)
+      reached : RoundsReached (owners .now) (priorities .now) (offsets .now) (targets .now) s (at .current .0) (at .unsolved)
           (at .rounds) list
       within : at .rounds ≤ budget
       rest : (i : ℕ) → endAt (length (owners .now)) (length (targets .now)) s ≤ i
           → getD list i 0 ≡ getD (work .now) i 0
 
     -- what the tests of a turn say
-    none-left : (t : Turn) → Holds (not (ltb 0 (t .at .unsolved))) → 0 < t .at .unsolved → ⊥
+    none-left : (t : LoopTurn) → Holds (not (ltb 0 (t .at .unsolved))) → 0 < t .at .unsolved → ⊥
     none-left t none more = let zero = nltb→le 0 (t .at .unsolved) none in omega arith
 
-    budget-left : (t : Turn) → Holds (not (eqb (t .at .rounds) budget)) → t .at .rounds < budget
+    budget-left : (t : LoopTurn) → Holds (not (eqb (t .at .rounds) budget)) → t .at .rounds < budget
     budget-left t unspent =
         let apart : t .at .rounds ≡ budget → ⊥ =
         λ e. T-not (eqb (t .at .rounds) budget) unspent (subst (λ (k : ℕ). Holds (eqb (t .at .rounds) k)) e
         (eqb-refl (t .at .rounds))) in
         omega (arith, t .within, apart)
 
-    abbrev μ : Turn → ℕ
+    abbrev μ : LoopTurn → ℕ
     μ t = budget - t .at .rounds
 
-    record Next (t : Turn) : Type 0 where
-      turn : Turn
+    record NextState (t : LoopTurn) : Type 0 where
+      turn : LoopTurn
       less : μ turn < μ t
 
     -- what the function owns: the tables, the work area, and the tokens of their lifetimes
@@ -187,7 +187,7 @@ module _ {M : Type 1} (𝓤 : URA M) (H : Heap 𝓤) (A : Atoms 𝓤) (W : Given
     abbrev Work : List ℕ → Item 𝓤
     Work zs = ‵ (Bare κ₅ (area (work .name) zs))
 
-    same-value : (t : Turn) → sv work ∷ [] ≡ sliceVal (b, o) (length (t .list)) ∷ []
+    same-value : (t : LoopTurn) → sv work ∷ [] ≡ sliceVal (b, o) (length (t .list)) ∷ []
     same-value t = ap (λ (m : ℕ). sliceVal (b, o) m ∷ []) (sym (t .long))
 
     abbrev Lendable : List ℕ → Item 𝓤
@@ -201,7 +201,7 @@ module _ {M : Type 1} (𝓤 : URA M) (H : Heap 𝓤) (A : Atoms 𝓤) (W : Given
       δ′ : GName
 
     -- one call, from a turn with vertices and rounds left; the state lies at l
-    module _ (l : ℕ) (t : Turn) (more : 0 < t .at .unsolved) (left : t .at .rounds < budget) where
+    module _ (l : ℕ) (t : LoopTurn) (more : 0 < t .at .unsolved) (left : t .at .rounds < budget) where
       abbrev h : State
       h = t .at
 
@@ -217,7 +217,7 @@ module _ {M : Type 1} (𝓤 : URA M) (H : Heap 𝓤) (A : Atoms 𝓤) (W : Given
       Done r zs′ = RoundDone (owners .now) (priorities .now) (offsets .now) (targets .now) s (h .current .0)
           (h .unsolved) (h .rounds) (r .current .0) (r .unsolved) (r .rounds) zs zs′
 
-      next : (r : State) (zs′ : List ℕ) → Done r zs′ → length zs′ ≡ length zs → Is R r (mach r ∷ []) → Next t
+      next : (r : State) (zs′ : List ℕ) → Done r zs′ → length zs′ ≡ length zs → Is R r (mach r ∷ []) → NextState t
       next r zs′ d e is =
           record {
             turn =
@@ -305,7 +305,7 @@ module _ {M : Type 1} (𝓤 : URA M) (H : Heap 𝓤) (A : Atoms 𝓤) (W : Given
           show ! (λ (c : Call). mean 𝓤 H A (Asked c)) (record { ν = ν; δ = δ; ν′ = ν′; δ′ = δ′ }) $
           by ! (hands (record { ν = ν; δ = δ; ν′ = ν′; δ′ = δ′ }))))))
 
-      abbrev Back : Val → Next t → SProp 𝓤
+      abbrev Back : Val → NextState t → SProp 𝓤
       Back w n = guard 𝓤 (w ≡ vunit) (mean 𝓤 H A (Cell (n .turn .at) ⊛ Lendable (n .turn .list)))
 
       -- what `step` leaves: the last state, and the last list of the work area
@@ -351,7 +351,7 @@ module _ {M : Type 1} (𝓤 : URA M) (H : Heap 𝓤) (A : Atoms 𝓤) (W : Given
     abbrev Post : Val → SProp 𝓤
     Post = walkOf 𝓤 H A solve.ended stayed (solve.clauses 𝓤 H A at-mem run) .post ((κs, qs, tt, a, vals κs a), tt)
 
-    exits : (t : Turn) → (0 < t .at .unsolved → t .at .rounds ≡ budget)
+    exits : (t : LoopTurn) → (0 < t .at .unsolved → t .at .rounds ≡ budget)
         → ent 𝓤 (⋆ 𝓤 H A (Lendable (t .list) ∷ [])) (Post (mach (t .at)))
     exits t over =
         qed W (Work (t .list) ∷ Token ∷ Tokens ∷ Lent ∷ []) ∵
@@ -395,17 +395,17 @@ module _ {M : Type 1} (𝓤 : URA M) (H : Heap 𝓤) (A : Atoms 𝓤) (W : Given
         Locals r h vs zs = cells (code.function .locals) p (r ∷ full args ++ (held (mach h) ∷ vs)) (Lendable zs ∷ [])
 
         -- the invariant; the rounds that the budget leaves fall
-        abbrev I : Turn → List (Item 𝓤)
+        abbrev I : LoopTurn → List (Item 𝓤)
         I t = Locals empty (t .at) [] (t .list)
 
-        abbrev ≺ : Turn → Turn → Type 0
+        abbrev ≺ : LoopTurn → LoopTurn → Type 0
         ≺ t t′ = μ t < μ t′
 
         -- when the loop is left, the rest of the body runs
         abbrev Left : Out → SProp 𝓤
         Left = afterBlock 𝓤 H (afterSeq 𝓤 H (Wp 𝓤 H C Λ En t-3 (atReturn 𝓤 H En Post)) (atReturn 𝓤 H En Post))
 
-        turns : (t : Turn) → ent 𝓤 (⋆ 𝓤 H A (I t)) (Wp 𝓤 H C Λ En turn-1 (afterTurn 𝓤 H (Below 𝓤 H A ≺ I t) Left))
+        turns : (t : LoopTurn) → ent 𝓤 (⋆ 𝓤 H A (I t)) (Wp 𝓤 H C Λ En turn-1 (afterTurn 𝓤 H (Below 𝓤 H A ≺ I t) Left))
         unfolding afterTurn
         turns t =
             qed W (I t) ∵ exec ! C Λ En turn-1 (anyQ (afterTurn 𝓤 H (Below 𝓤 H A ≺ I t) Left)) $
@@ -438,7 +438,7 @@ module _ {M : Type 1} (𝓤 : URA M) (H : Heap 𝓤) (A : Atoms 𝓤) (W : Given
             calls-at-last ! fm (Thin 𝓤 H A at-mem run) known (to l₉ t more′ left c) (arg ! 6 refl & arg ! 31 refl &
             arg ! 29 refl & arg ! 27 refl & arg ! 25 refl & arg ! 21 refl & arg ! 2 refl & no-more !) (λ w.
             -- the state and the work area are back; what the turn has computed is forgotten
-            use2 W (later (some (λ (n : Next t). given (w ≡ vunit)
+            use2 W (later (some (λ (n : NextState t). given (w ≡ vunit)
             (Cell l₉ t more′ left (n .turn .at) ⊛ Lendable (n .turn .list))))) (backs l₉ t more′ left c w) $
             await ! tt $ pick ! (λ n. learn ! (λ u. split ! $ land-last ! (from ! (stop !))
             (init ! 8 refl (subst (λ (y : Val). Holds (hasTy tyUnit y) × WT y) (sym u) (tt, tt))) $
@@ -454,10 +454,10 @@ module _ {M : Type 1} (𝓤 : URA M) (H : Heap 𝓤) (A : Atoms 𝓤) (W : Given
             by ! (exits t (λ more. absurd (none-left t none more))))
 
     abbrev Start : Type 0
-    Start = Reached (owners .now) (priorities .now) (offsets .now) (targets .now) s (start .current .0)
+    Start = RoundsReached (owners .now) (priorities .now) (offsets .now) (targets .now) s (start .current .0)
         (start .unsolved) (start .rounds) (work .now) × (start .rounds ≤ budget)
 
-    starts : Start → Turn
+    starts : Start → LoopTurn
     starts x = record {
       at = start;
       list = work .now;

@@ -11,7 +11,7 @@ use Rattle.accepted.specs.Tables.{accepted-sound}
 use Rattle.parity_game.specs.Said.{said}
 use Rattle.parity_game.proofs.Matched.{went-on, refusal-not-zero}
 use Rattle.kept_numbers.specs.Reading.{kept-long, kept-small}
-use Rattle.quasi_polynomial.specs.Checks.{accepted-checks, numbered-checks, Passed, checks-passed}
+use Rattle.quasi_polynomial.specs.Checks.{accepted-checks, numbered-checks, OpinionPassed, checks-passed}
 use Rattle.quasi_polynomial.specs.Running.{run-ready, opinion-refused, opinion-answered, opinion-cleared}
 use Rattle.quasi_polynomial.proofs.door.solve_quasi_polynomial.Statement.{statement}
 use Rattle.quasi_polynomial.proofs.door.solve_quasi_polynomial.Tie as tie
@@ -51,7 +51,7 @@ no-refusal d =
 passed :
     (d : tie.Else1) →
     let g = start d in
-    Passed (tables g) (length (g .args .even .now)) (length (g .args .odd .now)) (length (g .args .work .now))
+    OpinionPassed (tables g) (length (g .args .even .now)) (length (g .args .odd .now)) (length (g .args .work .now))
 passed d =
     let g = start d in
     checks-passed (tables g) (length (g .args .even .now)) (length (g .args .odd .now)) (length (g .args .work .now))

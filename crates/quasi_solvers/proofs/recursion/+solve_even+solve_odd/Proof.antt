@@ -11,8 +11,8 @@ use Rattle.rules.specs.Game.{Even, Odd, opponent, parity, playerOf}
 use Rattle.rules.specs.Tables.{Tables, gameOf, vertices, words, tablesOf}
 use Rattle.theory.specs.Run.{Top}
 use Rattle.quasi_level.specs.Level.{onLevel, Held}
-use Rattle.quasi_solvers.specs.Calling.{Called}
-use Rattle.quasi_solvers.specs.Passing.{Going, toGo, called-held, called-searched, called-gives-up}
+use Rattle.quasi_solvers.specs.Calling.{OpinionCalled}
+use Rattle.quasi_solvers.specs.Passing.{PassesGoing, toGo, called-held, called-searched, called-gives-up}
 use Rattle.quasi_solvers.specs.Passing.{called-top, top-lower, called-high, parity-even, parity-odd}
 use Rattle.quasi_solvers.specs.Passing.{turned-less, turned-called, turned-solved}
 use Rattle.quasi_solvers.specs.Passing.{going-first, going-ready, going-called}
@@ -94,7 +94,7 @@ even-claims t = (
 
 abbrev even-Inv : solve-even-lts.InvT-loop
 even-Inv owners priorities offsets targets work₀ base height even odd s size e p up o half passes₀ work passes =
-    Going (tablesOf owners priorities offsets targets) Even base e o half work₀ passes work
+    PassesGoing (tablesOf owners priorities offsets targets) Even base e o half work₀ passes work
 
 abbrev even-μ : solve-even-lts.MeasureT-loop
 even-μ owners priorities offsets targets work₀ base height even odd s size e p up o half passes₀ work passes =
@@ -147,7 +147,7 @@ module _ (t : ℕ) where
   even-called :
       (c : even-At solve-even-lts.After-size-at) →
       let g = even-start c in
-      Called (even-tables g) Even (g .args .base) (g .args .height) (g .args .work .now)
+      OpinionCalled (even-tables g) Even (g .args .base) (g .args .height) (g .args .work .now)
   even-called c = even-start c .pre .1
 
   -- the words of a set
@@ -193,7 +193,7 @@ module _ (t : ℕ) where
 
   even-size-at-requires : even-At solve-even-lts.Need-size-at-requires
   even-size-at-requires c κs =
-      called-held (c .before .before .before .before .before .before .before .pre .1) (c .before .set-words .ensures)
+      let start = c .before .before .before .before .before .before .before in called-held (start .pre .1) (c .before .set-words .ensures)
 
   even-least-requires : even-At solve-even-lts.Need-least-requires
   even-least-requires c κs = search needs
@@ -402,7 +402,7 @@ odd-claims t = (
 
 abbrev odd-Inv : solve-odd-lts.InvT-loop
 odd-Inv owners priorities offsets targets work₀ base height even odd s size o p up e half passes₀ work passes =
-    Going (tablesOf owners priorities offsets targets) Odd base o e half work₀ passes work
+    PassesGoing (tablesOf owners priorities offsets targets) Odd base o e half work₀ passes work
 
 abbrev odd-μ : solve-odd-lts.MeasureT-loop
 odd-μ owners priorities offsets targets work₀ base height even odd s size o p up e half passes₀ work passes =
@@ -455,7 +455,7 @@ module _ (t : ℕ) where
   odd-called :
       (c : odd-At solve-odd-lts.After-size-at) →
       let g = odd-start c in
-      Called (odd-tables g) Odd (g .args .base) (g .args .height) (g .args .work .now)
+      OpinionCalled (odd-tables g) Odd (g .args .base) (g .args .height) (g .args .work .now)
   odd-called c = odd-start c .pre .1
 
   -- the words of a set
@@ -501,7 +501,7 @@ module _ (t : ℕ) where
 
   odd-size-at-requires : odd-At solve-odd-lts.Need-size-at-requires
   odd-size-at-requires c κs =
-      called-held (c .before .before .before .before .before .before .before .pre .1) (c .before .set-words .ensures)
+      let start = c .before .before .before .before .before .before .before in called-held (start .pre .1) (c .before .set-words .ensures)
 
   odd-least-requires : odd-At solve-odd-lts.Need-least-requires
   odd-least-requires c κs = search needs

@@ -128,6 +128,7 @@ returns-2 c =
     let test = did .before .before .before .before .before .before .before .before .before .before in
     let at = start (test .before) in
     let l = did .attractor .last in
+    let player = did .before .before .before .before .before .before .before .before .before in
     let after : LentResult =
     record {
       result = l .1 .1 .1 .1 .1 .1 .1 .0;
@@ -136,7 +137,7 @@ returns-2 c =
       work = l .1 .1 .1 .1 .1 .1 .1 .1 .1 .1 .0;
     } in
     done-past (game at) (lent at) after (Does at after) (did .attractor .result) (ok test)
-    (attracts-as (did .before .before .before .before .before .before .before .before .before .from-index .ensures) refl (did .attractor .ensures))
+    (attracts-as (player .from-index .ensures) refl (did .attractor .ensures))
     (c .tell2 .ensures)
 
 pub reckonbough-attractor-spec : {M : Type 1} → statement M

@@ -20,7 +20,9 @@ same-length-2 : tie.Need-same-length-2
 same-length-2 c = search needs
 
 returns : tie.Need-returns
-returns c = subst (Edits _ _ _) (c .tell .ensures) (c .before .before .before .before .before .before .before .set-priority .ensures)
+returns c =
+    let edited = c .before .before .before .before .before .before .before in
+    subst (Edits _ _ _) (c .tell .ensures) (edited .set-priority .ensures)
 
 pub reckonbough-set-priority-spec : {M : Type 1} → statement M
 reckonbough-set-priority-spec =

@@ -10,7 +10,7 @@ use Rattle.rules.specs.Tables.{Tables, tablesOf}
 use Rattle.accepted.specs.Tables.{accepted-sound}
 use Rattle.parity_game.proofs.Matched.{went-on, refusal-not-zero}
 use Rattle.area.specs.Lent.{work-cleared}
-use Rattle.show_loop.specs.Checks.{lentBy, past-tables, numbered-checks, Passed, checks-passed}
+use Rattle.show_loop.specs.Checks.{lentBy, past-tables, numbered-checks, LoopPassed, checks-passed}
 use Rattle.show_loop.specs.Running.{lentOf, shows-refused, run-ready, told-none, told-run, told-few}
 use Rattle.show_loop.proofs.door.show_loop.Statement.{statement}
 use Rattle.show_loop.proofs.door.show_loop.Tie as tie
@@ -56,7 +56,7 @@ no-refusal d =
 passed :
     (d : tie.Else1) →
     let g = start d in
-    Passed (tables g) (g .args .vertex) (length (g .args .path .now)) (length (g .args .cycle .now)) (length (g .args .work .now))
+    LoopPassed (tables g) (g .args .vertex) (length (g .args .path .now)) (length (g .args .cycle .now)) (length (g .args .work .now))
 passed d =
     let g = start d in
     checks-passed (tables g) (g .args .vertex) (length (g .args .path .now)) (length (g .args .cycle .now))

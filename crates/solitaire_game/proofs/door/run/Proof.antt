@@ -166,7 +166,9 @@ copy-from-requires c κs =
     (d .attract .last .1 .1 .1 .1 .0) (attracted d)
 
 clear-requires : tie.Need-clear-requires
-clear-requires c κs = omega (arith, room (c .before .before .before .before .before .before .before .before .before))
+clear-requires c κs =
+    let d = c .before .before .before .before .before .before .before .before .before in
+    omega (arith, room d)
 
 same-length : tie.Need-same-length
 same-length c = search needs
@@ -176,6 +178,7 @@ same-length-2 c = c .before .before .clear .ensures .long ∙ long (drawn c)
 
 returns : tie.Need-returns
 returns c =
+    let copied = c .before .before .before .before .before .before .copy-from in
     let d = drawn c in
     let p = placed d in
     let m = marked p in
@@ -185,8 +188,8 @@ returns c =
           (row-of m .behind .result) (row-of m .behind .ensures)
           (m .mark-good .last .1 .1 .1 .1 .1 .1 .0) (m .mark-good .ensures) (p .place .last .0) (p .place .ensures) (d .attract .result)
           (d .attract .last .1 .1 .1 .1 .0) (attracted d)
-          (c .before .before .before .before .before .before .copy-from .last .0)
-          (c .before .before .before .before .before .before .copy-from .ensures)
+          (copied .last .0)
+          (copied .ensures)
           (λ i. c .before .before .before .before .slice-known6 .given i .fits),
     )
 

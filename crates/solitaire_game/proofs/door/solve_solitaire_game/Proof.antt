@@ -10,7 +10,7 @@ use Rattle.rules.specs.Tables.{Tables, tablesOf}
 use Rattle.accepted.specs.Tables.{accepted-sound}
 use Rattle.parity_game.proofs.Matched.{went-on, refusal-not-zero}
 use Rattle.area.specs.Lent.{work-cleared}
-use Rattle.solitaire_game.specs.Checks.{lentBy, past-tables, numbered-checks, Passed, checks-passed}
+use Rattle.solitaire_game.specs.Checks.{lentBy, past-tables, numbered-checks, SolitairePassed, checks-passed}
 use Rattle.solitaire_game.specs.Running.{run-ready, solves-refused, solves-answered}
 use Rattle.solitaire_game.proofs.door.solve_solitaire_game.Statement.{statement}
 use Rattle.solitaire_game.proofs.door.solve_solitaire_game.Tie as tie
@@ -43,7 +43,7 @@ no-refusal d =
     (d .before .number .ensures) (numbered-checks (tables g) (lent g))
     (gave g (d .before .before .check-lent .ensures))
 
-passed : (d : tie.Else1) → let g = start d in Passed (tables g) (length (g .args .set .now)) (length (g .args .work .now))
+passed : (d : tie.Else1) → let g = start d in SolitairePassed (tables g) (length (g .args .set .now)) (length (g .args .work .now))
 passed d =
     let g = start d in
     checks-passed (tables g) (length (g .args .set .now)) (length (g .args .work .now)) (no-refusal d)

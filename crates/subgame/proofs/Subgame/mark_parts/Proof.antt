@@ -42,8 +42,8 @@ use denote.Triple.Walked.{says, needs, Stays, stay-none, stay-none-slice, gave-s
 use denote.Exit.{yes}
 use Rattle.parity_game.proofs.player.Priority as Pr
 use Rattle.parity_game.proofs.player.Priority.Laws as Pr′
-use Rattle.depth_first.specs.Graph.{Graph, graph}
-use Rattle.parts.specs.Whole.{Markable, Marked}
+use Rattle.search_links.specs.Graph.{Graph, graph}
+use Rattle.parts.specs.Whole.{PartsMarkable, PartsMarked}
 use Rattle.parts.proofs.mark_within as within
 use Rattle.parts.proofs.mark_within.Symbol as within-def
 use Rattle.parts.proofs.mark_within.Symbol.{name as #within}
@@ -117,7 +117,7 @@ module _ {M : Type 1} (𝓤 : URA M) (H : Heap 𝓤) (A : Atoms 𝓤) (W : Given
     G = graph (priorities .now) (offsets .now) (d .targets .now) (entries .now) (d .top .0)
 
     abbrev Ready : Type 0
-    Ready = Markable G (work .now) row × (d .top .0 < 256)
+    Ready = PartsMarkable G (work .now) row × (d .top .0 < 256)
 
     abbrev top-is : Is Prio (d .top) (pv (d .top) ∷ [])
     top-is = LL.owed (D α) (L α) d _ (are .0) .1 .0
@@ -192,37 +192,37 @@ module _ {M : Type 1} (𝓤 : URA M) (H : Heap 𝓤) (A : Atoms 𝓤) (W : Given
         use1 W (raw (Within 𝓤 H A at-mem run .pre to)) (knowing 𝓤 H A W _ ready) $ done !
 
     -- what the callee gives: the last list of the work area
-    record Outcome (w : Val) : Type 0 where
+    record MethodOutcome (w : Val) : Type 0 where
       list : List ℕ
-      met : Marked G row (work .now) list
+      met : PartsMarked G row (work .now) list
       long : length list ≡ length (work .now)
       is-unit : w ≡ vunit
 
-    abbrev Got : (w : Val) → Outcome w → Item 𝓤
+    abbrev Got : (w : Val) → MethodOutcome w → Item 𝓤
     Got w g = Toks ⊛ ‵ (finally u64 (work .name) (g .list))
 
     gets : (w : Val) → ent 𝓤 (Within 𝓤 H A at-mem run .post to w)
-        (H .⇛ (ex 𝓤 (λ (g : Outcome w). mean 𝓤 H A (Got w g))))
+        (H .⇛ (ex 𝓤 (λ (g : MethodOutcome w). mean 𝓤 H A (Got w g))))
     gets w =
         qed W (raw (Within 𝓤 H A at-mem run .post to w) ∷ []) ∵ updating ! $
         use1 W (later (some (λ (r : Unit {0}). (Toks′ ⊛ ‵ (unit .own r (w ∷ []))) ⊛
         some (λ (zs : Unit {0} × (Unit {0} × (Unit {0} × (Unit {0} × (Unit {0} × (List ℕ × (Unit {0} × Unit {0}))))))).
         ‵ (lasts within.ended (to .0 .0) (to .0 .3) zs) ⊛
-        raw (fact 𝓤 (Marked G row (work .now) (zs .1 .1 .1 .1 .1 .0))))))) (id⊢ 𝓤 _) $
+        raw (fact 𝓤 (PartsMarked G row (work .now) (zs .1 .1 .1 .1 .1 .0))))))) (id⊢ 𝓤 _) $
         await ! tt $ pick ! (λ r. split ! $ split ! $ use1 W Toks back-turn $ move ! (2 ∷ []) $ pick ! (λ zs. split ! $
-        move ! (1 ∷ []) $ heard ! (Marked G row (work .now) (zs .1 .1 .1 .1 .1 .0)) (λ e.
+        move ! (1 ∷ []) $ heard ! (PartsMarked G row (work .now) (zs .1 .1 .1 .1 .1 .0)) (λ e.
         fsplit ! $ drop ! $ fsplit ! $ drop ! $ fsplit ! $ drop ! $ fsplit ! $ drop ! $ fsplit ! $ drop ! $ fsplit ! $
         fsplit ! $
         -- [the last list; its length; true; the tokens; the result]
         move ! (1 ∷ []) $ feqL ! (λ l. move ! (3 ∷ []) $ feqL ! (λ u. at-once ! $
-        show ! (λ (g : Outcome w). mean 𝓤 H A (Got w g))
+        show ! (λ (g : MethodOutcome w). mean 𝓤 H A (Got w g))
         (record { list = zs .1 .1 .1 .1 .1 .0; met = e; long = l; is-unit = ap only u }) $
         keep ! (2 ∷ 0 ∷ []) $ done !)))))
 
     abbrev Post : Val → SProp 𝓤
     Post = walkOf 𝓤 H A mark.ended stayed (mark.clauses 𝓤 H A at-mem run) .post ((κs, qs, tt, a, vals κs a), tt)
 
-    exits : (w : Val) (g : Outcome w) → ent 𝓤
+    exits : (w : Val) (g : MethodOutcome w) → ent 𝓤
         (⋆ 𝓤 H A (Toks ∷ ‵ (finally u64 (work .name) (g .list)) ∷ Lent ∷ [])) (Post vunit)
     exits w g =
         qed W (Toks ∷ ‵ (finally u64 (work .name) (g .list)) ∷ Lent ∷ []) ∵

@@ -1,6 +1,6 @@
 -- `mark_used` meets its contract: where no vertex has the priority there is nothing to mark.
 use native.Mathlib.Omega.{arith}
-use Rattle.depth_first.specs.Graph.{graph}
+use Rattle.search_links.specs.Graph.{graph}
 use Rattle.subgame.specs.Parity.{kept-long, kept-unused, marked-unused}
 use borrow.Author.Needs.{needs}
 use Rattle.subgame.proofs.parity.mark_used.Statement.{statement}

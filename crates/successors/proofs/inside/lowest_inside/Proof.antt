@@ -11,10 +11,10 @@ use Rattle.successors.proofs.inside.lowest_inside.Statement.{statement}
 use Rattle.successors.proofs.inside.lowest_inside.Tie as tie
 
 abbrev Inv-loop : tie.InvT-loop
-Inv-loop n offsets targets v set lowest₀ e₀ e-end lowest e = LowestTo n offsets targets v (setOf set) e lowest
+Inv-loop n offsets targets set v lowest₀ e₀ e-end lowest e = LowestTo n offsets targets v (setOf set) e lowest
 
 abbrev μ-loop : tie.MeasureT-loop
-μ-loop n offsets targets v set lowest₀ e₀ e-end lowest e = e-end - e
+μ-loop n offsets targets set v lowest₀ e₀ e-end lowest e = e-end - e
 
 -- where the function begins
 abbrev start-of : tie.At-loop Inv-loop μ-loop → tie.Start Inv-loop μ-loop
@@ -71,7 +71,7 @@ loop-again c =
     let g = start-of l in
     let a = g .args in
     let more = c .before .before .loop-test .taken in
-    let To = LowestTo (a .n) (a .offsets .now) (a .targets .now) (a .v) (setOf (a .set .now)) (l .loop .e + 1) in
+    let To = LowestTo (a .n) (a .offsets .now) (a .targets .now) (a .vertex .0) (setOf (a .set .now)) (l .loop .e + 1) in
     ⊎-elim
     (λ y.
     subst To (sym (y .3))

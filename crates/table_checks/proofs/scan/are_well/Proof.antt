@@ -36,7 +36,8 @@ shared-slice-read-if4 c = search needs
 
 cast-if4 : tie.Need-cast-if4
 cast-if4 c =
-    let args = start-of (c .before .before .before .before .before .before) .args in
+    let first = c .before .before .before .before .before .before in
+    let args = start-of first .args in
     omega (arith, c .shared-slice-known6 .given (length (args .owners .now)))
 
 returns-4 : tie.Need-returns-4

@@ -1,25 +1,28 @@
 -- `pass_over`: what is left is kept while four words at a time have no bit.
 use Prim.Native.Nat.{_-_, _≤_}
 use mathlib.Core.Path.{_≡_, refl, _∙_}
-use lib.ListN.{length}
 use Rattle.walk.specs.Steps.{left-four}
-use Rattle.walk.specs.Walk.{left}
+use Rattle.walk.specs.Walk.{wordsFrom, left}
 use borrow.Author.Needs.{needs}
 use Rattle.walk.proofs.members.pass_over.Statement.{statement}
 use Rattle.walk.proofs.members.pass_over.Tie as tie
 
 abbrev Inv-loop : tie.InvT-loop
-Inv-loop set from at₀ at =
-    (left set (record { at = from; word = 0 }) ≡ left set (record { at = at; word = 0 })) × (at ≤ 64)
+Inv-loop work base s from at₀ at =
+    let xs = wordsFrom s base work in
+    (left xs (record { at = from; word = 0 }) ≡ left xs (record { at = at; word = 0 })) × (at ≤ 64)
 
 abbrev μ-loop : tie.MeasureT-loop
-μ-loop set from at₀ at = length set - at
+μ-loop work base s from at₀ at = s - at
 
 loop-holds : tie.Need-loop-holds Inv-loop μ-loop
 loop-holds c = (refl, search needs)
 
 add-loop : tie.Need-add-loop Inv-loop μ-loop
 add-loop c = search needs
+
+add-i : tie.Need-add-i Inv-loop μ-loop
+add-i c = search needs
 
 add-if1 : tie.Need-add-if1 Inv-loop μ-loop
 add-if1 c = search needs
@@ -65,9 +68,14 @@ loop-less c = search needs
 
 loop-again : tie.Need-loop-again Inv-loop μ-loop
 loop-again c =
-    let xs = c .before .before .before .before .before .before .before .args .set .now in
-    let l = c .before .before .before .before .before .before .loop in
-    (l .inv .0 ∙ left-four xs (l .at) (c .before .before .before .before .before .loop-test .taken) (c .if1 .left), search needs)
+    let l = c .before .before .before .before .before .before in
+    let g = l .before in
+    let a = g .args in (
+      l .loop .inv .0 ∙
+          left-four (a .s) (a .base) (a .work .now) (g .pre .0) (l .loop .at)
+          (c .before .before .before .before .before .loop-test .taken) (c .if1 .left),
+      search needs,
+    )
 
 returns : tie.Need-returns Inv-loop μ-loop
 returns c = search needs
@@ -83,6 +91,7 @@ pass-over-spec =
     μ-loop
     loop-holds
     add-loop
+    add-i
     add-if1
     mul-if1
     shared-slice-read-if1

@@ -11,7 +11,7 @@ use Rattle.area.specs.Area.{entries, free}
 use Rattle.area.specs.Lent.{words-few}
 use Rattle.zielonka_level.specs.Level.{Done}
 use Rattle.zielonka.specs.Solving.{run-preparable, run-sortable, run-called, run-over-budget, run-calls, run-found}
-use Rattle.solver.specs.Outputs.{Found, found-writable, found-finished}
+use Rattle.solver.specs.Outputs.{WinnersFound, found-writable, found-finished}
 use Rattle.sets.specs.Laws.{cleared-all}
 use borrow.Author.Needs.{needs}
 use Rattle.zielonka.proofs.door.run.Statement.{statement}
@@ -59,7 +59,7 @@ few g =
     (f .few-vertices, f .few-edges, words-few (length (g .args .owners .now)) (f .few-vertices))
 
 -- the recursion has ended: where each call before it stands, and the work area then
-abbrev sorted : tie.After-zielonka-rec → tie.After-sort
+abbrev sorted : tie.After-zielonka-rec → tie.After-make
 sorted r = r .before .before .before .before
 
 abbrev prepared : tie.After-zielonka-rec → tie.After-prepare
@@ -78,7 +78,7 @@ abbrev left : tie.After-zielonka-rec → List ℕ
 left r = r .zielonka-rec .last .1 .1 .1 .1 .0
 
 kept-long : (r : tie.After-zielonka-rec) → length (left r) ≡ length (start r .args .work .now)
-kept-long r = r .zielonka-rec .kept .1 .1 .1 .1 .0 ∙ sorted r .sort .ensures .long ∙ prepared r .prepare .ensures .long
+kept-long r = r .zielonka-rec .kept .1 .1 .1 .1 .0 ∙ sorted r .make .ensures .long ∙ prepared r .prepare .ensures .long
 
 -- within the budget it has found what is to be written
 abbrev ended : tie.Else1 → tie.After-zielonka-rec
@@ -88,14 +88,14 @@ done :
     (d : tie.Else1) →
     let r = ended d in
     let g = start r in
-    Done (tables g) (base (placed r)) 0 (g .args .budget) (r .zielonka-rec .result) (sorted r .sort .last .1 .1 .0) (left r)
+    Done (tables g) (base (placed r)) 0 (g .args .budget) (r .zielonka-rec .result) (sorted r .make .last .1 .1 .0) (left r)
 done d = ended d .zielonka-rec .ensures .done (omega (arith, d .if1 .left))
 
 found :
     (d : tie.Else1) →
     let g = start (ended d) in
     let s = sized (ended d) .set-words .result in
-    Found (tables g) (zielonka (gameOf (tables g)) .won) (zielonka (gameOf (tables g)) .entries) s
+    WinnersFound (tables g) (zielonka (gameOf (tables g)) .won) (zielonka (gameOf (tables g)) .entries) s
     (base (placed (ended d)) + 2 * s)
     (left (ended d))
 found d =
@@ -103,7 +103,7 @@ found d =
     let g = start r in
     run-found (tables g) (g .pre .0 .accepted) (g .args .work .now) (g .pre .0 .room) (here (placed r)) (first (placed r))
     (prepared r .prepare .ensures)
-    (sorted r .sort .ensures)
+    (sorted r .make .ensures)
     (done d)
     (sized r .set-words .ensures)
 
@@ -137,8 +137,8 @@ prepare-requires c κs =
     run-preparable (tables g) (g .pre .0 .accepted) (g .args .work .now) (g .pre .0 .room) (here b) (first b)
     (z .set-words .ensures)
 
-sort-requires : tie.Need-sort-requires
-sort-requires c κs =
+make-requires : tie.Need-make-requires
+make-requires c κs =
     let d = c .before .before .before in
     let b = d .before .before in
     let z = sized-at b in
@@ -155,7 +155,7 @@ zielonka-rec-requires c κs =
     let z = sized-at b in
     let g = began z in
     run-called (tables g) (g .pre .0 .accepted) (g .args .work .now) (g .pre .0 .room) (here b) (first b) (d .prepare .ensures)
-    (e .sort .ensures)
+    (e .make .ensures)
     (g .pre .1)
 
 clear-requires : tie.Need-clear-requires
@@ -173,7 +173,7 @@ returns c =
         over =
             run-over-budget (tables g) (g .pre .0 .accepted) (g .args .work .now) (g .pre .0 .room) (here (placed r))
             (first (placed r))
-            (prepared r .prepare .ensures) (sorted r .sort .ensures)
+            (prepared r .prepare .ensures) (sorted r .make .ensures)
             (r .zielonka-rec .ensures .over (c .before .before .before .before .if1 .taken));
         same = refl;
       },
@@ -215,7 +215,7 @@ returns-2 c =
       cleared-all (g .args .work .now) (left r) (kept-long r) (c .before .before .clear2 .ensures),
       found-finished (found d) (g .pre .0 .strategy-size) (entries-at (placed r)) (written .write-out .ensures)
           (run-calls (tables g) (g .pre .0 .accepted) (g .args .work .now) (g .pre .0 .room) (here (placed r)) (first (placed r))
-          (prepared r .prepare .ensures) (sorted r .sort .ensures)
+          (prepared r .prepare .ensures) (sorted r .make .ensures)
           (done d))
           (done d .within),
     )
@@ -229,7 +229,7 @@ run-spec =
     free-requires
     behind-sets-requires
     prepare-requires
-    sort-requires
+    make-requires
     zielonka-rec-requires
     clear-requires
     same-length

@@ -44,7 +44,7 @@ use denote.Triple.Table.{entered, cited}
 use denote.Triple.Walked.{says, needs, Stays, stay-ref, stay-none, stay-none-slice, gave-slice, walkOf, goes-ref, goes-none, goes-none-slice, goes-gave-slice, ends-at, walked, walk-meets}
 use denote.Exit.{yes}
 use Rattle.promotion_rounds.specs.declared.round.State.{State}
-use Rattle.promotion_rounds.specs.Rounds.{RoundReady, RoundDone}
+use Rattle.promotion_rounds.specs.RoundPromise.{RoundReady, RoundDone}
 use Rattle.promotion_rounds.proofs.Stored.{R, mach, typed}
 use Rattle.promotion_rounds.proofs.Tables.{sv, O₁, O₂, O₃, O₄, Tables, copies}
 use Rattle.by_hand.proofs.Walk.{_▸_, full, span, begins, leaves, apart, knowing, arg, _&_, sets}
@@ -178,16 +178,16 @@ module _ {M : Type 1} (𝓤 : URA M) (H : Heap 𝓤) (A : Atoms 𝓤) (W : Given
         use1 W (raw (Round 𝓤 H A at-mem run .pre to)) (knowing 𝓤 H A W _ ready) $ done !
 
     -- what `round` gives: the next state, and the last list of the work area
-    record Outcome : Type 0 where
+    record RoundOutcome : Type 0 where
       next : State
       list : List ℕ
       met : Done next list
       long : length list ≡ length (work .now)
 
-    abbrev Got : Val → Outcome → Item 𝓤
+    abbrev Got : Val → RoundOutcome → Item 𝓤
     Got w g = ‵ (R .own (g .next) (w ∷ [])) ⊛ Tokens ⊛ ‵ (finally u64 (work .name) (g .list))
 
-    gets : (w : Val) → ent 𝓤 (Round 𝓤 H A at-mem run .post to w) (H .⇛ (ex 𝓤 (λ (g : Outcome). mean 𝓤 H A (Got w g))))
+    gets : (w : Val) → ent 𝓤 (Round 𝓤 H A at-mem run .post to w) (H .⇛ (ex 𝓤 (λ (g : RoundOutcome). mean 𝓤 H A (Got w g))))
     gets w =
         qed W (raw (Round 𝓤 H A at-mem run .post to w) ∷ []) ∵ updating ! $
         use1 W (later (some (λ (r : State). (Tokens ⊛ ‵ (R .own r (w ∷ []))) ⊛
@@ -199,14 +199,14 @@ module _ {M : Type 1} (𝓤 : URA M) (H : Heap 𝓤) (A : Atoms 𝓤) (W : Given
         fsplit ! $
         -- [the last list; its length; true; the tokens; the next state]
         move ! (1 ∷ []) $ feqL ! (λ l. at-once ! $
-        show ! (λ (g : Outcome). mean 𝓤 H A (Got w g))
+        show ! (λ (g : RoundOutcome). mean 𝓤 H A (Got w g))
         (record { next = r; list = zs .1 .1 .1 .1 .1 .0; met = e; long = l }) $
         keep ! (3 ∷ 2 ∷ 0 ∷ []) $ done !))))
 
     abbrev Post : Val → SProp 𝓤
     Post = walkOf 𝓤 H A step.ended stayed (step.clauses 𝓤 H A at-mem run) .post ((κs, qs, tt, a, vals κs a), tt)
 
-    exits : (g : Outcome) → ent 𝓤
+    exits : (g : RoundOutcome) → ent 𝓤
         (⋆ 𝓤 H A (Obs (g .next) ∷ Bor ∷ Token ∷ Tokens ∷ ‵ (finally u64 (work .name) (g .list)) ∷ Lent ∷ []))
         (Post vunit)
     exits g =

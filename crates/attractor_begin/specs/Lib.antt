@@ -1,0 +1,2 @@
+-- The layers at first.
+pub mod LayersBegin

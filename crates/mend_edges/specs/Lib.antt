@@ -1,0 +1,2 @@
+-- The new edges, written one after another.
+pub mod Edges

@@ -1,0 +1,4 @@
+// Whether R, the region drawn in, is open.
+mod open;
+
+pub use open::is_open;

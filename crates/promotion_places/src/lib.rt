@@ -1,0 +1,7 @@
+// Where R, the number of the current level and the levels of priority promotion stand in the work area, and what nested
+// sets there mean for the regions.
+mod places;
+
+pub use places::depth_at;
+pub use places::held_at;
+pub use places::levels_at;

@@ -1,0 +1,541 @@
+-- One round over the work area as the code makes it: what each call finds, and that the state after is the rules' round.
+use mathlib.Core.Bool.{Bool, true, false, _&&_}
+use mathlib.Core.List.{List}
+use mathlib.Core.Logic.{inr}
+use mathlib.Core.Path.{_≡_, refl, sym, ap, ap₂, subst, subst₂, fun-ext, _∙_}
+use Prim.Native.Nat.{ℕ, suc, _+_, _-_, _*_, _%_, _≤_, _<_}
+use native.Mathlib.Omega.{arith}
+use lib.Dec.{eqb}
+use lib.ListN.{length, getD, take, drop, length-take}
+use Rattle.rules.specs.Counting.{count}
+use Rattle.rules.specs.Game.{Even, Game}
+use Rattle.rules.specs.Tables.{gameOf, words, Accepted, tablesOf}
+use Rattle.rules.specs.Promotion.{Regions, unsolved, regionSet, isOpen, roundOf, afterRounds}
+use Rattle.basics.specs.Basics.{and-left, count-some}
+use Rattle.sets.specs.Size.{size}
+use Rattle.accepted.specs.Tables.{accepted-sound, accepted-few}
+use Rattle.theory.specs.PromotionAccepted.{accepted-invariant}
+use Rattle.theory.specs.PromotionEntries.{mover, remaining, RoundEntries, AttractedEntries, ClosesEntries}
+use Rattle.theory.specs.PromotionInside.{EntriesInside}
+use Rattle.theory.specs.PromotionRounds.{attractedRegion}
+use Rattle.theory.specs.PromotionTable.{attracts-table}
+use Rattle.promotion_heads.specs.Heads.{entry-but-heads}
+use Rattle.area.specs.Area.{entries, free, setAt, wordsAt}
+use Rattle.area.specs.Lent.{words-few}
+use Rattle.area.specs.Sizes.{size-at}
+use Rattle.area.specs.Walking.{lent-part}
+use Rattle.priority_sets.specs.Sorting.{PriorityPlaceable}
+use Rattle.promotion_levels.specs.Layout.{heldAt, wonAt, depthAt, topsAt, levelsAt, levelAt, endAt, deep, depthIn, topIn, levelIn}
+use Rattle.promotion_levels.specs.Layout.{heldIn, regionIn, entryIn, Ready}
+use Rattle.promotion_levels.specs.Nesting.{few-levels, levels-below}
+use Rattle.promotion_levels.specs.Places.{next-level, level-high}
+use Rattle.promotion_levels.specs.Going.{deeper}
+use Rattle.promotion_levels.specs.Kept as kept
+use Rattle.promotion_levels.specs.Descending.{Descends, Descended}
+use Rattle.promotion_region.specs.Query.{QueryReady, Queried}
+use Rattle.promotion_escape.specs.Escapes.{levelFrom, Escapes, Openable, Escapable}
+use Rattle.promotion_open.specs.Opening.{isOpenIn}
+use Rattle.promotion_escape.specs.Highest.{Nested, HighestLevel}
+use Rattle.promotion_moves.specs.Filling.{FillAll, FilledAll}
+use Rattle.promotion_moves.specs.Promotion.{Promotable, PromotedTo, promote-ready}
+use Rattle.promotion_moves.specs.Dominion.{DominionReady, Dominated}
+use Rattle.promotion_rounds.specs.Shown as shown
+use Rattle.promotion_rounds.specs.Shown.{Shows}
+use Rattle.promotion_rounds.specs.RoundPromise.{RoundReady}
+use Rattle.promotion_rounds.specs.Opened as opened
+use Rattle.promotion_rounds.specs.Filled as filled
+use Rattle.promotion_rounds.specs.Promoted as promoted
+use Rattle.promotion_rounds.specs.DominionShown as solved
+
+-- how many vertices are left, by the ones of the first level's words
+module _ {n : ℕ} {priorities offsets targets : List ℕ} {s levels : ℕ} {work : List ℕ}
+    (ready : Ready n priorities offsets targets s work) (levels-is : levels ≡ levelsAt n (length targets) s)
+  where
+    lent-is : take ((levels + s) - levels) (drop levels work) ≡ wordsAt n levels work
+    lent-is = lent-part n s levels work (ready .size)
+
+    -- level 0 stands where the levels begin
+    first-is : levels ≡ levelAt n (length targets) s 0
+    first-is = omega (arith, levels-is)
+
+    first-in : (v : ℕ) → setAt n levels work v ≡ levelIn n (length targets) s work 0 v
+    first-in v = ap (λ (x : ℕ). setAt n x work v) first-is
+
+    pub first-room : levels + s ≤ length work
+    first-room =
+        let high = level-high n (length targets) s 0 (omega (arith, ready .depth)) in omega (arith, ready .room, first-is)
+
+    pub left-few : length (take ((levels + s) - levels) (drop levels work)) ≤ 64
+    left-few =
+        let few = words-few n (ready .edges .few-vertices) in
+        rw lent-is (omega (arith, length-take (words n) (drop levels work)))
+
+    pub left-counted :
+        {many : ℕ} →
+        many ≡ size (take ((levels + s) - levels) (drop levels work)) →
+        many ≡ count n (levelIn n (length targets) s work 0)
+    left-counted is =
+        is ∙
+        ap size lent-is ∙
+        size-at n levels work (λ v i. ready .nests .below v (sym (first-in v) ∙ i)) ∙
+        ap (λ (x : ℕ). count n (setAt n x work)) first-is
+
+-- what a round begins with: R, the levels and the number of the current one as the code has them, room for two levels more, and
+-- entries inside the regions
+pub record RoundBegins (owners priorities offsets targets : List ℕ) (s current held depth levels k : ℕ) (work : List ℕ) : Type 0 where
+  pub held-is : held ≡ heldAt (length owners) (length targets) s
+  pub depth-is : depth ≡ depthAt (length owners) (length targets) s
+  pub levels-is : levels ≡ levelsAt (length owners) (length targets) s
+  pub k-is : k ≡ depthIn (length owners) (length targets) s work
+  pub room : levels + k * s + s + s + s ≤ endAt (length owners) (length targets) s
+  pub entered :
+      let g = gameOf (tablesOf owners priorities offsets targets) in
+      let T = regionIn (length owners) (length targets) s priorities work in
+      EntriesInside g (unsolved g T) T current (entryIn (length owners) (length targets) s work)
+
+module _ {owners priorities offsets targets : List ℕ} {s current left rounds : ℕ} {work : List ℕ}
+    (q : RoundReady owners priorities offsets targets s current left rounds work)
+  where
+    abbrev depth0 : ℕ
+    depth0 = depthIn (length owners) (length targets) s work
+
+    -- while a vertex is unsolved there are fewer levels than vertices
+    room-behind :
+        levelAt (length owners) (length targets) s (suc (suc depth0)) + s ≤ endAt (length owners) (length targets) s
+    room-behind =
+        let ready = q .shows .ready in
+        let (v, l, i) =
+        count-some (length owners) (levelIn (length owners) (length targets) s work 0) (rw (q .shows .left) at (q .unsolved)) in
+        level-high (length owners) (length targets) s (suc (suc depth0))
+        (omega (arith, deeper (length owners) depth0 (levels-below (ready .nests) (ready .proper) v i) (few-levels (ready .nests))))
+
+    pub begins-by :
+        {held depth levels : ℕ} → held ≡ heldAt (length owners) (length targets) s → depth ≡ held + 3 * s →
+        levels ≡ depth + 1 + deep (length owners) →
+        RoundBegins owners priorities offsets targets s current held depth levels (getD work depth 0) work
+    begins-by {held} {depth} {levels} h d l =
+        record {
+          held-is = h;
+          depth-is = depth-is;
+          levels-is = levels-is;
+          k-is = k-is;
+          room =
+              let base : levels + getD work depth 0 * s ≡ levelAt (length owners) (length targets) s depth0 =
+              ap₂ (λ (x y : ℕ). x + y * s) levels-is k-is in
+              let after = next-level (length owners) (length targets) s depth0 in
+              let behind = next-level (length owners) (length targets) s (suc depth0) in
+              omega (arith, room-behind);
+          entered =
+              subst₂
+              (λ (T : ℕ → ℕ) (x : ℕ).
+              EntriesInside (gameOf (tablesOf owners priorities offsets targets)) (unsolved (gameOf (tablesOf owners priorities offsets targets)) T) T
+              x (entryIn (length owners) (length targets) s work))
+              (sym (fun-ext (shown.agrees0 (q .accepted) (q .made) (q .shows))))
+              (sym (q .shows .current))
+              (accepted-invariant (tablesOf owners priorities offsets targets) (q .accepted) (q .entries) .entered);
+        }
+      where
+        levels-is : levels ≡ levelsAt (length owners) (length targets) s
+        levels-is = omega (arith, h, d, l)
+
+        depth-is : depth ≡ depthAt (length owners) (length targets) s
+        depth-is = omega (arith, h, d)
+
+        k-is : getD work depth 0 ≡ depth0
+        k-is = ap (λ (x : ℕ). getD work x 0) depth-is
+
+-- words behind the levels stay where one begins
+descended-rest :
+    {priorities : List ℕ} {m s k p : ℕ} {before after : List ℕ} → k + 2 ≤ deep (length priorities) →
+    Descended priorities m s k p before after →
+    (i : ℕ) → endAt (length priorities) m s ≤ i → getD after i 0 ≡ getD before i 0
+descended-rest {priorities} {m} {s} {k} l c i high =
+    let most = level-high (length priorities) m s (k + 1) (omega arith) in
+    c .rest i (inr (omega arith)) (inr (omega arith)) (λ e. omega arith) (λ e. omega arith) (inr (omega arith))
+
+-- R as the test for a way out looks at it
+held-escapes :
+    (owners : List ℕ) {priorities offsets targets : List ℕ} (ok : Accepted (tablesOf owners priorities offsets targets))
+    {s held : ℕ} {work : List ℕ} → Ready (length owners) priorities offsets targets s work →
+    held ≡ heldAt (length owners) (length targets) s → Escapes owners offsets targets s held work
+held-escapes owners {priorities} {offsets} {targets} ok {s} {held} {work} ready held-is =
+    record {
+      size = ready .size;
+      edges = ready .edges;
+      high = omega (arith, held-is, ready .room, ready .size);
+      below = λ v i. filled.held-small owners ok 0 ready v (ap (λ (x : ℕ). setAt (length owners) x work v) (sym held-is) ∙ i);
+    }
+
+module _ {owners priorities offsets targets : List ℕ} (ok : Accepted (tablesOf owners priorities offsets targets)) {s : ℕ}
+    (made : ℕ) {current left : ℕ} {w0 : List ℕ}
+    (shows :
+    Shows owners priorities offsets targets s (afterRounds (gameOf (tablesOf owners priorities offsets targets)) made) current
+    left w0)
+  where
+    abbrev n : ℕ
+    n = length owners
+
+    abbrev m : ℕ
+    m = length targets
+
+    abbrev g : Game
+    g = gameOf (tablesOf owners priorities offsets targets)
+
+    -- the rules' state before the round, and its current priority
+    abbrev r : Regions
+    r = afterRounds g made
+
+    abbrev p : ℕ
+    p = r .current
+
+    each : length priorities ≡ length owners
+    each = accepted-sound (tablesOf owners priorities offsets targets) ok .priority-each
+
+    -- what the places ask for
+    pub round-places : PriorityPlaceable (length owners) (length targets) s 255
+    round-places =
+        record {
+          size = shows .ready .size;
+          few = shows .ready .edges .few-vertices;
+          few-edges = shows .ready .edges .few-edges;
+          small = omega arith;
+        }
+
+    pub round-depth :
+        {held depth : ℕ} → held ≡ heldAt (length owners) (length targets) s → depth ≡ held + 3 * s → depth ≤ 65535
+    round-depth is at =
+        let few = words-few n (shows .ready .edges .few-vertices) in
+        omega (arith, is, at, shows .ready .size, shows .ready .edges .few-vertices, shows .ready .edges .few-edges)
+
+    module _ {held depth levels k : ℕ} (at : RoundBegins owners priorities offsets targets s current held depth levels k w0) where
+      held-is : held ≡ heldAt n m s
+      held-is = at .held-is
+
+      levels-is : levels ≡ levelsAt n m s
+      levels-is = at .levels-is
+
+      k-is : k ≡ depthIn n m s w0
+      k-is = at .k-is
+
+      base-is : levels + k * s ≡ levelAt n m s (depthIn n m s w0)
+      base-is = ap₂ (λ (l x : ℕ). l + x * s) levels-is k-is
+
+      below-is : levels + k * s + s ≡ levelAt n m s (suc (depthIn n m s w0))
+      below-is = ap (λ (x : ℕ). x + s) base-is ∙ sym (next-level n m s (depthIn n m s w0))
+
+      heads-at : levels + k * s + s + s ≡ levelAt n m s (suc (suc (depthIn n m s w0)))
+      heads-at = ap (λ (x : ℕ). x + s) below-is ∙ sym (next-level n m s (suc (depthIn n m s w0)))
+
+      pub base-room : levels + k * s + s + s + s ≤ length w0
+      base-room = omega (arith, at .room, shows .ready .room)
+
+      pub round-query : QueryReady owners offsets targets s current held (levels + k * s) w0
+      round-query =
+          record {
+            priorities = priorities;
+            accepted = ok;
+            ready = shows .ready;
+            current = shows .top;
+            held-is = held-is;
+            base-is = base-is;
+            room = at .room;
+          }
+
+      module _ {w1 : List ℕ} (made1 : Queried owners priorities offsets targets s current w0 w1) where
+        c1 : Queried owners priorities offsets targets s p w0 w1
+        c1 = subst (λ (x : ℕ). Queried owners priorities offsets targets s x w0 w1) (shows .current) made1
+
+        ready1 : Ready n priorities offsets targets s w1
+        ready1 = c1 .ready
+
+        entries1 : AttractedEntries g r (entryIn n m s w0) (entryIn n m s w1)
+        entries1 = attracts-table g r (regionIn n m s priorities w0) (shown.agrees0 ok made shows) (c1 .attracts)
+
+        -- R's heads
+        head-is : (v : ℕ) → setAt n (levels + k * s + s + s) w1 v ≡ (heldIn n m s w1 v && eqb (getD priorities v 0) p)
+        head-is v = ap (λ (x : ℕ). setAt n x w1 v) heads-at ∙ c1 .heads v
+
+        head-small : (v : ℕ) → setAt n (levels + k * s + s + s) w1 v ≡ true → v < n
+        head-small v i = filled.held-small owners ok 0 ready1 v (and-left (heldIn n m s w1 v) _ (sym (head-is v) ∙ i))
+
+        pub round-openable :
+            Openable owners offsets targets s (levels + k * s + s + s) held (levels + k * s + s) w1
+        round-openable =
+            record {
+              escapes =
+                  record {
+                    size = ready1 .size;
+                    edges = ready1 .edges;
+                    high = omega (arith, base-room, c1 .long, ready1 .size);
+                    below = head-small;
+                  };
+              held-room = held-escapes owners ok ready1 held-is .high;
+              room = omega (arith, base-room, c1 .long, ready1 .size);
+            }
+
+        -- whether R is open, as the code tells it
+        abbrev openSaid : Bool
+        openSaid = isOpenIn owners offsets targets (current % 2) (levels + k * s + s + s) held (levels + k * s + s) w1
+
+        open-told : {b : Bool} → b ≡ openSaid → isOpen g r (regionSet g r) ≡ b
+        open-told e =
+            shown.open-is ok made shows c1 ∙
+            sym
+            (e ∙
+            ap₂ (λ (x z : ℕ). isOpenIn owners offsets targets (x % 2) z held (levels + k * s + s) w1) (shows .current) heads-at ∙
+            ap₂ (λ (h b : ℕ). isOpenIn owners offsets targets (p % 2) (levelAt n m s (suc (suc (depthIn n m s w0)))) h b w1)
+            held-is below-is)
+
+        -- **an open round**
+        next-is : k + 1 ≡ suc (depthIn (length priorities) m s w1)
+        next-is = let e = c1 .depth in rw each (omega (arith, k-is, e))
+
+        module _ {said : Bool} (told : said ≡ openSaid) (taken : said ≡ true) where
+          opens : isOpen g r (regionSet g r) ≡ true
+          opens = open-told told ∙ taken
+
+          pub round-descend :
+              {bound : ℕ} → bound ≡ current - 1 → Descends priorities (length targets) s held levels (k + 1) bound w1
+          round-descend {bound} is =
+              subst (λ (x : ℕ). Descends priorities m s held levels x bound w1) (sym next-is)
+              (opened.descend-ready ok made shows c1 opens held-is levels-is (is ∙ ap (λ (x : ℕ). x - 1) (shows .current)))
+
+          module _ {p' : ℕ} {w2 : List ℕ} (c2 : Descended priorities (length targets) s (k + 1) p' w1 w2) where
+            pub opened-same :
+                (length w2 ≡ length w0) ×
+                ((i : ℕ) → endAt (length owners) (length targets) s ≤ i → getD w2 i 0 ≡ getD w0 i 0)
+            opened-same = (
+              c2 .long ∙ c1 .long,
+              λ i l. descended-rest (round-descend refl .depth) c2 i (rw each l) ∙ c1 .rest i l,
+            )
+
+            pub round-opens :
+                Shows owners priorities offsets targets s
+                (roundOf (gameOf (tablesOf owners priorities offsets targets))
+                (afterRounds (gameOf (tablesOf owners priorities offsets targets)) made)) p' left w2 ×
+                RoundEntries (gameOf (tablesOf owners priorities offsets targets))
+                (afterRounds (gameOf (tablesOf owners priorities offsets targets)) made)
+                (entryIn (length owners) (length targets) s w0) (entryIn (length owners) (length targets) s w2)
+            round-opens =
+                opened.shows-opened ok made shows c1 opens
+                (subst (λ (x : ℕ). Descended priorities m s x p' w1 w2) next-is c2)
+
+        pub round-fill :
+            FillAll owners offsets targets s (levels + k * s + s + s) held (entries (length owners) (length targets)) w1
+        round-fill =
+            subst (λ (x : ℕ). FillAll owners offsets targets s (levels + k * s + s + s) x (entries n m) w1) (sym held-is)
+            (filled.fill-ready owners ok p ready1 (omega (arith, levels-is)) (omega (arith, base-room, c1 .long)) head-small)
+
+        module _ {w2 : List ℕ}
+            (made2 :
+            FilledAll owners offsets targets (current % 2) (levels + k * s + s + s) held
+            (entries (length owners) (length targets)) w1 w2)
+          where
+            c2 : FilledAll owners offsets targets (current % 2) (levels + k * s + s + s) (heldAt n m s) (entries n m) w1 w2
+            c2 =
+                subst
+                (λ (x : ℕ). FilledAll owners offsets targets (current % 2) (levels + k * s + s + s) x (entries n m) w1 w2)
+                held-is made2
+
+            ready2 : Ready n priorities offsets targets s w2
+            ready2 = filled.filled-ready owners ok p ready1 c2
+
+            same2 : (i : ℕ) → free n m ≤ i → getD w2 i 0 ≡ getD w1 i 0
+            same2 = filled.filled-rest owners ok p ready1 c2
+
+            long2 : length w2 ≡ length w1
+            long2 = filled.filled-long owners ok p ready1 c2
+
+            depth2 : depthIn n m s w2 ≡ depthIn n m s w1
+            depth2 = same2 (depthAt n m s) (omega arith)
+
+            k2-is : k ≡ depthIn n m s w2
+            k2-is = k-is ∙ sym (depth2 ∙ c1 .depth)
+
+            agrees2 : (v : ℕ) → v < g .size → regionIn n m s priorities w2 v ≡ attractedRegion g r v
+            agrees2 v l = filled.filled-region owners ok p ready1 c2 v ∙ shown.agrees1 ok made shows c1 v l
+
+            top2 : topIn n m s w2 (depthIn n m s w2) ≡ p
+            top2 =
+                ap (λ (j : ℕ). topIn n m s w2 j) (depth2 ∙ c1 .depth) ∙
+                same2 (topsAt n m s + depthIn n m s w0) (omega arith) ∙
+                shown.top1 ok made shows c1
+
+            won2 : (i : ℕ) → wonAt n m s Even ≤ i → i < depthAt n m s → getD w2 i 0 ≡ getD w0 i 0
+            won2 i low high = same2 i (omega arith) ∙ c1 .won i low high
+
+            left2 : (v : ℕ) → levelIn n m s w2 0 v ≡ levelIn n m s w0 0 v
+            left2 v =
+                kept.level-same w2 ready1 long2 (filled.filled-table owners ok p ready1 c2) same2 0 v ∙
+                c1 .levels 0 v (omega arith)
+
+            entered0 : EntriesInside g (remaining g r) (r .region) p (entryIn n m s w0)
+            entered0 =
+                subst₂ (λ (T : ℕ → ℕ) (x : ℕ). EntriesInside g (unsolved g T) T x (entryIn n m s w0))
+                (fun-ext (shown.agrees0 ok made shows)) (shows .current) (at .entered)
+
+            fills2 : ClosesEntries g (mover r) (regionSet g r) (entryIn n m s w1) (entryIn n m s w2)
+            fills2 =
+                filled.filled-entries owners ok p ready1 c2 (ap (λ (x : ℕ). x % 2) (shows .current))
+                (shown.R-is ok made shows c1) head-is
+                (entry-but-heads (shown.total ok made shows) (accepted-few (tablesOf owners priorities offsets targets) ok) r
+                (shown.standing ok made shows .placed) entered0 entries1)
+
+            same-all :
+                (length w2 ≡ length w0) × ((i : ℕ) → endAt n m s ≤ i → getD w2 i 0 ≡ getD w0 i 0)
+            same-all = (long2 ∙ c1 .long, λ i l. same2 i (omega arith) ∙ c1 .rest i l)
+
+            pub filled-long : length w2 ≡ length w0
+            filled-long = same-all .0
+
+            pub round-escapable : Escapable owners offsets targets s held levels k w2
+            round-escapable =
+                record {
+                  escapes = held-escapes owners ok ready2 held-is;
+                  room = omega (arith, base-room, same-all .0);
+                  nested =
+                      subst₂ (λ (l x : ℕ). Nested (levelFrom n s l w2) x)
+                      (sym levels-is) (sym k2-is)
+                      (λ j v l i. ready2 .nests .inside j v (omega arith) i);
+                }
+
+            module _ {said : Bool} (told : said ≡ openSaid) (not-said : said ≡ false) {j : ℕ}
+                (found :
+                HighestLevel owners offsets targets (current % 2) (setAt (length owners) held w2)
+                (levelFrom (length owners) s levels w2) k j)
+              where
+                closed : isOpen g r (regionSet g r) ≡ false
+                closed = open-told told ∙ not-said
+
+                high : HighestLevel owners offsets targets (p % 2) (heldIn n m s w2) (levelIn n m s w2) (depthIn n m s w2) j
+                high =
+                    subst
+                    (λ (x : ℕ).
+                    HighestLevel owners offsets targets (x % 2) (heldIn n m s w2) (levelIn n m s w2) (depthIn n m s w2) j)
+                    (shows .current)
+                    (subst (λ (x : ℕ). HighestLevel owners offsets targets (current % 2) (heldIn n m s w2) (levelIn n m s w2) x j)
+                    k2-is
+                    (subst₂
+                    (λ (h l : ℕ). HighestLevel owners offsets targets (current % 2) (setAt n h w2) (levelFrom n s l w2) k j)
+                    held-is levels-is found))
+
+                -- **a promotion**
+                module _ (some : 0 < j) where
+                  down : j - 1 < depthIn n m s w2
+                  down = let most = high .top in omega arith
+
+                  high-one :
+                      HighestLevel owners offsets targets (p % 2) (heldIn n m s w2) (levelIn n m s w2) (depthIn n m s w2)
+                      (suc (j - 1))
+                  high-one =
+                      let e : j ≡ suc (j - 1) = omega arith in
+                      subst
+                      (λ (x : ℕ).
+                      HighestLevel owners offsets targets (p % 2) (heldIn n m s w2) (levelIn n m s w2) (depthIn n m s w2) x)
+                      e high
+
+                  pub top-fits : depth + j < levels
+                  top-fits = omega (arith, at .depth-is, levels-is, down, ready2 .depth)
+
+                  pub round-promotable : Promotable s held depth (levels + (j - 1) * s) w2
+                  round-promotable =
+                      subst₂ (λ (h l : ℕ). Promotable s h depth (l + (j - 1) * s) w2) (sym held-is) (sym levels-is)
+                      (subst (λ (d : ℕ). Promotable s (heldAt n m s) d (levelAt n m s (j - 1)) w2) (sym (at .depth-is))
+                      (promote-ready ready2 (j - 1) down))
+
+                  module _ {w3 : List ℕ}
+                      (made3 : PromotedTo (length owners) s held depth (levels + (j - 1) * s) (j - 1) w2 w3)
+                    where
+                      c3 : PromotedTo n s (heldAt n m s) (depthAt n m s) (levelAt n m s (j - 1)) (j - 1) w2 w3
+                      c3 =
+                          subst₂ (λ (h l : ℕ). PromotedTo n s h (depthAt n m s) (l + (j - 1) * s) (j - 1) w2 w3) held-is
+                          levels-is
+                          (subst (λ (d : ℕ). PromotedTo n s held d (levels + (j - 1) * s) (j - 1) w2 w3) (at .depth-is) made3)
+
+                      pub promoted-same :
+                          (length w3 ≡ length w0) ×
+                          ((i : ℕ) → endAt (length owners) (length targets) s ≤ i → getD w3 i 0 ≡ getD w0 i 0)
+                      promoted-same = (
+                        c3 .long ∙ same-all .0,
+                        λ i l.
+                            let most = level-high n m s (suc (j - 1)) (omega (arith, down, ready2 .depth)) in
+                            let next = next-level n m s (j - 1) in
+                            c3 .rest i (λ e. omega arith) (inr (omega arith)) (inr (omega (arith, most, next))) ∙ same-all .1 i l,
+                      )
+
+                      pub round-promotes :
+                          Shows owners priorities offsets targets s
+                          (roundOf (gameOf (tablesOf owners priorities offsets targets))
+                          (afterRounds (gameOf (tablesOf owners priorities offsets targets)) made))
+                          (getD w2 (depth + j) 0) left w3 ×
+                          RoundEntries (gameOf (tablesOf owners priorities offsets targets))
+                          (afterRounds (gameOf (tablesOf owners priorities offsets targets)) made)
+                          (entryIn (length owners) (length targets) s w0) (entryIn (length owners) (length targets) s w3)
+                      round-promotes =
+                          let e : topsAt n m s + (j - 1) ≡ depth + j = omega (arith, at .depth-is) in
+                          subst
+                          (λ (x : ℕ).
+                          Shows owners priorities offsets targets s (roundOf g r) (getD w2 x 0) left w3 ×
+                          RoundEntries g r (entryIn n m s w0) (entryIn n m s w3))
+                          e
+                          (promoted.shows-promoted ok made shows ready2 agrees2 top2 won2 left2 closed entries1 fills2 (j - 1)
+                          high-one c3)
+
+                -- **a dominion**
+                pub round-dominion : DominionReady owners offsets targets s held levels w2
+                round-dominion =
+                    subst₂ (λ (h l : ℕ). DominionReady owners offsets targets s h l w2) (sym held-is) (sym levels-is)
+                    (solved.dominion-ready ok made shows ready2 agrees2 top2 won2 left2 closed entries1 fills2)
+
+                module _ (none : j ≤ 0) {w3 : List ℕ}
+                    (made3 : Dominated owners priorities offsets targets s current held levels w2 w3)
+                  where
+                    d3 : Dominated owners priorities offsets targets s p (heldAt n m s) (levelsAt n m s) w2 w3
+                    d3 =
+                        subst (λ (x : ℕ). Dominated owners priorities offsets targets s x (heldAt n m s) (levelsAt n m s) w2 w3)
+                        (shows .current)
+                        (subst₂ (λ (h l : ℕ). Dominated owners priorities offsets targets s current h l w2 w3) held-is levels-is
+                        made3)
+
+                    high-none :
+                        HighestLevel owners offsets targets (p % 2) (heldIn n m s w2) (levelIn n m s w2) (depthIn n m s w2) 0
+                    high-none =
+                        let e : j ≡ 0 = omega arith in
+                        subst
+                        (λ (x : ℕ).
+                        HighestLevel owners offsets targets (p % 2) (heldIn n m s w2) (levelIn n m s w2) (depthIn n m s w2) x)
+                        e high
+
+                    pub round-first : Descends priorities (length targets) s held levels 0 255 w3
+                    round-first =
+                        solved.descend-first ok made shows ready2 agrees2 top2 won2 left2 closed entries1 fills2 high-none d3
+                        held-is levels-is
+
+                    module _ {p' : ℕ} {w4 : List ℕ} (c4 : Descended priorities (length targets) s 0 p' w3 w4) where
+                      pub solved-same :
+                          (length w4 ≡ length w0) ×
+                          ((i : ℕ) → endAt (length owners) (length targets) s ≤ i → getD w4 i 0 ≡ getD w0 i 0)
+                      solved-same = (
+                        c4 .long ∙ d3 .long ∙ same-all .0,
+                        λ i l.
+                            let most = level-high n m s 0 (omega (arith, ready2 .depth)) in
+                            descended-rest (round-first .depth) c4 i (rw each l) ∙
+                            d3 .rest i (omega arith) (inr (omega arith)) (inr (omega (arith, most))) ∙
+                            same-all .1 i l,
+                      )
+
+                      pub round-solves :
+                          {many : ℕ} →
+                          many ≡ count (length owners) (levelIn (length owners) (length targets) s w4 0) →
+                          Shows owners priorities offsets targets s
+                          (roundOf (gameOf (tablesOf owners priorities offsets targets))
+                          (afterRounds (gameOf (tablesOf owners priorities offsets targets)) made)) p' many w4 ×
+                          RoundEntries (gameOf (tablesOf owners priorities offsets targets))
+                          (afterRounds (gameOf (tablesOf owners priorities offsets targets)) made)
+                          (entryIn (length owners) (length targets) s w0) (entryIn (length owners) (length targets) s w4)
+                      round-solves counted =
+                          solved.shows-solved ok made shows ready2 agrees2 top2 won2 left2 closed entries1 fills2 high-none d3 c4
+                          counted
+
+                      pub solved-ready : Ready (length owners) priorities offsets targets s w4
+                      solved-ready = round-solves refl .0 .ready

@@ -1,0 +1,2 @@
+-- Words cleared, filled and copied one after another.
+pub mod Filling

@@ -1,0 +1,2 @@
+-- Two sets combined word by word, up to each word and whole.
+pub mod Wordwise

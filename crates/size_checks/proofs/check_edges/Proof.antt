@@ -1,0 +1,16 @@
+-- `check_edges` meets its contract: each return goes by the test that led there.
+use borrow.Author.Tests.{lt-ltb, le-ltb}
+use Rattle.rules.specs.Tables.{check3}
+use Rattle.size_checks.proofs.check_edges.Statement.{statement}
+use Rattle.size_checks.proofs.check_edges.Tie as tie
+
+returns : tie.Need-returns
+unfolding check3
+returns c = simp (lt-ltb _ _ (c .if1 .taken))
+
+returns-2 : tie.Need-returns-2
+unfolding check3
+returns-2 c = simp (le-ltb _ _ (c .if1 .left))
+
+pub check-edges-spec : {M : Type 1} → statement M
+check-edges-spec = tie.close (tie.spec returns returns-2)

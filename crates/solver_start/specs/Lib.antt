@@ -1,0 +1,2 @@
+-- The work area at first.
+pub mod Preparing

@@ -1,0 +1,117 @@
+// V stands at `base`, the attractor behind it, and the next level begins after the four sets of this one. `s` is the words
+// of a set, `p` the highest priority in V.
+use parity_game::Player;
+use parity_game::Priority;
+use zielonka_level::opponent_of;
+use zielonka_level::won_at;
+ghost use mathlib.Core.List.{List};
+ghost use Prim.Native.Nat.{ℕ};
+ghost use Rattle.rules.specs.Game.{opponent, parity};
+ghost use Rattle.rules.specs.Tables.{Accepted, gameOf, tablesOf};
+ghost use Rattle.rules.specs.Zielonka.{withPriority};
+ghost use Rattle.parity_game.specs.Said.{is};
+ghost use Rattle.zielonka_level.specs.Level.{nextLevel, onLevel, drawnAt, wonAt};
+ghost use Rattle.zielonka_level.specs.Steps.{CutBy};
+ghost use Rattle.zielonka_level.specs.Pieces.{CallReady, Sorted, Cuttable, Losable};
+
+// Draws to the set in the attractor's place, and puts V without the attractor at the next level.
+fn cut(
+    owners: &[u8],
+    offsets: &[u16],
+    targets: &[u16],
+    player: Player,
+    s: usize,
+    work: &mut [u64],
+    base: usize,
+)
+    requires { ⌜ Cuttable (now owners) (now offsets) (now targets) s base (now work) ⌝ }
+    ensures { λ r.
+        ⌜ ((priorities : List ℕ) →
+        Accepted (tablesOf (now (owners .entry)) priorities (now (offsets .entry)) (now (targets .entry))) →
+        CutBy (tablesOf (now (owners .entry)) priorities (now (offsets .entry)) (now (targets .entry)))
+        (is player) base
+        (onLevel (tablesOf (now (owners .entry)) priorities (now (offsets .entry)) (now (targets .entry))) base
+        (now (work .entry)))
+        (drawnAt (tablesOf (now (owners .entry)) priorities (now (offsets .entry)) (now (targets .entry))) base
+        (now (work .entry)))
+        (now (work .entry)) (now (work .exit))) ⌝ }
+{
+    attractor::attract(
+        owners,
+        offsets,
+        targets,
+        player.index(),
+        work,
+        base,
+        base + s,
+    );
+    sets::copy_with(work, base + 4 * s, base, s);
+    sets::difference_with(work, base + 4 * s, base + s, s);
+}
+
+// U: the vertices of V with priority p; A: the attractor of U for p's player. V without A goes to the next level.
+pub fn attract_highest(
+    owners: &[u8],
+    offsets: &[u16],
+    targets: &[u16],
+    p: Priority,
+    s: usize,
+    work: &mut [u64],
+    base: usize,
+)
+    requires { ⌜ Sorted (now owners) (now offsets) (now targets) (p .0) s base (now work) ⌝ }
+    ensures { λ r.
+        ⌜ ((priorities : List ℕ) →
+        CallReady (tablesOf (now (owners .entry)) priorities (now (offsets .entry)) (now (targets .entry))) s base
+        (now (work .entry)) →
+        CutBy (tablesOf (now (owners .entry)) priorities (now (offsets .entry)) (now (targets .entry)))
+        (parity (p .0)) base
+        (onLevel (tablesOf (now (owners .entry)) priorities (now (offsets .entry)) (now (targets .entry))) base
+        (now (work .entry)))
+        (withPriority (gameOf (tablesOf (now (owners .entry)) priorities (now (offsets .entry))
+        (now (targets .entry))))
+        (onLevel (tablesOf (now (owners .entry)) priorities (now (offsets .entry)) (now (targets .entry))) base
+        (now (work .entry))) (p .0))
+        (now (work .entry)) (now (work .exit))) ⌝ }
+{
+    let of = priority_sets::set_at(owners.len(), targets.len(), s, p.0);
+    priority_sets::meet(work, base + s, base, of, s);
+    cut(
+        owners,
+        offsets,
+        targets,
+        Player::from_priority(p),
+        s,
+        work,
+        base,
+    );
+}
+
+// B: the attractor of what the opponent of p's player won at the next level, for that opponent. V without B goes to
+// the next level.
+pub fn attract_lost(
+    owners: &[u8],
+    offsets: &[u16],
+    targets: &[u16],
+    p: Priority,
+    s: usize,
+    work: &mut [u64],
+    base: usize,
+)
+    requires { ⌜ Losable (now owners) (now offsets) (now targets) (p .0) s base (now work) ⌝ }
+    ensures { λ r.
+        ⌜ ((priorities : List ℕ) →
+        Accepted (tablesOf (now (owners .entry)) priorities (now (offsets .entry)) (now (targets .entry))) →
+        CutBy (tablesOf (now (owners .entry)) priorities (now (offsets .entry)) (now (targets .entry)))
+        (opponent (parity (p .0))) base
+        (onLevel (tablesOf (now (owners .entry)) priorities (now (offsets .entry)) (now (targets .entry))) base
+        (now (work .entry)))
+        (wonAt (tablesOf (now (owners .entry)) priorities (now (offsets .entry)) (now (targets .entry)))
+        (nextLevel s base) (now (work .entry)) (opponent (parity (p .0))))
+        (now (work .entry)) (now (work .exit))) ⌝ }
+{
+    let player = opponent_of(p);
+    let lost = won_at(base + 4 * s, s, player);
+    sets::copy_with(work, base + s, lost, s);
+    cut(owners, offsets, targets, player, s, work, base);
+}
