@@ -11,9 +11,11 @@ use lib.ListN.{getD}
 use Rattle.rules.specs.Counting.{Set}
 use Rattle.rules.specs.Game.{Player, Game, parity, same}
 use Rattle.rules.specs.Tables.{Tables, vertices, edgesIn, gameOf, Accepted}
+use Rattle.rules.specs.Attractor.{Closed, attractor}
+use Rattle.basics.specs.Basics.{clash}
 use Rattle.theory.specs.Players.{same-true, true-same}
 use Rattle.accepted.specs.Tables.{accepted-sound, accepted-few}
-use Rattle.theory.specs.Attractor.{Fits}
+use Rattle.theory.specs.Attractor.{Fits, attractor-is, attractor-unique}
 use Rattle.theory.specs.AttractorRank.{Ranked, same-certificate, same-pull}
 use Rattle.theory.specs.Distance.{nearest}
 use Rattle.theory.specs.DistanceEntries.{same-entry}
@@ -68,6 +70,20 @@ attract-pulled {t} ok {a} {within} {set} {before} nested made =
 
     fits : Fits (gameOf t) V' T
     fits = record { part = nested .part; below = nested .below }
+
+-- a set into which nothing may be drawn is its own attractor
+pub pulled-shut :
+    {g : Game} {a : Player} {V' R : Set} → Fits g V' R → Closed g a V' R R → (σ : ℕ → ℕ) → Pulled g a V' R R σ σ
+pulled-shut {g} {a} {V'} {R} fits shut σ =
+    record {
+      certificate = same-certificate g a V' R R fits alone;
+      near = same-pull g a V' R R fits alone;
+      entered = λ v i out o. absurd (clash i out);
+      kept = λ v l no. refl;
+    }
+  where
+    alone : (v : ℕ) → attractor g a V' R v ≡ R v
+    alone = attractor-unique (attractor-is g a V' R fits) (record { closed = shut; smallest = λ S' c. c .target })
 
 -- the owner's number and the player
 module _ (t : Tables) (ok : Accepted t) (p v : ℕ) (small : v < vertices t) where

@@ -2,14 +2,14 @@
 use mathlib.Core.Bool.{Bool, true, false, _&&_, _||_, not, cond}
 use mathlib.Core.List.{List}
 use mathlib.Core.Logic.{_⊎_, inl, inr, ⊎-elim}
-use mathlib.Core.Path.{_≡_, refl, sym, ap, ap₂, subst, _∙_}
+use mathlib.Core.Path.{_≡_, refl, sym, ap, ap₂, subst, subst₂, _∙_}
 use Prim.Native.Nat.{ℕ, _+_, _-_, _*_, _≤_, _<_, max}
 use native.Mathlib.Omega.{arith}
 use lib.ListN.{length, getD}
 use Rattle.rules.specs.Counting.{Set}
-use Rattle.rules.specs.Game.{Player, Even, Odd, Game, parity, same}
-use Rattle.rules.specs.Tables.{words, gameOf, Accepted, tablesOf}
-use Rattle.rules.specs.Attractor.{attractor}
+use Rattle.rules.specs.Game.{Player, Even, Odd, Game, parity, playerOf, same}
+use Rattle.rules.specs.Tables.{Tables, vertices, edgesIn, words, gameOf, Accepted, tablesOf}
+use Rattle.rules.specs.Attractor.{Closed, drawn, attractor}
 use Rattle.basics.specs.Basics.{bool-cases, clash, not-true-is-false, lt-or-ge}
 use Rattle.theory.specs.Players.{same-true}
 use Rattle.predecessors.specs.Table.{SoundEdges}
@@ -18,24 +18,49 @@ use Rattle.sets.specs.Laws.{bit-other}
 use Rattle.area.specs.Area.{entries, free, setAt, wordsAt}
 use Rattle.area.specs.SetsAt.{set-kept, set-united, set-reduced}
 use Rattle.attractor.specs.Attracted.{Nested, Listed, Attractable, Attracted}
-use Rattle.promotion_levels.specs.Pulled.{Pulled, pulled-as, attract-pulled}
+use Rattle.promotion_levels.specs.Pulled.{Pulled, pulled-as, pulled-shut, attract-pulled}
 
 -- where what a player has won stands: behind R
 abbrev pub wonBehind : ℕ → ℕ → Player → ℕ
 wonBehind s held Even = held + s
 wonBehind s held Odd = held + 2 * s
 
--- what it asks for: the tables are accepted with some priorities, R lies in level 0, and the places do not overlap
-pub record DominionReady (owners offsets targets : List ℕ) (s held levels : ℕ) (work : List ℕ) : Type 0 where
+-- what it asks for: the tables are accepted with some priorities, R lies in level 0, nothing may be drawn into it there where it was
+-- drawn in within level 0, and the places do not overlap
+pub record DominionReady (owners offsets targets : List ℕ) (s : ℕ) (a : Player) (k held levels : ℕ) (work : List ℕ) : Type 0 where
   pub priorities : List ℕ
   pub accepted : Accepted (tablesOf owners priorities offsets targets)
   pub size : s ≡ words (length owners)
   pub edges : SoundEdges (length owners) offsets targets
   pub listed : Listed (length owners) offsets targets work
   pub nested : Nested (length owners) levels held work
+  pub shut :
+      k ≤ 0 →
+      let R = setAt (length owners) held work in
+      Closed (gameOf (tablesOf owners priorities offsets targets)) a (setAt (length owners) levels work) R R
   pub low : free (length owners) (length targets) ≤ held
   pub apart : held + 3 * s ≤ levels
   pub high : levels + s ≤ length work
+
+-- what `draw_unsolved` asks for
+pub record DrawReady (owners offsets targets : List ℕ) (alpha k held levels : ℕ) (work : List ℕ) : Type 0 where
+  pub side : alpha ≤ 1
+  pub ready : DominionReady owners offsets targets (words (length owners)) (playerOf alpha) k held levels work
+
+-- and what it leaves: R's place has its attractor in level 0, and other free words are as they were
+pub record DrawnIn (t : Tables) (a : Player) (held levels : ℕ) (before after : List ℕ) : Type 0 where
+  pub long : length after ≡ length before
+  pub pulled :
+      let n = vertices t in
+      let m = edgesIn t in
+      Pulled (gameOf t) a (setAt n levels before) (setAt n held before) (setAt n held after)
+      (λ v. getD before (entries n m + v) 0) (λ v. getD after (entries n m + v) 0)
+  pub table : (i : ℕ) → i < vertices t + 1 + edgesIn t → getD after i 0 ≡ getD before i 0
+  pub rest :
+      (i : ℕ) →
+      free (vertices t) (edgesIn t) ≤ i →
+      (i < held) ⊎ (held + words (vertices t) ≤ i) →
+      getD after i 0 ≡ getD before i 0
 
 -- what it leaves: R's place has its attractor D, which has left level 0 and is won
 pub record Dominated (owners priorities offsets targets : List ℕ) (s p held levels : ℕ) (before after : List ℕ) : Type 0 where
@@ -62,8 +87,81 @@ pub record Dominated (owners priorities offsets targets : List ℕ) (s p held le
       (i < levels) ⊎ (levels + s ≤ i) →
       getD after i 0 ≡ getD before i 0
 
-module _ {owners offsets targets : List ℕ} {s held levels : ℕ} {w0 : List ℕ}
-    (given : DominionReady owners offsets targets s held levels w0) (p : ℕ)
+-- ---- R is drawn in
+
+module _ {owners offsets targets : List ℕ} {alpha k held levels : ℕ} {w0 : List ℕ}
+    (given : DrawReady owners offsets targets alpha k held levels w0)
+  where
+    abbrev n₀ : ℕ
+    n₀ = length owners
+
+    pub attract-ready : Attractable owners offsets targets alpha levels held w0
+    attract-ready =
+        let r = given .ready in
+        record {
+          placed =
+              record {
+                within-low = omega (arith, r .low, r .apart);
+                within-high = r .high;
+                set-low = r .low;
+                set-high = omega (arith, r .apart, r .high);
+                apart = inr (omega (arith, r .apart));
+              };
+          nested = r .nested;
+          edges = r .edges;
+          listed = r .listed;
+          side = given .side;
+        }
+
+    module _ (priorities : List ℕ) (ok : Accepted (tablesOf owners priorities offsets targets)) where
+      abbrev t : Tables
+      t = tablesOf owners priorities offsets targets
+
+      -- by the attractor
+      pub attracted-in :
+          {w1 : List ℕ} {looks : ℕ} →
+          Attracted (tablesOf owners priorities offsets targets) (playerOf alpha) levels held w0 w1 looks →
+          DrawnIn (tablesOf owners priorities offsets targets) (playerOf alpha) held levels w0 w1
+      attracted-in {w1} c =
+          record {
+            long = c .long;
+            pulled = pulled-as (λ v. refl) (λ v. refl) (λ v. held1 v (lt-or-ge v n₀)) drawn1;
+            table = c .table;
+            rest = c .rest;
+          }
+        where
+          D : Set
+          D = attractor (gameOf t) (playerOf alpha) (setAt n₀ levels w0) (setAt n₀ held w0)
+
+          drawn1 :
+              Pulled (gameOf t) (playerOf alpha) (setAt n₀ levels w0) (setAt n₀ held w0) D
+              (λ v. getD w0 (entries n₀ (length targets) + v) 0) (λ v. getD w1 (entries n₀ (length targets) + v) 0)
+          drawn1 = attract-pulled ok (given .ready .nested) c
+
+          held1 : (v : ℕ) → (v < n₀) ⊎ (n₀ ≤ v) → D v ≡ setAt n₀ held w1 v
+          held1 v (inl l) = sym (c .holds .bits v l)
+          held1 v (inr l) =
+              not-true-is-false (D v)
+              (λ i. let b = given .ready .nested .below v (drawn1 .certificate .inside v i) in omega arith) ∙
+              sym (bit-other (wordsAt n₀ held w1) v (c .holds .clear v l))
+
+      -- and in level 0 it stays as it is
+      pub shut-in : k ≤ 0 → DrawnIn (tablesOf owners priorities offsets targets) (playerOf alpha) held levels w0 w0
+      unfolding gameOf drawn
+      shut-in none =
+          record {
+            long = refl;
+            pulled =
+                pulled-shut (record { part = given .ready .nested .part; below = given .ready .nested .below })
+                (record { target = λ v i. i; attracted = given .ready .shut none .attracted }) _;
+            table = λ i l. refl;
+            rest = λ i low o. refl;
+          }
+
+-- ---- and is won
+
+module _ (p : ℕ) {owners offsets targets : List ℕ} {s k held levels : ℕ} {w0 : List ℕ}
+    (given : DominionReady owners offsets targets s (parity p) k held levels w0)
   where
     abbrev n : ℕ
     n = length owners
@@ -91,26 +189,18 @@ module _ {owners offsets targets : List ℕ} {s held levels : ℕ} {w0 : List �
     won-apart Even Odd e = inr (omega (arith, size))
     won-apart Odd Even e = inl (omega (arith, size))
 
-    pub attract-ready : {alpha : ℕ} → alpha ≤ 1 → Attractable owners offsets targets alpha levels held w0
-    attract-ready side =
+    pub draw-ready :
+        {alpha : ℕ} → alpha ≤ 1 → playerOf alpha ≡ parity p → DrawReady owners offsets targets alpha k held levels w0
+    draw-ready side own =
         record {
-          placed =
-              record {
-                within-low = omega (arith, given .low, given .apart);
-                within-high = omega (arith, size, given .high);
-                set-low = given .low;
-                set-high = omega (arith, size, given .apart, given .high);
-                apart = inr (omega (arith, size, given .apart));
-              };
-          nested = given .nested;
-          edges = given .edges;
-          listed = given .listed;
           side = side;
+          ready =
+              subst₂ (λ (x : ℕ) (b : Player). DominionReady owners offsets targets x b k held levels w0) size (sym own) given;
         }
 
     module _ (priorities : List ℕ) (ok : Accepted (tablesOf owners priorities offsets targets))
-        {drawer : Player} (own : drawer ≡ parity p) {w1 : List ℕ} {looks : ℕ}
-        (made1 : Attracted (tablesOf owners priorities offsets targets) drawer levels held w0 w1 looks)
+        {drawer : Player} (own : drawer ≡ parity p) {w1 : List ℕ}
+        (made1 : DrawnIn (tablesOf owners priorities offsets targets) drawer held levels w0 w1)
       where
         abbrev g : Game
         g = gameOf (tablesOf owners priorities offsets targets)
@@ -118,26 +208,13 @@ module _ {owners offsets targets : List ℕ} {s held levels : ℕ} {w0 : List �
         abbrev a : Player
         a = parity p
 
-        c1 : Attracted (tablesOf owners priorities offsets targets) a levels held w0 w1 looks
+        c1 : DrawnIn (tablesOf owners priorities offsets targets) a held levels w0 w1
         c1 = rw own at made1
 
-        abbrev D : Set
-        D = attractor g a (setAt n levels w0) (setAt n held w0)
-
         drawn1 :
-            Pulled g a (setAt n levels w0) (setAt n held w0) D (λ v. getD w0 (entries n m + v) 0)
+            Pulled g a (setAt n levels w0) (setAt n held w0) (setAt n held w1) (λ v. getD w0 (entries n m + v) 0)
             (λ v. getD w1 (entries n m + v) 0)
-        drawn1 = attract-pulled ok (given .nested) c1
-
-        held1 : (v : ℕ) → D v ≡ setAt n held w1 v
-        held1 v =
-            ⊎-elim
-            (λ l. sym (c1 .holds .bits v l))
-            (λ l.
-            not-true-is-false (D v)
-            (λ i. let b = given .nested .below v (drawn1 .certificate .inside v i) in omega arith) ∙
-            sym (bit-other (wordsAt n held w1) v (c1 .holds .clear v l)))
-            (lt-or-ge v n)
+        drawn1 = c1 .pulled
 
         same1 : (i : ℕ) → free n m ≤ i → (i < held) ⊎ (held + s ≤ i) → getD w1 i 0 ≡ getD w0 i 0
         same1 i low (inl l) = c1 .rest i low (inl l)
@@ -234,7 +311,7 @@ module _ {owners offsets targets : List ℕ} {s held levels : ℕ} {w0 : List �
                 record {
                   long = c3 .long ∙ c2 .long ∙ c1 .long;
                   pulled =
-                      let as-held = pulled-as (λ v. refl) (λ v. refl) (λ v. held1 v ∙ sym (held3 v)) drawn1 in
+                      let as-held = pulled-as (λ v. refl) (λ v. refl) (λ v. sym (held3 v)) drawn1 in
                       record {
                         certificate = as-held .certificate;
                         near = as-held .near;
@@ -254,7 +331,7 @@ module _ {owners offsets targets : List ℕ} {s held levels : ℕ} {w0 : List �
               where
                 small : (v : ℕ) → setAt n held w3 v ≡ true → v < n
                 small v i =
-                    given .nested .below v (drawn1 .certificate .inside v (held1 v ∙ sym (held3 v) ∙ i))
+                    given .nested .below v (drawn1 .certificate .inside v (sym (held3 v) ∙ i))
 
                 size-is : (v : ℕ) → v < g .size → v < n
                 size-is v l = l

@@ -3,10 +3,35 @@ use parity_game::Player;
 use parity_game::Priority;
 ghost use mathlib.Core.List.{List};
 ghost use Prim.Native.Nat.{ℕ};
+ghost use Rattle.rules.specs.Game.{parity, playerOf};
 ghost use Rattle.rules.specs.Tables.{Accepted, tablesOf};
-ghost use Rattle.promotion_moves.specs.Dominion.{DominionReady, Dominated};
+ghost use Rattle.promotion_moves.specs.Dominion.{DominionReady, DrawReady, DrawnIn, Dominated};
+
+// What R, at `held`, attracts among the unsolved vertices, which are level 0, comes to it. In level 0 it is drawn in already.
+fn draw_unsolved(
+    owners: &[u8],
+    offsets: &[u16],
+    targets: &[u16],
+    alpha: u8,
+    work: &mut [u64],
+    held: usize,
+    levels: usize,
+    k: usize,
+)
+    requires { ⌜ DrawReady (now owners) (now offsets) (now targets) alpha k held levels (now work) ⌝ }
+    ensures { λ r.
+        ⌜ ((priorities : List ℕ) →
+        Accepted (tablesOf (now (owners .entry)) priorities (now (offsets .entry)) (now (targets .entry))) →
+        DrawnIn (tablesOf (now (owners .entry)) priorities (now (offsets .entry)) (now (targets .entry)))
+        (playerOf alpha) held levels (now (work .entry)) (now (work .exit))) ⌝ }
+{
+    if 0 < k {
+        attractor::attract(owners, offsets, targets, alpha, work, levels, held);
+    }
+}
 
 // What R, at `held`, attracts among the unsolved vertices, which are level 0, is won and solved. R's place has it then.
+// R was drawn in within level k.
 pub fn solve_dominion(
     owners: &[u8],
     offsets: &[u16],
@@ -16,8 +41,9 @@ pub fn solve_dominion(
     work: &mut [u64],
     held: usize,
     levels: usize,
+    k: usize,
 )
-    requires { ⌜ DominionReady (now owners) (now offsets) (now targets) s held levels (now work) ⌝ }
+    requires { ⌜ DominionReady (now owners) (now offsets) (now targets) s (parity (p .0)) k held levels (now work) ⌝ }
     ensures { λ r.
         ⌜ ((priorities : List ℕ) →
         Accepted (tablesOf (now (owners .entry)) priorities (now (offsets .entry)) (now (targets .entry))) →
@@ -25,7 +51,16 @@ pub fn solve_dominion(
         (now (work .entry)) (now (work .exit))) ⌝ }
 {
     let player = Player::from_priority(p);
-    attractor::attract(owners, offsets, targets, player.index(), work, levels, held);
+    draw_unsolved(
+        owners,
+        offsets,
+        targets,
+        player.index(),
+        work,
+        held,
+        levels,
+        k,
+    );
     let won = match player {
         Player::Even => held + s,
         Player::Odd => held + 2 * s,

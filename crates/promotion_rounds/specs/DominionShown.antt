@@ -13,6 +13,7 @@ use Rattle.rules.specs.Counting.{Set, count, some, lowest}
 use Rattle.rules.specs.Game.{Player, Even, Odd, Game, Total, parity, same}
 use Rattle.rules.specs.Tables.{Tables, gameOf, words, Accepted, tablesOf}
 use Rattle.rules.specs.Words.{noEntry}
+use Rattle.rules.specs.Attractor.{Closed}
 use Rattle.rules.specs.Promotion.{Regions, regionSet, isOpen, roundOf, afterRounds}
 use Rattle.basics.specs.Basics.{bool-cases, clash, not-true-is-false, and-intro, and-left, and-right, lt-or-ge, some-intro, some-elim}
 use Rattle.basics.specs.Basics.{false-some, someOf-intro, someOf-elim, lowest-none, lowest-unique, count-cong}
@@ -148,9 +149,16 @@ module _ {owners priorities offsets targets : List ℕ} (ok : Accepted (tablesOf
 
     -- what `solve_dominion` asks for
     pub dominion-ready :
-        DominionReady owners offsets targets s (heldAt (length owners) (length targets) s)
-        (levelsAt (length owners) (length targets) s) w2
-    dominion-ready =
+        {j : ℕ} →
+        (j ≤ 0 →
+        Closed (gameOf (tablesOf owners priorities offsets targets))
+        (mover (afterRounds (gameOf (tablesOf owners priorities offsets targets)) made))
+        (levelIn (length owners) (length targets) s w2 0) (heldIn (length owners) (length targets) s w2)
+        (heldIn (length owners) (length targets) s w2)) →
+        DominionReady owners offsets targets s
+        (mover (afterRounds (gameOf (tablesOf owners priorities offsets targets)) made)) j
+        (heldAt (length owners) (length targets) s) (levelsAt (length owners) (length targets) s) w2
+    dominion-ready shut =
         record {
           priorities = priorities;
           accepted = ok;
@@ -162,6 +170,9 @@ module _ {owners priorities offsets targets : List ℕ} (ok : Accepted (tablesOf
                 below = λ v i. ready .nests .below v (first-in w2 v ∙ i);
                 part = λ v i. sym (first-in w2 v) ∙ held-first v i;
               };
+          shut =
+              λ none.
+              subst (λ (x : ℕ). Closed g (parity p) (setAt n x w2) (heldIn n m s w2) (heldIn n m s w2)) place0 (shut none);
           low = omega arith;
           apart = omega arith;
           high = high0;

@@ -7,14 +7,16 @@ use Prim.Native.Nat.{ℕ, suc, _+_, _-_, _*_, _%_, _≤_, _<_}
 use native.Mathlib.Omega.{arith}
 use lib.Dec.{eqb}
 use lib.ListN.{length, getD, take, drop, length-take}
-use Rattle.rules.specs.Counting.{count}
-use Rattle.rules.specs.Game.{Even, Game}
+use Rattle.rules.specs.Counting.{Set, count}
+use Rattle.rules.specs.Game.{Even, Game, parity}
 use Rattle.rules.specs.Tables.{gameOf, words, Accepted, tablesOf}
+use Rattle.rules.specs.Attractor.{Closed}
 use Rattle.rules.specs.Promotion.{Regions, unsolved, regionSet, isOpen, roundOf, afterRounds}
 use Rattle.basics.specs.Basics.{and-left, count-some}
 use Rattle.sets.specs.Size.{size}
 use Rattle.accepted.specs.Tables.{accepted-sound, accepted-few}
 use Rattle.theory.specs.PromotionAccepted.{accepted-invariant}
+use Rattle.theory.specs.PromotionBasics.{upTo}
 use Rattle.theory.specs.PromotionEntries.{mover, remaining, RoundEntries, AttractedEntries, ClosesEntries}
 use Rattle.theory.specs.PromotionInside.{EntriesInside}
 use Rattle.theory.specs.PromotionRounds.{attractedRegion}
@@ -22,13 +24,14 @@ use Rattle.theory.specs.PromotionTable.{attracts-table}
 use Rattle.promotion_heads.specs.Heads.{entry-but-heads}
 use Rattle.area.specs.Area.{entries, free, setAt, wordsAt}
 use Rattle.area.specs.Lent.{words-few}
+use Rattle.area.specs.SetsAt.{set-kept}
 use Rattle.area.specs.Sizes.{size-at}
 use Rattle.area.specs.Walking.{lent-part}
 use Rattle.priority_sets.specs.Sorting.{PriorityPlaceable}
 use Rattle.promotion_levels.specs.Layout.{heldAt, wonAt, depthAt, topsAt, levelsAt, levelAt, endAt, deep, depthIn, topIn, levelIn}
 use Rattle.promotion_levels.specs.Layout.{heldIn, regionIn, entryIn, Ready}
 use Rattle.promotion_levels.specs.Nesting.{few-levels, levels-below}
-use Rattle.promotion_levels.specs.Places.{next-level, level-high}
+use Rattle.promotion_levels.specs.Places.{next-level, level-high, upTo-is}
 use Rattle.promotion_levels.specs.Going.{deeper}
 use Rattle.promotion_levels.specs.Kept as kept
 use Rattle.promotion_levels.specs.Descending.{Descends, Descended}
@@ -250,6 +253,10 @@ module _ {owners priorities offsets targets : List ℕ} (ok : Accepted (tablesOf
 
         entries1 : AttractedEntries g r (entryIn n m s w0) (entryIn n m s w1)
         entries1 = attracts-table g r (regionIn n m s priorities w0) (shown.agrees0 ok made shows) (c1 .attracts)
+
+        -- the regions before
+        abbrev T0 : ℕ → ℕ
+        T0 = regionIn n m s priorities w0
 
         -- R's heads
         head-is : (v : ℕ) → setAt n (levels + k * s + s + s) w1 v ≡ (heldIn n m s w1 v && eqb (getD priorities v 0) p)
@@ -481,11 +488,28 @@ module _ {owners priorities offsets targets : List ℕ} (ok : Accepted (tablesOf
                           (promoted.shows-promoted ok made shows ready2 agrees2 top2 won2 left2 closed entries1 fills2 (j - 1)
                           high-one c3)
 
-                -- **a dominion**
-                pub round-dominion : DominionReady owners offsets targets s held levels w2
+                -- **a dominion**: in level 0 nothing more may be drawn into R
+                whole-first : k ≤ 0 → (v : ℕ) → upTo (unsolved g T0) T0 p v ≡ levelIn n m s w2 0 v
+                whole-first none v =
+                    let at0 : depthIn n m s w0 ≡ 0 = omega (arith, k-is) in
+                    ap (λ (x : ℕ). upTo (unsolved g T0) T0 x v) (sym (shows .current) ∙ shows .top) ∙
+                    upTo-is owners priorities offsets targets (shows .ready .nests) v ∙
+                    ap (λ (j : ℕ). levelIn n m s w0 j v) at0 ∙
+                    sym (left2 v)
+
+                held2 : (v : ℕ) → heldIn n m s w1 v ≡ heldIn n m s w2 v
+                held2 v = sym (set-kept n (heldAt n m s) w1 w2 (λ i low high. same2 i (omega arith)) v)
+
+                shut2 : k ≤ 0 → Closed g (mover r) (levelIn n m s w2 0) (heldIn n m s w2) (heldIn n m s w2)
+                shut2 none =
+                    subst₂ (λ (V' R : Set). Closed g (mover r) V' R R) (fun-ext (whole-first none)) (fun-ext held2)
+                    (record { target = λ v i. i; attracted = c1 .attracts .certificate .closed .attracted })
+
+                pub round-dominion : DominionReady owners offsets targets s (parity current) k held levels w2
                 round-dominion =
-                    subst₂ (λ (h l : ℕ). DominionReady owners offsets targets s h l w2) (sym held-is) (sym levels-is)
-                    (solved.dominion-ready ok made shows ready2 agrees2 top2 won2 left2 closed entries1 fills2)
+                    subst (λ (x : ℕ). DominionReady owners offsets targets s (parity x) k held levels w2) (sym (shows .current))
+                    (subst₂ (λ (h l : ℕ). DominionReady owners offsets targets s (mover r) k h l w2) (sym held-is) (sym levels-is)
+                    (solved.dominion-ready ok made shows ready2 agrees2 top2 won2 left2 closed entries1 fills2 shut2))
 
                 module _ (none : j ≤ 0) {w3 : List ℕ}
                     (made3 : Dominated owners priorities offsets targets s current held levels w2 w3)

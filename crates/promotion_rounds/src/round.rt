@@ -66,7 +66,7 @@ pub fn round(
         after.current = higher;
         return after;
     }
-    solve_dominion(owners, offsets, targets, p, s, work, held, levels);
+    solve_dominion(owners, offsets, targets, p, s, work, held, levels, k);
     after.current = descend(priorities, m, s, work, held, levels, 0, Priority(TOP));
     after.unsolved = sets::size(&work[levels..levels + s]);
     after

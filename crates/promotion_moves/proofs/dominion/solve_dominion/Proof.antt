@@ -5,7 +5,7 @@ use Prim.Native.Nat.{ℕ}
 use Rattle.rules.specs.Game.{parity, playerOf}
 use Rattle.parity_game.specs.Said.{is}
 use Rattle.parity_game.specs.declared.player.Player.{Player}
-use Rattle.promotion_moves.specs.Dominion.{wonBehind, attract-ready, union-parts, difference-parts, dominated}
+use Rattle.promotion_moves.specs.Dominion.{wonBehind, draw-ready, union-parts, difference-parts, dominated}
 use borrow.Author.Needs.{needs}
 use Rattle.promotion_moves.proofs.dominion.solve_dominion.Statement.{statement}
 use Rattle.promotion_moves.proofs.dominion.solve_dominion.Tie as tie
@@ -14,14 +14,14 @@ use Rattle.promotion_moves.proofs.dominion.solve_dominion.Tie as tie
 abbrev begun : tie.After-index → tie.Start
 begun c = c .before .before .before .before .before .before
 
-abbrev first : tie.After-attract → tie.Start
+abbrev first : tie.After-draw-unsolved → tie.Start
 first c = begun (c .before .before)
 
-abbrev drawn : tie.At-match-came → tie.After-attract
+abbrev drawn : tie.At-match-came → tie.After-draw-unsolved
 drawn c = c .before .before .before
 
 -- the player who draws R in
-own : (c : tie.After-attract) → playerOf (c .before .before .index .result) ≡ parity (first c .args .p .0)
+own : (c : tie.After-draw-unsolved) → playerOf (c .before .before .index .result) ≡ parity (first c .args .p .0)
 own c = let named = c .before .before in named .index .ensures .0 ∙ named .before .from-priority .ensures
 
 -- the place of the set won
@@ -39,9 +39,11 @@ from-priority-requires c κs = search needs
 index-requires : tie.Need-index-requires
 index-requires c κs = search needs
 
-attract-requires : tie.Need-attract-requires
-attract-requires c κs =
-    let g = begun (c .before) in attract-ready (g .pre) (g .args .p .0) (c .before .index .ensures .1)
+draw-unsolved-requires : tie.Need-draw-unsolved-requires
+draw-unsolved-requires c κs =
+    let named = c .before in
+    let g = begun named in
+    draw-ready (g .args .p .0) (g .pre) (named .index .ensures .1) (named .index .ensures .0 ∙ named .before .from-priority .ensures)
 
 enum-told : tie.Need-enum-told
 enum-told c = search needs
@@ -63,8 +65,8 @@ union-with-requires c κs =
     let j = c .before in
     let d = drawn j in
     let g = first d in
-    union-parts (g .pre) (g .args .p .0) (g .pre .priorities) (g .pre .accepted) (own d)
-    (d .attract .ensures (g .pre .priorities) (g .pre .accepted)) (picked j)
+    union-parts (g .args .p .0) (g .pre) (g .pre .priorities) (g .pre .accepted) (own d)
+    (d .draw-unsolved .ensures (g .pre .priorities) (g .pre .accepted)) (picked j)
 
 difference-with-requires : tie.Need-difference-with-requires
 difference-with-requires c κs =
@@ -72,8 +74,8 @@ difference-with-requires c κs =
     let j = u .before .before in
     let d = drawn j in
     let g = first d in
-    difference-parts (g .pre) (g .args .p .0) (g .pre .priorities) (g .pre .accepted) (own d)
-    (d .attract .ensures (g .pre .priorities) (g .pre .accepted)) (picked j) (u .union-with .ensures)
+    difference-parts (g .args .p .0) (g .pre) (g .pre .priorities) (g .pre .accepted) (own d)
+    (d .draw-unsolved .ensures (g .pre .priorities) (g .pre .accepted)) (picked j) (u .union-with .ensures)
 
 same-length : tie.Need-same-length
 same-length c = search needs
@@ -85,7 +87,7 @@ returns c priorities ok =
     let j = u .before .before in
     let d = drawn j in
     let g = first d in
-    dominated (g .pre) (g .args .p .0) priorities ok (own d) (d .attract .ensures priorities ok) (picked j) (u .union-with .ensures)
+    dominated (g .args .p .0) (g .pre) priorities ok (own d) (d .draw-unsolved .ensures priorities ok) (picked j) (u .union-with .ensures)
     (f .difference-with .ensures)
 
 pub solve-dominion-spec : {M : Type 1} → statement M
@@ -94,7 +96,7 @@ solve-dominion-spec =
     (tie.spec
     from-priority-requires
     index-requires
-    attract-requires
+    draw-unsolved-requires
     enum-told
     add-won
     enum-told-2
