@@ -1,23 +1,20 @@
 -- The layers at first: the target stands in the first one, marked, and the second is empty, as are the words of those met.
 use mathlib.Core.Bool.{false}
-use mathlib.Core.List.{List, _++_}
+use mathlib.Core.List.{List}
 use mathlib.Core.Logic.{inl, inr, ⊎-elim}
-use mathlib.Core.Path.{_≡_, sym, ap, subst, fun-ext, _∙_}
-use Prim.Native.Nat.{ℕ, suc, _+_, _-_, _*_, _/_, _%_, _≤_, _<_}
+use mathlib.Core.Path.{_≡_, refl, sym, ap, subst, subst₂, _∙_}
+use Prim.Native.Nat.{ℕ, _+_, _-_, _*_, _%_, _^_, _≤_, _<_}
+use native.Mathlib.Decide.{ℕ-discrete}
 use native.Mathlib.Omega.{arith}
-use lib.Dec.{eqb}
-use lib.ListN.{length, getD, take, drop, length-take}
-use lib.Seq.{getD-take, getD-drop}
-use Rattle.rules.specs.Counting.{Set}
-use Rattle.rules.specs.Words.{digit, bit, setOf}
-use Rattle.basics.specs.Basics.{lt-or-ge}
-use Rattle.sets.specs.After.{Combined, Cleared, other}
-use Rattle.sets.specs.Laws.{bit-past, bit-take, bit-other, bit-drop}
-use Rattle.area.specs.Lent.{part-length, back, back-part, slice-alike}
-use Rattle.area.specs.Walked.{Beside}
-use Rattle.layer.specs.Layer.{LentLayer, Layer, WordsMarked, inLayer, room, marks}
-use Rattle.layer.specs.Laws.{layer-past, layer-bit, zeros-layer, unmarked-empty}
-use Rattle.attractor_look.specs.InAreaLaws.{Changes, back-changes}
+use lib.Bits.{bitOr}
+use lib.ListN.{length, getD, take, drop, set, length-set, length-take}
+use lib.Seq.{ext-getD, getD-take, getD-drop, getD-set-same, getD-set-other}
+use Rattle.rules.specs.Words.{setOf}
+use Rattle.area.specs.Lent.{part-length}
+use Rattle.area.specs.Walked.{Beside, wordOf}
+use Rattle.layer.specs.Layer.{LentLayer, Layer, inLayer, room, marks}
+use Rattle.layer.specs.Laws.{zeros-layer, unmarked-empty}
+use Rattle.attractor_begin.specs.Marking.{Marking, marking-none, marking-word, marking-zero, marking-layer}
 
 -- what `begin_layers` asks for: room for two layers and those met before the set
 pub record LayersBeginnable (first set s : ℕ) (work : List ℕ) : Type 0 where
@@ -39,118 +36,255 @@ pub record LayersBegun (first set s : ℕ) (before after : List ℕ) : Type 0 wh
   pub next-none : (u : ℕ) → inLayer (layerOf s (first + s + 1) after) u ≡ false
   pub unmet : (i : ℕ) → first + 2 * (s + 1) ≤ i → i < first + 2 * (s + 1) + s → getD after i 0 ≡ 0
 
+-- where the second layer and those met stand, and the words of all
+abbrev nextAt : ℕ → ℕ → ℕ
+nextAt first s = first + s + 1
+
+abbrev metAt : ℕ → ℕ → ℕ
+metAt first s = nextAt first s + s + 1
+
+abbrev roomFor : ℕ → ℕ
+roomFor s = 2 * (s + 1) + s
+
+-- ---- words that are stored
+
+-- a word stored in a part leaves those beside it
+stored-inside :
+    {at j : ℕ} (k place x : ℕ) (work : List ℕ) →
+    at ≤ place →
+    place < at + k →
+    Beside k at j →
+    getD (set work place x) j 0 ≡ getD work j 0
+stored-inside {at} {j} k place x work low high o =
+    getD-set-other work place j x 0 (λ e. ⊎-elim (λ l. omega arith) (λ l. omega arith) o)
+
+-- k words that stand at a place
+pub record Stand (at k : ℕ) (word : ℕ → ℕ) (work : List ℕ) : Type 0 where
+  pub is : (j : ℕ) → j < k → getD work (at + j) 0 ≡ word j
+
+-- they stay where another word is stored
+stored-beside :
+    {at k : ℕ} {word : ℕ → ℕ} {work : List ℕ} (place x : ℕ) →
+    Beside k at place →
+    Stand at k word work →
+    Stand at k word (set work place x)
+stored-beside {at} {k} {word} {work} place x o h =
+    record {
+      is = λ j l. getD-set-other work place (at + j) x 0 (λ e. ⊎-elim (λ b. omega arith) (λ b. omega arith) o) ∙ h .is j l;
+    }
+
+-- one word more
+stored-next :
+    {at k : ℕ} {word : ℕ → ℕ} {work : List ℕ} (x : ℕ) →
+    at + k < length work →
+    x ≡ word k →
+    Stand at k word work →
+    Stand at (k + 1) word (set work (at + k) x)
+stored-next {at} {k} {word} {work} x fits new h = record { is = λ j l. go j l (ℕ-discrete j k) }
+  where
+    go : (j : ℕ) → j < k + 1 → Dec (j ≡ k) → getD (set work (at + k) x) (at + j) 0 ≡ word j
+    go j l (yes e) =
+        ap (λ (i : ℕ). getD (set work (at + k) x) (at + i) 0) e ∙ getD-set-same work (at + k) x 0 fits ∙ new ∙ ap word (sym e)
+    go j l (no d) = getD-set-other work (at + k) (at + j) x 0 (λ e. d (omega arith)) ∙ h .is j (omega (arith, d))
+
+-- ---- one word after another
+
+-- so far: i words of the target with their marks, and as many of 0 in the second layer and of those met
+pub record Beginning (first target s i so-far : ℕ) (before work : List ℕ) : Type 0 where
+  pub within : i ≤ s
+  pub long : length work ≡ length before
+  pub rest : (j : ℕ) → Beside (roomFor s) first j → getD work j 0 ≡ getD before j 0
+  pub copied : Stand first i (wordOf target before) work
+  pub second : Stand (nextAt first s) i (λ j. 0) work
+  pub met : Stand (metAt first s) i (λ j. 0) work
+  pub marking : Marking (wordOf target before) so-far i
+
+pub beginning-none : {first target s : ℕ} {work : List ℕ} → Beginning first target s 0 0 work work
+beginning-none =
+    record {
+      within = omega arith;
+      long = refl;
+      rest = λ j o. refl;
+      copied = record { is = λ j l. absurd (omega arith) };
+      second = record { is = λ j l. absurd (omega arith) };
+      met = record { is = λ j l. absurd (omega arith) };
+      marking = marking-none;
+    }
+
+module _ {first target s i so-far : ℕ} {before work : List ℕ} (given : LayersBeginnable first target s before)
+    (b : Beginning first target s i so-far before work) (more : i < s)
+  where
+    -- the target's words are as they were
+    read : wordOf target work i ≡ wordOf target before i
+    read = b .rest (target + i) (inr (omega (arith, given .before-set)))
+
+    abbrev one : List ℕ
+    one = set work (first + i) (wordOf target work i)
+
+    abbrev two : List ℕ
+    two = set one (nextAt first s + i) 0
+
+    abbrev three : List ℕ
+    three = set two (metAt first s + i) 0
+
+    one-long : length one ≡ length before
+    one-long = length-set work (first + i) (wordOf target work i) ∙ b .long
+
+    two-long : length two ≡ length before
+    two-long = length-set one (nextAt first s + i) 0 ∙ one-long
+
+    more-words :
+        (so-far' : ℕ) →
+        Marking (wordOf target before) so-far' (i + 1) →
+        Beginning first target s (i + 1) so-far' before three
+    more-words so-far' marking =
+        record {
+          within = omega arith;
+          long = length-set two (metAt first s + i) 0 ∙ two-long;
+          rest =
+              λ j o.
+              stored-inside (roomFor s) (metAt first s + i) 0 two (omega arith) (omega arith) o ∙
+              stored-inside (roomFor s) (nextAt first s + i) 0 one (omega arith) (omega arith) o ∙
+              stored-inside (roomFor s) (first + i) (wordOf target work i) work (omega arith) (omega arith) o ∙
+              b .rest j o;
+          copied =
+              stored-beside (metAt first s + i) 0 (inr (omega arith))
+              (stored-beside (nextAt first s + i) 0 (inr (omega arith))
+              (stored-next (wordOf target work i) (omega (arith, b .long, given .before-set, given .high)) read (b .copied)));
+          second =
+              stored-beside (metAt first s + i) 0 (inr (omega arith))
+              (stored-next 0 (omega (arith, one-long, given .before-set, given .high)) refl
+              (stored-beside (first + i) (wordOf target work i) (inl (omega arith)) (b .second)));
+          met =
+              stored-next 0 (omega (arith, two-long, given .before-set, given .high)) refl
+              (stored-beside (nextAt first s + i) 0 (inl (omega arith))
+              (stored-beside (first + i) (wordOf target work i) (inl (omega arith)) (b .met)));
+          marking = marking;
+        }
+
+    pub more-some :
+        (wordOf target work i ≡ 0 → ⊥) → Beginning first target s (i + 1) (bitOr so-far ((1 * 2 ^ i) % 2 ^ 64)) before three
+    more-some some =
+        more-words _ (marking-word (omega (arith, given .few)) (b .marking) (λ z. some (read ∙ z)))
+
+    pub more-none : wordOf target work i ≡ 0 → Beginning first target s (i + 1) so-far before three
+    more-none none = more-words _ (marking-zero (omega (arith, given .few)) (b .marking) (sym read ∙ none))
+
+-- ---- all words are passed
+
 -- a word of a part
 part-word : (k base i : ℕ) (work : List ℕ) → i < k → getD (take k (drop base work)) i 0 ≡ getD work (base + i) 0
 part-word k base i work l = getD-take k (drop base work) i 0 l ∙ getD-drop base work i 0
 
-of-bit : (xs ys : List ℕ) (u : ℕ) → bit xs u ≡ bit ys u → setOf xs u ≡ setOf ys u
-unfolding setOf
-of-bit xs ys u e = ap (λ (x : ℕ). eqb x 1) e
-
-module _ (first set s : ℕ) (work : List ℕ) (given : LayersBeginnable first set s work)
-    (copied : List ℕ) (copy : Combined other first set s work copied)
+module _ {first target s so-far : ℕ} {before work : List ℕ} (given : LayersBeginnable first target s before)
+    (b : Beginning first target s s so-far before work)
   where
-    fits : first + (s + 1) ≤ length copied
-    fits = omega (arith, copy .long, given .before-set, given .high)
+    abbrev marked : List ℕ
+    marked = set work (first + s) so-far
 
-    abbrev lent : List ℕ
-    lent = take ((first + s + 1) - first) (drop first copied)
+    abbrev after : List ℕ
+    after = set marked (nextAt first s + s) 0
 
-    lent-is : lent ≡ layerOf s first copied
-    lent-is = ap (λ (k : ℕ). take k (drop first copied)) cancels
+    marked-long : length marked ≡ length before
+    marked-long = length-set work (first + s) so-far ∙ b .long
+
+    after-long : length after ≡ length before
+    after-long = length-set marked (nextAt first s + s) 0 ∙ marked-long
+
+    abbrev layer : List ℕ
+    layer = layerOf s first after
+
+    abbrev next-layer : List ℕ
+    next-layer = layerOf s (nextAt first s) after
+
+    layer-long : length layer ≡ s + 1
+    layer-long = part-length first (s + 1) after (omega (arith, after-long, given .before-set, given .high))
+
+    next-long : length next-layer ≡ s + 1
+    next-long = part-length (nextAt first s) (s + 1) after (omega (arith, after-long, given .before-set, given .high))
+
+    lent : (xs : List ℕ) → length xs ≡ s + 1 → LentLayer xs
+    lent xs long = record { some = omega arith; few = omega (arith, given .few) }
+
+    -- the first layer's words, and its marks
+    layer-word : (j : ℕ) → j < s → getD layer j 0 ≡ wordOf target before j
+    layer-word j l = part-word (s + 1) first j after (omega arith) ∙ stays .is j l
       where
-        cancels : (first + s + 1) - first ≡ s + 1
-        cancels = omega arith
+        stays : Stand first s (wordOf target before) after
+        stays =
+            stored-beside (nextAt first s + s) 0 (inr (omega arith))
+            (stored-beside (first + s) so-far (inr (omega arith)) (b .copied))
 
-    lent-long : length (layerOf s first copied) ≡ s + 1
-    lent-long = part-length first (s + 1) copied fits
+    layer-room : room layer ≡ s
+    layer-room = omega (arith, layer-long)
 
-    pub mark-ready : LentLayer lent
-    mark-ready = subst LentLayer (sym lent-is) (record { some = omega (arith, lent-long); few = omega (arith, lent-long, given .few) })
+    layer-marks : marks layer ≡ so-far
+    layer-marks =
+        ap (λ (k : ℕ). getD layer k 0) layer-room ∙
+        part-word (s + 1) first s after (omega arith) ∙
+        getD-set-other marked (nextAt first s + s) (first + s) 0 0 (λ e. omega arith) ∙
+        getD-set-same work (first + s) so-far 0 (omega (arith, b .long, given .before-set, given .high))
 
-    module _ (ys : List ℕ) (mark' : WordsMarked lent ys) where
-      mark : WordsMarked (layerOf s first copied) ys
-      mark = subst (λ (xs : List ℕ). WordsMarked xs ys) lent-is mark'
+    layer-set : take (room layer) layer ≡ take s (drop target before)
+    layer-set =
+        ext-getD 0 (take (room layer) layer) (take s (drop target before))
+        (long ∙ sym (part-length target s before (given .high)))
+        (λ j l.
+        let less : j < s = omega (arith, long) in
+        getD-take (room layer) layer j 0 (omega (arith, layer-room)) ∙
+        layer-word j less ∙
+        sym (part-word s target j before less))
+      where
+        long : length (take (room layer) layer) ≡ s
+        long = omega (arith, length-take (room layer) layer, layer-long)
 
-      ys-long : length ys ≡ s + 1
-      ys-long = mark .long ∙ lent-long
+    -- the second layer's words and its marks
+    next-word : (j : ℕ) → j < s + 1 → getD next-layer j 0 ≡ 0
+    next-word j l = part-word (s + 1) (nextAt first s) j after l ∙ cleared .is j l
+      where
+        cleared : Stand (nextAt first s) (s + 1) (λ j. 0) after
+        cleared =
+            stored-next 0 (omega (arith, marked-long, given .before-set, given .high)) refl
+            (stored-beside (first + s) so-far (inl (omega arith)) (b .second))
 
-      abbrev marked : List ℕ
-      marked = take first copied ++ (ys ++ drop ((first + s + 1) - first) (drop first copied))
+    next-blank : Layer next-layer
+    next-blank = zeros-layer next-layer (lent next-layer next-long) (λ j l. next-word j (omega (arith, next-long)))
 
-      is-back : marked ≡ back first (s + 1) copied ys
-      is-back = ap (λ (k : ℕ). take first copied ++ (ys ++ drop k (drop first copied))) one-more
-        where
-          one-more : (first + s + 1) - first ≡ (first + (s + 1)) - first
-          one-more = omega arith
+    -- those met
+    met-word : (j : ℕ) → j < s → getD after (metAt first s + j) 0 ≡ 0
+    met-word j l = stays .is j l
+      where
+        stays : Stand (metAt first s) s (λ j. 0) after
+        stays =
+            stored-beside (nextAt first s + s) 0 (inl (omega arith))
+            (stored-beside (first + s) so-far (inl (omega arith)) (b .met))
 
-      marked-changes : Changes first (s + 1) copied marked
-      marked-changes = subst (Changes first (s + 1) copied) (sym is-back) (back-changes first (s + 1) copied ys fits ys-long)
+    all-begun : LayersBegun first target s before after
+    all-begun =
+        record {
+          long = after-long;
+          rest =
+              λ j o.
+              stored-inside (roomFor s) (nextAt first s + s) 0 marked (omega arith) (omega arith) o ∙
+              stored-inside (roomFor s) (first + s) so-far work (omega arith) (omega arith) o ∙
+              b .rest j o;
+          layer =
+              marking-layer layer (lent layer layer-long) (λ j l. layer-word j (omega (arith, layer-room)))
+              (subst₂ (Marking (wordOf target before)) (sym layer-marks) (sym layer-room) (b .marking));
+          is = ap setOf layer-set;
+          next-layer = next-blank;
+          next-none = unmarked-empty next-layer next-blank (next-word (room next-layer) (omega (arith, next-long)));
+          unmet =
+              λ j low high.
+              let place : j ≡ metAt first s + (j - metAt first s) = omega arith in
+              ap (λ (k : ℕ). getD after k 0) place ∙ met-word (j - metAt first s) (omega arith);
+        }
 
-      marked-layer : layerOf s first marked ≡ ys
-      marked-layer = ap (λ (l : List ℕ). layerOf s first l) is-back ∙ back-part first (s + 1) copied ys fits ys-long
-
-      pub clear-ready : first + s + 1 + (s + 1 + s) ≤ length marked
-      clear-ready = omega (arith, marked-changes .long, copy .long, given .before-set, given .high)
-
-      module _ (after : List ℕ) (clear : Cleared (first + s + 1) (s + 1 + s) marked after) where
-        first-layer : layerOf s first after ≡ ys
-        first-layer =
-            slice-alike (s + 1) first marked after (clear .long) (λ i l. clear .rest (first + i) (inl (omega arith))) ∙
-            marked-layer
-
-        second-zero : (i : ℕ) → i < s + 1 → getD (layerOf s (first + s + 1) after) i 0 ≡ 0
-        second-zero i l =
-            part-word (s + 1) (first + s + 1) i after l ∙ clear .zeros (first + s + 1 + i) (omega arith) (omega arith)
-
-        second-long : length (layerOf s (first + s + 1) after) ≡ s + 1
-        second-long = part-length (first + s + 1) (s + 1) after (omega (arith, clear .long, clear-ready))
-
-        second-layer : Layer (layerOf s (first + s + 1) after)
-        second-layer =
-            zeros-layer (layerOf s (first + s + 1) after)
-            (record { some = omega (arith, second-long); few = omega (arith, second-long, given .few) })
-            (λ i l. second-zero i (omega (arith, second-long)))
-
-        -- a bit of the first layer is the target's
-        same-bit : (u : ℕ) → u < 64 * s → bit ys u ≡ bit (drop set work) u
-        unfolding bit
-        same-bit u l =
-            ap (λ (x : ℕ). digit x (u % 64))
-            (mark .same (u / 64) (omega (arith, lent-long)) ∙
-            part-word (s + 1) first (u / 64) copied (omega arith) ∙
-            sym (getD-drop first copied (u / 64) 0)) ∙
-            copy .bits u l
-
-        same-set : (u : ℕ) → inLayer ys u ≡ setOf (take s (drop set work)) u
-        same-set u = ⊎-elim inside past (lt-or-ge u (64 * s))
-          where
-            inside : u < 64 * s → inLayer ys u ≡ setOf (take s (drop set work)) u
-            inside l =
-                layer-bit ys u (omega (arith, ys-long)) ∙ of-bit ys (take s (drop set work)) u (same-bit u l ∙ sym (bit-take s
-                (drop set work) u l))
-
-            past : 64 * s ≤ u → inLayer ys u ≡ setOf (take s (drop set work)) u
-            past l =
-                layer-past ys u (omega (arith, ys-long)) ∙
-                sym
-                (bit-other (take s (drop set work)) u
-                (bit-past (take s (drop set work)) u (omega (arith, length-take s (drop set work)))))
-
-        pub layers-begun : LayersBegun first set s work after
-        layers-begun =
-            record {
-              long = clear .long ∙ marked-changes .long ∙ copy .long;
-              rest =
-                  λ i o.
-                  clear .rest i (⊎-elim (λ l. inl (omega arith)) (λ l. inr (omega arith)) o) ∙
-                  marked-changes .rest i (⊎-elim (λ l. inl (omega arith)) (λ l. inr (omega arith)) o) ∙
-                  copy .rest i (⊎-elim (λ l. inl (omega arith)) (λ l. inr (omega arith)) o);
-              layer = subst Layer (sym first-layer) (mark .layer);
-              is = ap inLayer first-layer ∙ fun-ext same-set;
-              next-layer = second-layer;
-              next-none =
-                  unmarked-empty (layerOf s (first + s + 1) after) second-layer
-                  (second-zero (room (layerOf s (first + s + 1) after)) (omega (arith, second-long)));
-              unmet = λ i low high. clear .zeros i (omega arith) (omega arith);
-            }
+pub layers-begun :
+    {first target s i so-far : ℕ} {before work : List ℕ} →
+    LayersBeginnable first target s before →
+    Beginning first target s i so-far before work →
+    s ≤ i →
+    LayersBegun first target s before (set (set work (first + s) so-far) (nextAt first s + s) 0)
+layers-begun {first} {target} {s} {i} {so-far} {before} {work} given b done =
+    all-begun given (subst (λ (k : ℕ). Beginning first target s k so-far before work) (omega (arith, b .within)) b)

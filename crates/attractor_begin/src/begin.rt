@@ -1,13 +1,23 @@
 // The layers at first: the target is the one that is taken first, none is found yet, and no vertex was met. Those met
-// stand behind the layers, so that one pass clears both.
-use layer::marked::mark;
+// stand behind the layers.
 ghost use Rattle.attractor_begin.specs.LayersBegin.{LayersBeginnable, LayersBegun};
 
 pub fn begin_layers(work: &mut [u64], first: usize, set: usize, s: usize)
     requires { ⌜ LayersBeginnable first set s (now work) ⌝ }
     ensures { λ _. ⌜ LayersBegun first set s (now (work .entry)) (now (work .exit)) ⌝ }
 {
-    sets::copy_with(work, first, set, s);
-    mark(&mut work[first..first + s + 1]);
-    sets::clear(work, first + s + 1, s + 1 + s);
+    let second = first + s + 1;
+    let met = second + s + 1;
+    let mut marks: u64 = 0;
+    for i in 0..s {
+        let word = work[set + i];
+        work[first + i] = word;
+        work[second + i] = 0;
+        work[met + i] = 0;
+        if word != 0 {
+            marks |= 1u64 << i;
+        }
+    }
+    work[first + s] = marks;
+    work[second + s] = 0;
 }

@@ -18,14 +18,14 @@ use Rattle.sets.specs.Laws.{bit-past, bit-take, bit-other, put-set}
 use Rattle.sets.specs.Single.{digit-insert, put-insert}
 use Rattle.layer.specs.Lowest.{others, lowestOf, others-higher, others-same, below-lowest, lowest-small, lowest-set}
 use Rattle.layer.specs.Lowest.{inWord, in-word, off-word}
-use Rattle.layer.specs.Layer.{room, marks, inLayer, LentLayer, Layer, WordsMarked, Addable, Added, Poppable, Popped}
+use Rattle.layer.specs.Layer.{room, marks, inLayer, LentLayer, Layer, Addable, Added, Poppable, Popped}
 
 -- ---- members by their words
 
-pub layer-past : (xs : List ℕ) (u : ℕ) → 64 * room xs ≤ u → inLayer xs u ≡ false
+layer-past : (xs : List ℕ) (u : ℕ) → 64 * room xs ≤ u → inLayer xs u ≡ false
 layer-past xs u h = bit-other (take (room xs) xs) u (bit-past (take (room xs) xs) u (omega (arith, length-take (room xs) xs)))
 
-pub layer-bit : (xs : List ℕ) (u : ℕ) → u < 64 * room xs → inLayer xs u ≡ setOf xs u
+layer-bit : (xs : List ℕ) (u : ℕ) → u < 64 * room xs → inLayer xs u ≡ setOf xs u
 unfolding setOf
 layer-bit xs u h = ap (λ (x : ℕ). eqb x 1) (bit-take (room xs) xs u h)
 
@@ -280,89 +280,6 @@ module _ (xs : List ℕ) (given : Poppable xs) (marks-fit : marks xs < 2 ^ 64) w
           less-there j l d ∙
           given .layer .blank j l
           (sym (others-same (marks xs) marks-fit (given .some) j (omega (arith, given .layer .lent .few)) d) ∙ e)
-
--- ---- marks for words that stand there
-
--- the digits below i say which of the first i words are not 0, and there are no others
-pub record Marking (xs : List ℕ) (so-far i : ℕ) : Type 0 where
-  pub high : i ≤ room xs
-  pub marked : (j : ℕ) → j < 64 → digit so-far j ≡ 1 → (j < i) × (getD xs j 0 ≡ 0 → ⊥)
-  pub blank : (j : ℕ) → j < i → digit so-far j ≡ 0 → getD xs j 0 ≡ 0
-
-pub marking-none : (xs : List ℕ) → Marking xs 0 0
-marking-none xs =
-    record {
-      high = omega arith;
-      marked = λ j l e. absurd (let z = digit-zero j in omega arith);
-      blank = λ j l e. absurd (omega arith);
-    }
-
-module _ (xs : List ℕ) (so-far i : ℕ) (lent : LentLayer xs) (c : Marking xs so-far i) (more : i < room xs) where
-  pub marking-word : (getD xs i 0 ≡ 0 → ⊥) → Marking xs (bitOr so-far ((1 * 2 ^ i) % 2 ^ 64)) (i + 1)
-  marking-word some =
-      record {
-        high = omega arith;
-        marked = λ j l e. marked-at j l (sym (digit-insert so-far i j small) ∙ e) (ℕ-discrete j i);
-        blank = λ j l e. blank-at j l (sym (digit-insert so-far i j small) ∙ e) (ℕ-discrete j i);
-      }
-    where
-      small : i < 64
-      small = omega (arith, lent .few)
-
-      marked-at : (j : ℕ) → j < 64 → cond (eqb j i) 1 (digit so-far j) ≡ 1 → Dec (j ≡ i) → (j < i + 1) × (getD xs j 0 ≡ 0 → ⊥)
-      marked-at j l e (yes is) = (omega arith, λ z. some (ap (λ (k : ℕ). getD xs k 0) (sym is) ∙ z))
-      marked-at j l e (no d) =
-          let (below, old) = c .marked j l (ap (λ (b : Bool). cond b 1 (digit so-far j)) (sym (ne-eqb j i d)) ∙ e) in
-          (omega arith, old)
-
-      blank-at : (j : ℕ) → j < i + 1 → cond (eqb j i) 1 (digit so-far j) ≡ 0 → Dec (j ≡ i) → getD xs j 0 ≡ 0
-      blank-at j l e (yes is) =
-          absurd (let one = ap (λ (b : Bool). cond b 1 (digit so-far j)) (sym (eq-eqb j i is)) ∙ e in omega arith)
-      blank-at j l e (no d) =
-          c .blank j (omega (arith, d)) (ap (λ (b : Bool). cond b 1 (digit so-far j)) (sym (ne-eqb j i d)) ∙ e)
-
-  pub marking-zero : getD xs i 0 ≡ 0 → Marking xs so-far (i + 1)
-  marking-zero none =
-      record {
-        high = omega arith;
-        marked = λ j l e. let (below, some) = c .marked j l e in (omega arith, some);
-        blank = λ j l e. blank-at j l e (ℕ-discrete j i);
-      }
-    where
-      blank-at : (j : ℕ) → j < i + 1 → digit so-far j ≡ 0 → Dec (j ≡ i) → getD xs j 0 ≡ 0
-      blank-at j l e (yes is) = ap (λ (k : ℕ). getD xs k 0) is ∙ none
-      blank-at j l e (no d) = c .blank j (omega (arith, d)) e
-
--- all words are passed
-pub marking-all :
-    (xs : List ℕ) (so-far i : ℕ) → LentLayer xs → Marking xs so-far i → room xs ≤ i → WordsMarked xs (set xs (room xs) so-far)
-marking-all xs so-far i lent c done =
-    record {
-      long = long;
-      same = there;
-      layer =
-          record {
-            lent = record { some = omega (arith, long, lent .some); few = omega (arith, long, lent .few) };
-            marked =
-                λ j l e.
-                let (below, some) = c .marked j l (ap (λ (x : ℕ). digit x j) (sym new-marks) ∙ e) in
-                (omega (arith, long, c .high), λ z. some (sym (there j (omega (arith, c .high))) ∙ z));
-            blank =
-                λ j l e.
-                there j (omega (arith, long)) ∙ c .blank j (omega (arith, long)) (ap (λ (x : ℕ). digit x j) (sym new-marks) ∙ e);
-          };
-    }
-  where
-    long : length (set xs (room xs) so-far) ≡ length xs
-    long = length-set xs (room xs) so-far
-
-    there : (j : ℕ) → j < room xs → getD (set xs (room xs) so-far) j 0 ≡ getD xs j 0
-    there j l = getD-set-other xs (room xs) j so-far 0 (λ e. omega arith)
-
-    new-marks : marks (set xs (room xs) so-far) ≡ so-far
-    new-marks =
-        ap (λ (k : ℕ). getD (set xs (room xs) so-far) (k - 1) 0) long ∙
-        getD-set-same xs (room xs) so-far 0 (omega (arith, lent .some))
 
 -- ---- for callers
 

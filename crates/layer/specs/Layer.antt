@@ -33,12 +33,6 @@ pub record Layer (xs : List ℕ) : Type 0 where
   pub marked : (i : ℕ) → i < 64 → digit (marks xs) i ≡ 1 → (i < room xs) × (getD xs i 0 ≡ 0 → ⊥)
   pub blank : (i : ℕ) → i < room xs → digit (marks xs) i ≡ 0 → getD xs i 0 ≡ 0
 
--- after `mark`: the set as it was, with right marks
-pub record WordsMarked (before after : List ℕ) : Type 0 where
-  pub long : length after ≡ length before
-  pub same : (i : ℕ) → i < room before → getD after i 0 ≡ getD before i 0
-  pub layer : Layer after
-
 pub record Addable (v : ℕ) (xs : List ℕ) : Type 0 where
   pub layer : Layer xs
   pub small : v < 64 * room xs

@@ -1,25 +1,10 @@
-// The operations on a layer: marks for words that stand there, one member more, the lowest word out.
-ghost use Rattle.layer.specs.Layer.{LentLayer, WordsMarked, Addable, Added, Poppable, Popped};
+// The operations on a layer: one member more, the lowest word out.
+ghost use Rattle.layer.specs.Layer.{Addable, Added, Poppable, Popped};
 
 // A word of a set, and which one it is.
 pub struct Word {
     pub at: usize,
     pub word: u64,
-}
-
-// The last word comes to say which of the others are not 0.
-pub fn mark(layer: &mut [u64])
-    requires { ⌜ LentLayer (now layer) ⌝ }
-    ensures { λ _. ⌜ WordsMarked (now (layer .entry)) (now (layer .exit)) ⌝ }
-{
-    let s = layer.len() - 1;
-    let mut marks: u64 = 0;
-    for i in 0..s {
-        if layer[i] != 0 {
-            marks |= 1u64 << i;
-        }
-    }
-    layer[s] = marks;
 }
 
 // v comes in.

@@ -1,86 +1,145 @@
--- `begin_layers` meets its contract: the copy, its marks, and an empty second layer.
-use mathlib.Core.Logic.{inl}
+-- `begin_layers` meets its contract. The invariant: so far the first i words, with their marks.
+use Prim.Native.Nat.{_-_}
+use mathlib.Core.Logic.{⊎-elim}
 use native.Mathlib.Omega.{arith}
+use lib.ListN.{length-set}
 use borrow.Author.Needs.{needs}
-use Rattle.attractor_begin.specs.LayersBegin.{mark-ready, clear-ready, layers-begun}
+use Rattle.attractor_begin.specs.LayersBegin.{Beginning, beginning-none, more-some, more-none, layers-begun}
 use Rattle.attractor_begin.proofs.begin.begin_layers.Statement.{statement}
 use Rattle.attractor_begin.proofs.begin.begin_layers.Tie as tie
 
-copy-with-requires : tie.Need-copy-with-requires
-copy-with-requires c κs =
-    let g = c .before .before .pre in
-    record {
-      into-fits = omega (arith, g .before-set, g .high);
-      from-fits = g .high;
-      apart = inl (omega (arith, g .before-set));
-    }
+abbrev Inv-loop : tie.InvT-loop
+Inv-loop work₀ first set s second met marks₀ i₀ work marks i = Beginning first set s i marks work₀ work
 
-add-mark : tie.Need-add-mark
-add-mark c = search needs
+abbrev μ-loop : tie.MeasureT-loop
+μ-loop work₀ first set s second met marks₀ i₀ work marks i = s - i
 
-add-mark-2 : tie.Need-add-mark-2
-add-mark-2 c = search needs
+add-second : tie.Need-add-second Inv-loop μ-loop
+add-second c = search needs
 
-mul-mark : tie.Need-mul-mark
-mul-mark c = search needs
+add-second-2 : tie.Need-add-second-2 Inv-loop μ-loop
+add-second-2 c = search needs
 
-sub-mark : tie.Need-sub-mark
-sub-mark c = search needs
+add-met : tie.Need-add-met Inv-loop μ-loop
+add-met c = search needs
 
-part-mark-start : tie.Need-part-mark-start
-part-mark-start c = search needs
+add-met-2 : tie.Need-add-met-2 Inv-loop μ-loop
+add-met-2 c = search needs
 
-part-mark-end : tie.Need-part-mark-end
-part-mark-end c = search needs
+loop-holds : tie.Need-loop-holds Inv-loop μ-loop
+loop-holds c = beginning-none
 
-mark-requires : tie.Need-mark-requires
-mark-requires c κs = search needs
+add-word : tie.Need-add-word Inv-loop μ-loop
+add-word c = search needs
 
-add-clear : tie.Need-add-clear
-add-clear c = search needs
+mul-word : tie.Need-mul-word Inv-loop μ-loop
+mul-word c = search needs
 
-add-clear-2 : tie.Need-add-clear-2
-add-clear-2 c = search needs
+slice-read-word : tie.Need-slice-read-word Inv-loop μ-loop
+slice-read-word c = search needs
 
-add-clear-3 : tie.Need-add-clear-3
-add-clear-3 c = search needs
+add-work : tie.Need-add-work Inv-loop μ-loop
+add-work c = search needs
 
-add-clear-4 : tie.Need-add-clear-4
-add-clear-4 c = search needs
+mul-work : tie.Need-mul-work Inv-loop μ-loop
+mul-work c = search needs
 
-clear-requires : tie.Need-clear-requires
-clear-requires c κs = search needs
+slice-write-work : tie.Need-slice-write-work Inv-loop μ-loop
+slice-write-work c = search needs
 
-same-length : tie.Need-same-length
+add-work-2 : tie.Need-add-work-2 Inv-loop μ-loop
+add-work-2 c = search needs
+
+mul-work-2 : tie.Need-mul-work-2 Inv-loop μ-loop
+mul-work-2 c = search needs
+
+slice-write-work-2 : tie.Need-slice-write-work-2 Inv-loop μ-loop
+slice-write-work-2 c = simp length-set (omega arith)
+
+add-work-3 : tie.Need-add-work-3 Inv-loop μ-loop
+add-work-3 c = search needs
+
+mul-work-3 : tie.Need-mul-work-3 Inv-loop μ-loop
+mul-work-3 c = search needs
+
+slice-write-work-3 : tie.Need-slice-write-work-3 Inv-loop μ-loop
+slice-write-work-3 c = simp length-set (omega arith)
+
+shl-marks : tie.Need-shl-marks Inv-loop μ-loop
+shl-marks c = search needs
+
+add-i : tie.Need-add-i Inv-loop μ-loop
+add-i c = search needs
+
+loop-less : tie.Need-loop-less Inv-loop μ-loop
+loop-less c = search needs
+
+loop-again : tie.Need-loop-again Inv-loop μ-loop
+loop-again c =
+    let d = c .before .before in
+    let g = d .before .before in
+    let l = d .before .loop in
+    ⊎-elim
+    (λ y. rw (y .1) (more-some (g .pre) (l .inv) (d .loop-test .taken) (y .0 .taken)))
+    (λ y. rw (y .1) (more-none (g .pre) (l .inv) (d .loop-test .taken) (y .0 .left)))
+    (c .if1 .came)
+
+add-work-4 : tie.Need-add-work-4 Inv-loop μ-loop
+add-work-4 c = search needs
+
+mul-work-4 : tie.Need-mul-work-4 Inv-loop μ-loop
+mul-work-4 c = search needs
+
+slice-write-work-4 : tie.Need-slice-write-work-4 Inv-loop μ-loop
+slice-write-work-4 c = search needs
+
+add-work-5 : tie.Need-add-work-5 Inv-loop μ-loop
+add-work-5 c = search needs
+
+mul-work-5 : tie.Need-mul-work-5 Inv-loop μ-loop
+mul-work-5 c = search needs
+
+slice-write-work-5 : tie.Need-slice-write-work-5 Inv-loop μ-loop
+slice-write-work-5 c = simp length-set (omega arith)
+
+same-length : tie.Need-same-length Inv-loop μ-loop
 same-length c = search needs
 
-returns : tie.Need-returns
-returns c =
-    let e = c .before .before in
-    let k = e .before .before .before .before in
-    let o = k .before .before .before .before in
-    let g = o .before .before .before in
-    let a = g .args in
-    layers-begun (a .first) (a .set) (a .s) (a .work .now) (g .pre) (o .copy-with .last .0) (o .copy-with .ensures)
-    (k .mark .last .0)
-    (k .mark .ensures) (e .clear .last .0) (e .clear .ensures)
+returns : tie.Need-returns Inv-loop μ-loop
+returns c = layers-begun (c .before .before .pre) (c .before .loop .inv) (c .loop-test .left)
 
 pub begin-layers-spec : {M : Type 1} → statement M
 begin-layers-spec =
     tie.close
     (tie.spec
-    copy-with-requires
-    add-mark
-    add-mark-2
-    mul-mark
-    sub-mark
-    part-mark-start
-    part-mark-end
-    mark-requires
-    add-clear
-    add-clear-2
-    add-clear-3
-    add-clear-4
-    clear-requires
+    Inv-loop
+    μ-loop
+    add-second
+    add-second-2
+    add-met
+    add-met-2
+    loop-holds
+    add-word
+    mul-word
+    slice-read-word
+    add-work
+    mul-work
+    slice-write-work
+    add-work-2
+    mul-work-2
+    slice-write-work-2
+    add-work-3
+    mul-work-3
+    slice-write-work-3
+    shl-marks
+    add-i
+    loop-less
+    loop-again
+    add-work-4
+    mul-work-4
+    slice-write-work-4
+    add-work-5
+    mul-work-5
+    slice-write-work-5
     same-length
     returns)
