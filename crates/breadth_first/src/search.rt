@@ -15,7 +15,8 @@ pub fn spread(
     work: &mut [u64],
     begun: usize,
 )
-    requires { ⌜ QueueStanding (graph (now priorities) (now offsets) (now targets) (now entries) p) (now work) 0 begun ⌝ }
+    requires { ⌜ QueueStanding (graph (now priorities) (now offsets) (now targets) (now entries) p) (now work) 0
+        begun ⌝ }
     ensures { λ _.
         ⌜ Spread (graph (now (priorities .entry)) (now (offsets .entry)) (now (targets .entry))
         (now (entries .entry)) p)

@@ -1,5 +1,5 @@
-// The new number of each priority that is used, the lowest and fewest numbers that keep order, not strictly, and parity;
-// and a table written by them. The rule itself is in `next_number` alone.
+// The new number of each priority that is used, the lowest and fewest numbers that keep order, not strictly, and
+// parity; and a table written by them. The rule itself is in `next_number` alone.
 use parity_game::PRIORITIES;
 ghost use mathlib.Core.List.{map};
 ghost use mathlib.Core.Path.{_≡_};

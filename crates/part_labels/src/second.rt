@@ -18,8 +18,8 @@ fn find_part(
 )
     requires { ⌜ Findable (graph (now priorities) (now offsets) (now targets) (now entries) p) (now work) r ⌝ }
     ensures { λ _.
-        ⌜ PartFound (graph (now (priorities .entry)) (now (offsets .entry)) (now (targets .entry)) (now (entries .entry)) p)
-        (now (work .entry)) r (now (work .exit)) ⌝ }
+        ⌜ PartFound (graph (now (priorities .entry)) (now (offsets .entry)) (now (targets .entry))
+        (now (entries .entry)) p) (now (work .entry)) r (now (work .exit)) ⌝ }
 {
     let rows = Rows {
         n: priorities.len(),

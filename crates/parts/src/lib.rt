@@ -20,8 +20,8 @@ pub fn mark_within(
     work: &mut [u64],
     base: usize,
 )
-    requires { ⌜ PartsMarkable (graph (now priorities) (now offsets) (now targets) (now entries) (top .0)) (now work) base ×
-        (top .0 < 256) ⌝ }
+    requires { ⌜ PartsMarkable (graph (now priorities) (now offsets) (now targets) (now entries) (top .0)) (now work)
+        base × (top .0 < 256) ⌝ }
     ensures { λ _.
         ⌜ PartsMarked (graph (now (priorities .entry)) (now (offsets .entry)) (now (targets .entry))
         (now (entries .entry)) (top .0))

@@ -7,7 +7,8 @@ ghost use Rattle.rules.specs.Game.{parity, playerOf};
 ghost use Rattle.rules.specs.Tables.{Accepted, tablesOf};
 ghost use Rattle.promotion_moves.specs.Dominion.{DominionReady, DrawReady, DrawnIn, Dominated};
 
-// What R, at `held`, attracts among the unsolved vertices, which are level 0, comes to it. In level 0 it is drawn in already.
+// What R, at `held`, attracts among the unsolved vertices, which are level 0, comes to it. In level 0 it is drawn in
+// already.
 fn draw_unsolved(
     owners: &[u8],
     offsets: &[u16],

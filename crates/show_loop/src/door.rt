@@ -26,11 +26,11 @@ fn run(
     cycle: &mut [u16],
     work: &mut [u64],
 ) -> Lengths
-    requires { ⌜ LoopRunnable (tablesOf (now owners) (now priorities) (now offsets) (now targets)) v (now path) (now cycle)
-        (now work) × (now kept ≡ freshCount (now priorities)) ⌝ }
+    requires { ⌜ LoopRunnable (tablesOf (now owners) (now priorities) (now offsets) (now targets)) v (now path)
+        (now cycle) (now work) × (now kept ≡ freshCount (now priorities)) ⌝ }
     ensures { λ r.
-        ⌜ LoopRan (tablesOf (now (owners .entry)) (now (priorities .entry)) (now (offsets .entry)) (now (targets .entry))) v
-        (now (work .entry)) (now (work .exit)) (now (path .entry)) (now (path .exit))
+        ⌜ LoopRan (tablesOf (now (owners .entry)) (now (priorities .entry)) (now (offsets .entry))
+        (now (targets .entry))) v (now (work .entry)) (now (work .exit)) (now (path .entry)) (now (path .exit))
         (now (cycle .entry)) (now (cycle .exit)) (r .path) (r .cycle) ⌝ }
 {
     let owner = sole_owner(owners);

@@ -25,8 +25,8 @@ fn run(
     set: &mut [u64],
     work: &mut [u64],
 )
-    requires { ⌜ SolitaireRunnable (tablesOf (now owners) (now priorities) (now offsets) (now targets)) (now set) (now work) ×
-        (now kept ≡ freshCount (now priorities)) ⌝ }
+    requires { ⌜ SolitaireRunnable (tablesOf (now owners) (now priorities) (now offsets) (now targets)) (now set)
+        (now work) × (now kept ≡ freshCount (now priorities)) ⌝ }
     ensures { λ _.
         ⌜ (let t =
         tablesOf (now (owners .entry)) (now (priorities .entry)) (now (offsets .entry)) (now (targets .entry)) in

@@ -33,8 +33,8 @@ impl<'a> Subgame<'a> {
         work: &mut [u64],
         base: usize,
     )
-        requires { ⌜ PartsMarkable (graph (now priorities) (now offsets) (now (self .targets)) (now entries) (self .top .0))
-            (now work) base × (self .top .0 < 256) ⌝ }
+        requires { ⌜ PartsMarkable (graph (now priorities) (now offsets) (now (self .targets)) (now entries)
+            (self .top .0)) (now work) base × (self .top .0 < 256) ⌝ }
         ensures { λ _.
             ⌜ PartsMarked (graph (now (priorities .entry)) (now (offsets .entry)) (now (self .entry .targets))
             (now (entries .entry)) (self .entry .top .0))
@@ -62,8 +62,8 @@ pub fn mark_parts(
     work: &mut [u64],
     base: usize,
 )
-    requires { ⌜ PartsMarkable (graph (now priorities) (now offsets) (now targets) (now entries) (top .0)) (now work) base ×
-        (top .0 < 256) ⌝ }
+    requires { ⌜ PartsMarkable (graph (now priorities) (now offsets) (now targets) (now entries) (top .0)) (now work)
+        base × (top .0 < 256) ⌝ }
     ensures { λ _.
         ⌜ PartsMarked (graph (now (priorities .entry)) (now (offsets .entry)) (now (targets .entry))
         (now (entries .entry)) (top .0))

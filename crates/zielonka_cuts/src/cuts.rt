@@ -1,5 +1,5 @@
-// V stands at `base`, the attractor behind it, and the next level begins after the four sets of this one. `s` is the words
-// of a set, `p` the highest priority in V.
+// V stands at `base`, the attractor behind it, and the next level begins after the four sets of this one. `s` is the
+// words of a set, `p` the highest priority in V.
 use parity_game::Player;
 use parity_game::Priority;
 use zielonka_level::opponent_of;
