@@ -7,5 +7,3 @@ pub mod SetsAt
 pub mod Walking
 pub mod Walked
 pub mod Sizes
--- lemmas: steps of the proofs here
-pub mod Alike

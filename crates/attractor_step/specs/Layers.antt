@@ -346,6 +346,3 @@ module _ (g : Game) (a : Player) (V' T own : Set) where
                   entered = λ u m o i. ap (λ (f : ℕ → ℕ). f u) same-entry ∙ c .entered u (sym (was u) ∙ m) o i;
                   kept = λ u h. ap (λ (f : ℕ → ℕ). f u) same-entry ∙ c .kept u (λ m. h (was u ∙ m));
                 }
-
-            pub taken-turn : (u : ℕ) → takenOf (s .next) t u ≡ takenOf now s u
-            taken-turn u = rw (was u, none u, done u) (ap (λ (b : Bool). s .members u && not b) (or-false (s .next u)))

@@ -61,15 +61,6 @@ two-levels : (n : ℕ) → 2 ≤ deep n
 unfolding deep
 two-levels n = omega arith
 
--- how many levels there are, as the code tells it
-pub few-deep : (n : ℕ) → n < 256 → deep n ≡ n + 2
-unfolding deep
-few-deep n l = omega arith
-
-pub many-deep : (n : ℕ) → 256 ≤ n → deep n ≡ 258
-unfolding deep
-many-deep n l = omega arith
-
 module _ {priorities : List ℕ} {m s held levels top : ℕ} {w0 : List ℕ} (given : StartBeginnable priorities m s held levels top w0)
     {sets : ℕ} (sets-at : sets ≡ free (length priorities) m)
   where

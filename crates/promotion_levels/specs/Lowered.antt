@@ -122,6 +122,3 @@ module _ (priorities offsets targets : List ℕ) {s p : ℕ} {w0 w1 : List ℕ}
 
     pub lowered-top : topIn n m s w1 (depthIn n m s w1) ≡ p
     lowered-top = rw (c .depth) (c .top)
-
-    pub lowered-highest : p ≡ highestOf priorities (levelIn n m s w0 (suc k))
-    lowered-highest = c .highest

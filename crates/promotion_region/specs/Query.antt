@@ -202,9 +202,6 @@ module _ (owners priorities : List ℕ) {offsets targets : List ℕ} (ok : Accep
       level1 : (j v : ℕ) → levelIn n m s w1 j v ≡ L j v
       level1 j = level-kept n m s j w0 w1 (λ i low high. same1 i (omega arith) (inr (omega arith)))
 
-      pub without-fits : Y + s ≤ length w1
-      without-fits = omega (arith, y-high, c1 .long)
-
       module _ {wl w2 : List ℕ} (lost : WithoutAt n Y X H w1 wl) (c2 : Met Z H O s wl w2) where
         long2 : length w2 ≡ length w0
         long2 = c2 .long ∙ lost .long ∙ c1 .long

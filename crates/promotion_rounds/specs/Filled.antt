@@ -89,11 +89,6 @@ module _ (owners : List ℕ) {priorities offsets targets : List ℕ} (ok : Accep
         pub filled-ready : Ready (length owners) priorities offsets targets s w2
         filled-ready = kept.ready-kept w2 ready filled-long filled-table filled-rest
 
-        pub filled-held :
-            (v : ℕ) →
-            heldIn (length owners) (length targets) s w2 v ≡ heldIn (length owners) (length targets) s w1 v
-        filled-held = kept.held-same w2 ready filled-long filled-table filled-rest
-
         pub filled-region :
             (v : ℕ) →
             regionIn (length owners) (length targets) s priorities w2 v ≡

@@ -86,9 +86,6 @@ module _ {owners priorities offsets targets : List ℕ} (ok : Accepted (tablesOf
     pub small : p < 256
     small = standing .small
 
-    pub current-small : current < 256
-    current-small = rw (shows .current) small
-
     pub top-is : topIn n m s w0 k ≡ p
     top-is = sym (shows .top) ∙ shows .current
 

@@ -97,7 +97,3 @@ digit-remove w i k h l =
 pub put-insert : (xs : List ℕ) (v : ℕ) → v < 64 * length xs
     → Put v 1 xs (set xs (v / 64) (bitOr (getD xs (v / 64) 0) ((1 * 2 ^ (v % 64)) % 2 ^ 64)))
 put-insert xs v h = put-word xs v 1 _ h (λ k l. digit-insert (getD xs (v / 64) 0) (v % 64) k (omega arith))
-
-pub put-remove : (xs : List ℕ) (v : ℕ) → v < 64 * length xs
-    → Put v 0 xs (set xs (v / 64) (bitAnd (getD xs (v / 64) 0) ((2 ^ 64 - 1) - (1 * 2 ^ (v % 64)) % 2 ^ 64)))
-put-remove xs v h = put-word xs v 0 _ h (λ k l. digit-remove (getD xs (v / 64) 0) (v % 64) k (omega arith) l)

@@ -118,30 +118,6 @@ module _ (f : ℕ → ℕ → ℕ) (into from s : ℕ) (before after : List ℕ)
       ap (λ (x : ℕ). eqb x 1) (c .bits v h)
       ∙ e (bit (drop into before) v) (bit (drop from before) v) (bit-lt (drop into before) v) (bit-lt (drop from before) v)
 
-  -- a part that does not overlap the one at `into` keeps its bits
-  pub combined-elsewhere : (base t : ℕ) → (base + t ≤ into) ⊎ (into + s ≤ base) → (v : ℕ) → v < 64 * t
-      → bit (drop base after) v ≡ bit (drop base before) v
-  combined-elsewhere base t apart v h =
-      bit-drop base after v ∙ ap (λ (x : ℕ). digit x (v % 64)) (c .rest (base + v / 64) (out apart)) ∙ sym (bit-drop base before v)
-    where
-      out : (base + t ≤ into) ⊎ (into + s ≤ base) → (base + v / 64 < into) ⊎ (into + s ≤ base + v / 64)
-      out (inl a) = inl (omega arith)
-      out (inr b) = inr (omega arith)
-
-  -- the words before and after the part at `into` are as they were
-  pub combined-front : take into after ≡ take into before
-  combined-front =
-      ext-getD 0 (take into after) (take into before) (simp (length-take, c .long))
-      (λ i l. getD-take into after i 0 (below i l) ∙ c .rest i (inl (below i l)) ∙ sym (getD-take into before i 0 (below i l)))
-    where
-      below : (i : ℕ) → i < length (take into after) → i < into
-      below i l = omega (arith, length-take into after)
-
-  pub combined-back : drop (into + s) after ≡ drop (into + s) before
-  combined-back =
-      ext-getD 0 (drop (into + s) after) (drop (into + s) before) (simp (length-drop, c .long))
-      (λ i l. getD-drop (into + s) after i 0 ∙ c .rest (into + s + i) (inr (omega arith)) ∙ sym (getD-drop (into + s) before i 0))
-
 module _ (into from s : ℕ) (before after : List ℕ) where
   pub union-set : Combined max into from s before after
       → (v : ℕ) → v < 64 * s → setOf (drop into after) v ≡ (setOf (drop into before) v || setOf (drop from before) v)

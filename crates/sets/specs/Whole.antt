@@ -59,23 +59,6 @@ alike xs ys h =
     sym (every-intro (64 * length xs) (λ v. eqb (bit xs v) (bit ys v))
     (λ v l. eq-eqb (bit xs v) (bit ys v) (ap (λ (x : ℕ). digit x (v % 64)) (h (v / 64) (omega arith)))))
 
--- two words that differ do so in a bit
-pub not-alike : (xs ys : List ℕ) (i : ℕ) → i < length xs → getD xs i 0 < 2 ^ 64 → getD ys i 0 < 2 ^ 64 → (getD xs i 0 ≡ getD ys i 0 → ⊥)
-    → false ≡ every (64 * length xs) (λ v. eqb (bit xs v) (bit ys v))
-not-alike xs ys i l small small′ h = go (bool-cases (every (64 * length xs) (λ v. eqb (bit xs v) (bit ys v))))
-  where
-    go : (every (64 * length xs) (λ v. eqb (bit xs v) (bit ys v)) ≡ true) ⊎ (every (64 * length xs) (λ v. eqb (bit xs v) (bit ys v)) ≡ false)
-        → false ≡ every (64 * length xs) (λ v. eqb (bit xs v) (bit ys v))
-    go (inr e) = sym e
-    go (inl e) = absurd (h (digits-tell 64 (getD xs i 0) (getD ys i 0) small small′ same))
-      where
-        same : (k : ℕ) → k < 64 → digit (getD xs i 0) k ≡ digit (getD ys i 0) k
-        same k m =
-            sym (bit-at xs i k m)
-            ∙ eqb-true (bit xs (64 * i + k)) (bit ys (64 * i + k))
-            (every-elim (64 * length xs) (λ v. eqb (bit xs v) (bit ys v)) e (64 * i + k) (omega arith))
-            ∙ bit-at ys i k m
-
 -- a digit as the count of its test
 pub flag-of-digit : (d : ℕ) → d < 2 → cond (eqb d 1) 1 0 ≡ d
 flag-of-digit zero h = refl

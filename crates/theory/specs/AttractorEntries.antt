@@ -118,7 +118,3 @@ module _
               (cert .pushed v p t o w e i .0, sure .pushed v (all-sure v p) t o w (kept-other g a strategy v w o e) i .1);
           leads = cert .leads;
         }
-
-    pub entries-pull : (v : ℕ) → entries-certificate .pull v ≡ entry strategy v
-    unfolding entries-certificate
-    entries-pull v = refl

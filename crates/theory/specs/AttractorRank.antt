@@ -128,10 +128,6 @@ module _ {g : Game} {a : Player} {V' T S : Set} (c : Ranked g a V' T S) where
       (λ o. let less = c .pulled v p t o .2 in omega arith)
       (λ o. let (w, e, i) = c .leads v p t o in let less = c .pushed v p t o w e i .1 in omega arith)
 
-  -- rank 0 is T
-  pub rank-zero : (v : ℕ) → S v ≡ true → c .rank v ≡ 0 → T v ≡ true
-  rank-zero v p z = not-false-is-true (T v) (λ t. let pos = rank-pos v p t in omega arith)
-
   -- a member lies in a closed set when the members of lower rank do
   climbs :
       (S' : Set) →
@@ -218,10 +214,6 @@ module _
           leads = leads;
         }
 
-    pub order-pull : (v : ℕ) → order-certificate .pull v ≡ pull v
-    unfolding order-certificate
-    order-pull v = refl
-
 -- a move from a member by the certificate: an edge inside V', and from an own vertex outside T the entry
 pub record Drawing {g : Game} {a : Player} {V' T S : Set} (c : Ranked g a V' T S) (v w : ℕ) : Type 0 where
   pub member : S v ≡ true
@@ -268,10 +260,6 @@ module _ {g : Game} {a : Player} {V' T S : Set} (c : Ranked g a V' T S) where
     -- **every cycle of such moves leaves a vertex of T**
     pub cycle-meets : {v m : ℕ} → Cycle priority R v m → Leaves priority R T m
     cycle-meets {v} {m} walk = ⊎-elim (λ met. met) (λ less. absurd (lt-irrefl (c .rank v) less)) (meets-or-sinks walk)
-
-    -- so there is none outside T
-    pub no-cycle-outside : ((v w : ℕ) → R v w → T v ≡ false) → {v m : ℕ} → Cycle priority R v m → ⊥
-    no-cycle-outside out walk = let l = cycle-meets walk in clash (l .met) (out (l .vertex) (l .next) (l .move))
 
   module _ (strategy : List ℕ) (follows : (v : ℕ) → S v ≡ true → T v ≡ false → g .owner v ≡ a → entry strategy v ≡ c .pull v) where
     -- a walk that goes by the entries and avoids T is shorter than the rank of the member that it starts at

@@ -470,46 +470,6 @@ module _ (g : Game) (a : Player) (V' T : Set) (fits : Fits g V' T) where
           at-layer : (k : ℕ) → k ≤ g .size → d (lowest (g .size) (layer k)) ≡ k
           at-layer k l = eqb-true _ k (and-right (S (lowest (g .size) (layer k))) _ (found k l .passes))
 
-  -- **what is drawn to the members within distance k, and is none of them, is at k + 1**
-  pub joins-at :
-      (k v : ℕ) →
-      v < g .size →
-      Draws g a V' (grown g a V' T k) v →
-      grown g a V' T k v ≡ false →
-      (S v ≡ true) × (d v ≡ suc k)
-  joins-at k v l draw new =
-      let (s, near) = drawn-near k v l draw in
-      let far : d v ≤ k → ⊥ = λ less. clash (near-grown k v s less) new in
-      (s, omega arith)
-
-  -- **the members at distance 0 are T, and those at k + 1 are what the next round added**
-  pub layer-zero : (v : ℕ) → atDistance g a V' T 0 v ≡ T v
-  layer-zero v =
-      bool-ext
-      (atDistance g a V' T 0 v)
-      (T v)
-      (λ q.
-      let e = eqb-true (d v) 0 (and-right (S v) _ q) in
-      grown-zero g a V' T v (near-grown 0 v (and-left (S v) _ q) (omega arith)))
-      (λ t. and-intro (attractor-is g a V' T fits .closed .target v t) (eq-eqb (d v) 0 (distance-target v t)))
-
-  pub layer-next : (k v : ℕ) → atDistance g a V' T (suc k) v ≡ without (grown g a V' T (suc k)) (grown g a V' T k) v
-  layer-next k v =
-      bool-ext
-      (atDistance g a V' T (suc k) v)
-      (without (grown g a V' T (suc k)) (grown g a V' T k) v)
-      (λ q.
-      let p = and-left (S v) _ q in
-      let e = eqb-true (d v) (suc k) (and-right (S v) _ q) in
-      without-intro (grown g a V' T (suc k)) (grown g a V' T k) v
-      (near-grown (suc k) v p (omega arith))
-      (not-true-is-false (grown g a V' T k v) (λ r. let l = grown-near k v r .1 in omega arith)))
-      (λ q.
-      let (p, l) = grown-near (suc k) v (without-left (grown g a V' T (suc k)) (grown g a V' T k) v q) in
-      let out = without-right (grown g a V' T (suc k)) (grown g a V' T k) v q in
-      let far : d v ≤ k → ⊥ = λ less. clash (near-grown k v p less) out in
-      and-intro p (eq-eqb (d v) (suc k) (omega arith)))
-
   -- **the entry of an own member at k + 1 outside T: its lowest-numbered successor at k**
   pub entry-at :
       g .size ≤ outside →

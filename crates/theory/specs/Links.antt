@@ -148,13 +148,6 @@ module _ (n : ℕ) (links : Links) where
   pub reached-from : (v w : ℕ) → reached n links v w ≡ true → v < n
   reached-from v w p = spread-from v n w p
 
--- For links whose ends lie below n, those are all the links.
-pub ends-below :
-    {n : ℕ} {links : Links} →
-    ((v w : ℕ) → links v w ≡ true → (v < n) × (w < n)) →
-    Carries (λ v w. links v w ≡ true) (Linked n links)
-ends-below small v w e = record { edge = e; start = small v w e .0; end = small v w e .1 }
-
 -- u and v reach one another along R: they are in the same strongly connected part
 abbrev pub Together : Relation → ℕ → ℕ → Type 0
 Together R v u = Reach R v u × Reach R u v
@@ -184,22 +177,6 @@ module _ (n : ℕ) (links : Links) where
   same-part-below v u p =
       let there = and-left (reached n links v u) (reached n links u v) p in
       (reached-from n links v u there, reached-end n links v u there)
-
-  -- samePart is an equivalence among the numbers below n.
-  pub same-part-refl : (v : ℕ) → v < n → samePart n links v v ≡ true
-  same-part-refl v l = together-same-part l l (together-refl v)
-
-  pub same-part-sym : (v u : ℕ) → samePart n links v u ≡ true → samePart n links u v ≡ true
-  same-part-sym v u p =
-      and-intro (and-right (reached n links v u) (reached n links u v) p) (and-left (reached n links v u) (reached n links u v) p)
-
-  pub same-part-trans :
-      (v u w : ℕ) → samePart n links v u ≡ true → samePart n links u w ≡ true → samePart n links v w ≡ true
-  same-part-trans v u w p q =
-      together-same-part
-      (same-part-below v u p .0)
-      (same-part-below u w q .1)
-      (together-trans (same-part-together p) (same-part-together q))
 
 -- v lies on a cycle of R, and its part has a vertex of priority p
 pub record OnCycle (priority : ℕ → ℕ) (R : ℕ → ℕ → Type 0) (p v : ℕ) : Type 0 where

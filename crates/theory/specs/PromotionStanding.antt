@@ -135,13 +135,6 @@ module _ (g : Game) (s : Regions) where
             let first = promoted-lowest g s closed has .first (s .region w) in
             inr (rw (attracted-rest g s w j out) (le-of-not-lt (λ less. clash there (first less))))
 
-    -- **q has p's player**
-    pub promotion-player :
-        isOpen g s (regionSet g s) ≡ false →
-        some (g .size) (wayOut g s (regionSet g s)) ≡ true →
-        parity (promotedTo g s) ≡ mover s
-    promotion-player closed has = promoted-player placed-here (way-promotes closed has)
-
     pub promotion-moves :
         (v : ℕ) → remaining g s v ≡ true → Moved g (attractedRegion g s) (promotedRegion g s) (s .current) (promotedTo g s) v
     promotion-moves v i =

@@ -217,13 +217,6 @@ module _ {priority : ℕ → ℕ} where
       let rest = never-rises rank sinks c in
       more (record { edge = e; start = omega arith; end = omega arith }) (one-level rank k sinks (le-trans less low) high c)
 
-  pub cycle-level :
-      {R : Relation} {v m : ℕ} (rank : ℕ → ℕ) →
-      ((x y : ℕ) → R x y → rank y ≤ rank x) →
-      Cycle priority R v m →
-      Cycle priority (Among (λ u. rank u ≡ rank v) R) v m
-  cycle-level {v} rank sinks c = one-level rank (rank v) sinks (le-refl (rank v)) (le-refl (rank v)) c
-
   -- a sequence of vertices along R: from one of them to a later one there is a walk
   pub sequence-walk :
       {R : Relation} (f : ℕ → ℕ) → ((k : ℕ) → R (f k) (f (suc k))) → (i d : ℕ) → (m : ℕ) × Walk priority R (f i) (f (i + suc d)) m
