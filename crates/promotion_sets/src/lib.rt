@@ -1,6 +1,6 @@
-// The two passes over the words of a level that promotion makes: one set without another, word by word, and a set
-// whose members lose their entries.
+// A set whose members lose their entries. One set without another, the other pass over the words of a level that
+// promotion makes, is passed on.
 mod level;
 
 pub use level::forget;
-pub use level::without;
+pub use set_difference::without;

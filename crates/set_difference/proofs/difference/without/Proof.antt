@@ -2,10 +2,10 @@
 use Prim.Native.Nat.{_-_, _≤_}
 use native.Mathlib.Omega.{arith}
 use borrow.Author.Needs.{needs}
-use Rattle.promotion_sets.specs.Without.{TakenTo, taken-none, taken-more, taken-all}
+use Rattle.set_difference.specs.Without.{TakenTo, taken-none, taken-more, taken-all}
 use Rattle.sets.specs.Digits.{digit-and-not}
-use Rattle.promotion_sets.proofs.level.without.Statement.{statement}
-use Rattle.promotion_sets.proofs.level.without.Tie as tie
+use Rattle.set_difference.proofs.difference.without.Statement.{statement}
+use Rattle.set_difference.proofs.difference.without.Tie as tie
 
 abbrev Inv-loop : tie.InvT-loop
 Inv-loop s work₀ into one other i₀ work i = TakenTo into one other i work₀ work × (i ≤ s)
