@@ -45,8 +45,7 @@ fn cut(
         base,
         base + s,
     );
-    sets::copy_with(work, base + 4 * s, base, s);
-    sets::difference_with(work, base + 4 * s, base + s, s);
+    set_difference::without(s, work, base + 4 * s, base, base + s);
 }
 
 // U: the vertices of V with priority p; A: the attractor of U for p's player. V without A goes to the next level.

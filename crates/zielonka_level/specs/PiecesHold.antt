@@ -28,7 +28,8 @@ use Rattle.area.specs.Lent.{part-is, part-length}
 use Rattle.priority_sets.specs.Sorting.{setOfPriority, PriorityPlaceable, set-room}
 use Rattle.priority_sets.specs.Meeting.{Meets, Met, met-set}
 use Rattle.successors.specs.Lowest.{lowestEnd}
-use Rattle.area.specs.SetsAt.{set-kept, set-cleared, set-copied, set-copied-here, set-united, set-reduced}
+use Rattle.set_difference.specs.Without.{WithoutAt}
+use Rattle.area.specs.SetsAt.{set-kept, set-cleared, set-copied, set-copied-here, set-united}
 use Rattle.zielonka_level.specs.Level.{nextLevel, wonPlace, onLevel, drawnAt, wonAt, entriesOf, Called, Stays}
 use Rattle.zielonka_level.specs.Steps.{CutBy, AllAt, JoinedAt, stays-on, sorted-kept, level-stays, cut-over}
 use Rattle.highest_priority.specs.Extending.{Extends, Extended}
@@ -133,13 +134,12 @@ cut-attractable {owners} {offsets} {targets} {s} {base} {work} c side =
       side = side;
     }
 
-module _ {t : Tables} {a : Player} {base looks : ℕ} {w₀ w₁ w₂ w₃ : List ℕ}
+module _ {t : Tables} {a : Player} {base looks : ℕ} {w₀ w₁ w₂ : List ℕ}
     (ok : Accepted t)
     (low : free (vertices t) (edgesIn t) ≤ base)
     (fits : Fits (gameOf t) (onLevel t base w₀) (drawnAt t base w₀))
     (drawn : Attracted t a base (base + words (vertices t)) w₀ w₁ looks)
-    (copied : Combined other (base + 4 * words (vertices t)) base (words (vertices t)) w₁ w₂)
-    (reduced : Combined _-_ (base + 4 * words (vertices t)) (base + words (vertices t)) (words (vertices t)) w₂ w₃)
+    (taken : WithoutAt (vertices t) (base + 4 * words (vertices t)) base (base + words (vertices t)) w₁ w₂)
   where
     abbrev n : ℕ
     n = vertices t
@@ -163,24 +163,20 @@ module _ {t : Tables} {a : Player} {base looks : ℕ} {w₀ w₁ w₂ w₃ : Lis
             (not-true-is-false (S v)
             (λ p. let less = attractor-below (gameOf t) a (onLevel t base w₀) (drawnAt t base w₀) v p in omega arith))
 
-    above : Apart (base + 4 * words (vertices t)) w₁ w₃
-    above = apart-then (apart-combined (omega arith) copied) (apart-combined (omega arith) reduced)
+    above : Apart (base + 4 * words (vertices t)) w₁ w₂
+    above = record { long = taken .long; low = λ i l. taken .rest i (inl l) }
 
     level : (v : ℕ) → onLevel t base w₁ v ≡ onLevel t base w₀ v
     level = set-kept n base w₀ w₁ (λ i l h. drawn .rest i (omega arith) (inl (omega arith)))
 
-    rest : (v : ℕ) → onLevel t (nextLevel s base) w₃ v ≡ without (onLevel t base w₀) S v
-    rest v =
-        set-reduced n (base + 4 * s) (base + s) w₂ w₃ reduced v ∙
-        ap₂ (λ (x y : Bool). x && not y)
-        (set-copied-here n (base + 4 * s) base w₁ w₂ copied v ∙ level v)
-        (set-kept n (base + s) w₁ w₂ (λ i l h. copied .rest i (inl (omega arith))) v ∙ held v)
+    rest : (v : ℕ) → onLevel t (nextLevel s base) w₂ v ≡ without (onLevel t base w₀) S v
+    rest v = taken .made v ∙ ap₂ (λ (x y : Bool). x && not y) (level v) (held v)
 
-    made : Cut (gameOf t) a (onLevel t base w₀) (drawnAt t base w₀) S (onLevel t (nextLevel s base) w₃)
-    made = attractor-cut (gameOf t) a (onLevel t base w₀) (drawnAt t base w₀) (onLevel t (nextLevel s base) w₃) fits rest
+    made : Cut (gameOf t) a (onLevel t base w₀) (drawnAt t base w₀) S (onLevel t (nextLevel s base) w₂)
+    made = attractor-cut (gameOf t) a (onLevel t base w₀) (drawnAt t base w₀) (onLevel t (nextLevel s base) w₂) fits rest
 
     -- **A cut is made.**
-    pub cut-made : CutBy t a base (onLevel t base w₀) (drawnAt t base w₀) w₀ w₃
+    pub cut-made : CutBy t a base (onLevel t base w₀) (drawnAt t base w₀) w₀ w₂
     unfolding gameOf
     cut-made =
         record {
@@ -193,7 +189,7 @@ module _ {t : Tables} {a : Player} {base looks : ℕ} {w₀ w₁ w₂ w₃ : Lis
           cut = made;
           slot =
               λ v.
-              set-kept n (base + s) w₁ w₃ (λ i l h. above .low i (omega arith)) v ∙ held v;
+              set-kept n (base + s) w₁ w₂ (λ i l h. above .low i (omega arith)) v ∙ held v;
           entered =
               λ v p out mine.
               let less = attractor-below (gameOf t) a (onLevel t base w₀) (drawnAt t base w₀) v p in
@@ -213,21 +209,19 @@ pub cut-done :
     playerOf alpha ≡ a →
     (priorities : List ℕ) →
     Accepted (tablesOf owners priorities offsets targets) →
-    {looks : ℕ} {w₁ w₂ w₃ : List ℕ} →
+    {looks : ℕ} {w₁ w₂ : List ℕ} →
     Attracted (tablesOf owners priorities offsets targets) (playerOf alpha) base (base + s) w₀ w₁ looks →
-    Combined other (base + 4 * s) base s w₁ w₂ →
-    Combined _-_ (base + 4 * s) (base + s) s w₂ w₃ →
+    WithoutAt (length owners) (base + 4 * s) base (base + s) w₁ w₂ →
     CutBy (tablesOf owners priorities offsets targets) a base
     (onLevel (tablesOf owners priorities offsets targets) base w₀)
     (drawnAt (tablesOf owners priorities offsets targets) base w₀)
-    w₀ w₃
+    w₀ w₂
 unfolding gameOf
-cut-done c alpha whose priorities ok drawn copied reduced =
+cut-done c alpha whose priorities ok drawn taken =
     let size = c .ready .size in
     cut-made ok (c .ready .called .low) (record { part = c .part; below = c .ready .called .below })
     (rw (size, whose) at drawn)
-    (rw size at copied)
-    (rw size at reduced)
+    (rw size at taken)
 
 -- ---- the first cut
 

@@ -1,4 +1,4 @@
--- `cut` meets its contract: what was drawn, copied and taken away is a cut.
+-- `cut` meets its contract: V without what was drawn is a cut.
 use native.Mathlib.Omega.{arith}
 use mathlib.Core.Logic.{inr}
 use Rattle.zielonka_level.specs.PiecesHold.{cut-attractable, cut-done}
@@ -13,11 +13,8 @@ start-of c = c .before .before .before .before .before
 abbrev after-index : tie.After-attract → tie.After-index
 after-index c = c .before .before
 
-abbrev after-attract : tie.After-copy-with → tie.After-attract
+abbrev after-attract : tie.After-without → tie.After-attract
 after-attract c = c .before .before .before .before
-
-abbrev after-copy : tie.After-difference-with → tie.After-copy-with
-after-copy c = c .before .before .before .before
 
 index-requires : tie.Need-index-requires
 index-requires c κs = search needs
@@ -29,36 +26,23 @@ attract-requires : tie.Need-attract-requires
 attract-requires c κs =
     cut-attractable (start-of (c .before) .pre) (c .before .index .ensures .1)
 
-mul-copy-with : tie.Need-mul-copy-with
-mul-copy-with c = search needs
+mul-without : tie.Need-mul-without
+mul-without c = search needs
 
-add-copy-with : tie.Need-add-copy-with
-add-copy-with c = search needs
+add-without : tie.Need-add-without
+add-without c = search needs
 
-copy-with-requires : tie.Need-copy-with-requires
-copy-with-requires c κs =
+add-without-2 : tie.Need-add-without-2
+add-without-2 c = search needs
+
+without-requires : tie.Need-without-requires
+without-requires c κs =
     let drawn = c .before .before .before in
     let high = start-of (after-index drawn) .pre .ready .high in
-    let long = drawn .attract .kept .1 .1 .1 .1 .0 in
-    record { into-fits = omega arith; from-fits = omega arith; apart = inr (omega arith) }
-
-mul-difference-with : tie.Need-mul-difference-with
-mul-difference-with c = search needs
-
-add-difference-with : tie.Need-add-difference-with
-add-difference-with c = search needs
-
-add-difference-with-2 : tie.Need-add-difference-with-2
-add-difference-with-2 c = search needs
-
-difference-with-requires : tie.Need-difference-with-requires
-difference-with-requires c κs =
-    let copied = c .before .before .before in
-    let drawn = after-attract copied in
-    let high = start-of (after-index drawn) .pre .ready .high in
-    let long = drawn .attract .kept .1 .1 .1 .1 .0 in
-    let long′ = copied .copy-with .kept .0 in
-    record { into-fits = omega arith; from-fits = omega arith; apart = inr (omega arith) }
+    let long = drawn .attract .kept .1 .1 .1 .1 .0 in (
+      record { into-fits = omega arith; from-fits = omega arith; apart = inr (omega arith) },
+      record { into-fits = omega arith; from-fits = omega arith; apart = inr (omega arith) },
+    )
 
 same-length : tie.Need-same-length
 same-length c = search needs
@@ -66,14 +50,13 @@ same-length c = search needs
 returns : tie.Need-returns
 returns c =
     λ priorities ok.
-    let reduced = c .before .before in
-    let copied = after-copy reduced in
-    let drawn = after-attract copied in
+    let taken = c .before .before in
+    let drawn = after-attract taken in
     let named = after-index drawn in
-    cut-done (start-of named .pre) (named .index .result) (named .index .ensures .0) priorities ok
+    let g = start-of named in
+    cut-done (g .pre) (named .index .result) (named .index .ensures .0) priorities ok
     (drawn .attract .ensures priorities ok)
-    (copied .copy-with .ensures)
-    (reduced .difference-with .ensures)
+    (taken .without .ensures _ (g .pre .ready .size))
 
 pub cut-spec : {M : Type 1} → statement M
 cut-spec =
@@ -82,12 +65,9 @@ cut-spec =
     index-requires
     add-attract
     attract-requires
-    mul-copy-with
-    add-copy-with
-    copy-with-requires
-    mul-difference-with
-    add-difference-with
-    add-difference-with-2
-    difference-with-requires
+    mul-without
+    add-without
+    add-without-2
+    without-requires
     same-length
     returns)
