@@ -3,11 +3,13 @@
 use area::Area;
 use kept_numbers::HIGHEST;
 use parity_game::Answer;
+use parity_game::Player;
 use parity_game::Priority;
 use promotion_begin::begin;
 use promotion_levels::depth_at;
 use promotion_levels::held_at;
 use promotion_levels::levels_at;
+use promotion_levels::won_at;
 use promotion_rounds::round::State;
 use promotion_rounds::solve::solve;
 use solver::Ran;
@@ -66,7 +68,8 @@ fn run(
         sets::clear(work, 0, work.len());
         return Ran::OverBudget;
     }
-    solver::write_out(owners, s, entries, held + s, work, even, odd, strategy);
+    let won = won_at(held, s, Player::Even);
+    solver::write_out(owners, s, entries, won, work, even, odd, strategy);
     sets::clear(work, 0, work.len());
     Ran::Needed(end.rounds)
 }

@@ -1,7 +1,9 @@
 // The state at first.
 use area::Area;
+use parity_game::Player;
 use parity_game::Priority;
 use promotion_levels::descend;
+use promotion_levels::won_at;
 ghost use mathlib.Core.List.{List};
 ghost use mathlib.Core.Path.{_≡_};
 ghost use Prim.Native.Nat.{ℕ};
@@ -30,7 +32,8 @@ pub fn begin(
 {
     let n = priorities.len();
     let first = Area { n, m, s }.free();
-    sets::clear(work, held + s, 2 * s);
+    let won = won_at(held, s, Player::Even);
+    sets::clear(work, won, 2 * s);
     priority_sets::make(priorities, s, work, first);
     descend(priorities, m, s, work, held, levels, 0, top)
 }

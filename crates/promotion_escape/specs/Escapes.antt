@@ -1,7 +1,7 @@
 -- Looking at R without changing anything: what such a walk asks for, and the sets and levels that it looks into.
 use mathlib.Core.Bool.{Bool, true, _&&_, not}
 use mathlib.Core.List.{List}
-use mathlib.Core.Path.{_≡_, sym, ap, ap₂, subst}
+use mathlib.Core.Path.{_≡_, sym, ap, ap₂, subst, _∙_}
 use Prim.Native.Nat.{ℕ, _+_, _-_, _*_, _≤_, _<_}
 use native.Mathlib.Nat.{le-refl, mul-le-mul-right}
 use native.Mathlib.Omega.{arith}
@@ -39,9 +39,11 @@ pub part-bit :
     (s a v : ℕ) (xs : List ℕ) → a + s ≤ length xs → v < 64 * s → v < 64 * length (take ((a + s) - a) (drop a xs))
 part-bit s a v xs high l = rw (part-is a s xs, part-length a s xs high) l
 
--- a bit of a part, as the code lends it
-pub part-asked : (s a v : ℕ) (xs : List ℕ) → setOf (take ((a + s) - a) (drop a xs)) v ≡ setOf (take s (drop a xs)) v
-part-asked s a v xs = ap (λ (ys : List ℕ). setOf ys v) (part-is a s xs)
+-- a bit of a part, as the code lends it where it was told to stand
+pub part-asked :
+    (s at a v : ℕ) (xs : List ℕ) → at ≡ a → setOf (take ((at + s) - at) (drop at xs)) v ≡ setOf (take s (drop a xs)) v
+part-asked s at a v xs is =
+    ap (λ (ys : List ℕ). setOf ys v) (part-is at s xs) ∙ ap (λ (i : ℕ). setOf (take s (drop i xs)) v) is
 
 pub set-asked :
     (n s a v : ℕ) (xs : List ℕ) → s ≡ words n → setOf (take ((a + s) - a) (drop a xs)) v ≡ setAt n a xs v
@@ -49,10 +51,11 @@ set-asked n s a v xs size = ap (λ (S : Set). S v) (part-set n s a xs size)
 
 -- in one part and not in the other, as the code asks
 pub parts-asked :
-    (s a b v : ℕ) (xs : List ℕ) →
-    (setOf (take ((a + s) - a) (drop a xs)) v && not (setOf (take ((b + s) - b) (drop b xs)) v)) ≡
+    (s at a bt b v : ℕ) (xs : List ℕ) → at ≡ a → bt ≡ b →
+    (setOf (take ((at + s) - at) (drop at xs)) v && not (setOf (take ((bt + s) - bt) (drop bt xs)) v)) ≡
     (setOf (take s (drop a xs)) v && not (setOf (take s (drop b xs)) v))
-parts-asked s a b v xs = ap₂ (λ (x y : Bool). x && not y) (part-asked s a v xs) (part-asked s b v xs)
+parts-asked s at a bt b v xs is-a is-b =
+    ap₂ (λ (x y : Bool). x && not y) (part-asked s at a v xs is-a) (part-asked s bt b v xs is-b)
 
 -- ---- a set, R or its heads, and its edges
 

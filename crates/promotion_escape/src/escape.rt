@@ -1,5 +1,6 @@
 // The highest level below k that the opponent can go to from R, as one more than its number, 0 if there is none.
 use parity_game::VertexIndex;
+use promotion_levels::level_at;
 use walk::Members;
 use walk::Next;
 ghost use lib.ListN.{length};
@@ -14,7 +15,7 @@ fn climb(s: usize, work: &[u64], levels: usize, k: usize, w: VertexIndex, best: 
 {
     let mut level = best;
     while level < k {
-        let at = levels + level * s;
+        let at = level_at(levels, s, level);
         if !sets::contains(&work[at..at + s], w.0) {
             return level;
         }
@@ -40,11 +41,11 @@ fn best_of(
         (v .0) best r ⌝ }
 {
     let from = v.0;
-    let base = levels + k * s;
+    let base = level_at(levels, s, k);
     let mut highest = best;
     for e in offsets[from] as usize..offsets[from + 1] as usize {
         let w = targets[e] as usize;
-        let at = levels + highest * s;
+        let at = level_at(levels, s, highest);
         if sets::in_difference(&work[at..at + s], &work[base..base + s], w) {
             highest = climb(s, work, levels, k, VertexIndex(w), highest);
         }

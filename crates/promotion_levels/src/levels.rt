@@ -3,6 +3,7 @@ use area::Area;
 use highest_priority::get_highest_prio;
 use parity_game::Priority;
 use promotion_places::depth_at;
+use promotion_places::level_at;
 use promotion_sets::forget;
 use promotion_sets::without;
 ghost use mathlib.Core.List.{List};
@@ -51,7 +52,7 @@ pub fn descend(
     ensures { λ r. ⌜ Descended (now (priorities .entry)) m s k (r .0) (now (work .entry)) (now (work .exit)) ⌝ }
 {
     let n = priorities.len();
-    let base = levels + k * s;
+    let base = level_at(levels, s, k);
     let depth = depth_at(held, s);
     let entries = Area { n, m, s }.entries();
     let p = get_highest_prio(priorities, work, base, s, bound);

@@ -18,12 +18,8 @@ use Rattle.sets.specs.Laws.{bit-other}
 use Rattle.area.specs.Area.{entries, free, setAt, wordsAt}
 use Rattle.area.specs.SetsAt.{set-kept, set-united, set-reduced}
 use Rattle.attractor.specs.Attracted.{Nested, Listed, Attractable, Attracted}
+use Rattle.promotion_levels.specs.Layout.{wonBehind}
 use Rattle.promotion_levels.specs.Pulled.{Pulled, pulled-as, pulled-shut, attract-pulled}
-
--- where what a player has won stands: behind R
-abbrev pub wonBehind : ℕ → ℕ → Player → ℕ
-wonBehind s held Even = held + s
-wonBehind s held Odd = held + 2 * s
 
 -- what it asks for: the tables are accepted with some priorities, R lies in level 0, nothing may be drawn into it there where it was
 -- drawn in within level 0, and the places do not overlap

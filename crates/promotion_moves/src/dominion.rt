@@ -1,6 +1,7 @@
 // R is a dominion.
 use parity_game::Player;
 use parity_game::Priority;
+use promotion_levels::won_at;
 ghost use mathlib.Core.List.{List};
 ghost use Prim.Native.Nat.{ℕ};
 ghost use Rattle.rules.specs.Game.{parity, playerOf};
@@ -62,10 +63,7 @@ pub fn solve_dominion(
         levels,
         k,
     );
-    let won = match player {
-        Player::Even => held + s,
-        Player::Odd => held + 2 * s,
-    };
+    let won = won_at(held, s, player);
     sets::union_with(work, won, held, s);
     sets::difference_with(work, levels, held, s);
 }

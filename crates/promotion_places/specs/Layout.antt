@@ -19,9 +19,13 @@ use Rattle.promotion_places.specs.Nesting.{regionOf, Nesting, Proper}
 abbrev pub heldAt : ℕ → ℕ → ℕ → ℕ
 heldAt n m s = free n m + 256 * s
 
+-- what a player has won, behind R
+abbrev pub wonBehind : ℕ → ℕ → Player → ℕ
+wonBehind s held Even = held + s
+wonBehind s held Odd = held + 2 * s
+
 abbrev pub wonAt : ℕ → ℕ → ℕ → Player → ℕ
-wonAt n m s Even = heldAt n m s + s
-wonAt n m s Odd = heldAt n m s + 2 * s
+wonAt n m s = wonBehind s (heldAt n m s)
 
 -- k, the current level
 abbrev pub depthAt : ℕ → ℕ → ℕ → ℕ

@@ -111,13 +111,3 @@ module _ (owners priorities offsets targets : List ℕ) {k : ℕ} {L : ℕ → S
             and-no : (b : Bool) → (b && false) ≡ false
             and-no true = refl
             and-no false = refl
-
--- ---- the places as the code reckons them
-
-pub few-tops : (n depth : ℕ) → n < 256 → depth + 3 + n ≡ depth + 1 + deep n
-unfolding deep
-few-tops n depth l = omega arith
-
-pub many-tops : (n depth : ℕ) → 256 ≤ n → depth + 259 ≡ depth + 1 + deep n
-unfolding deep
-many-tops n depth l = omega arith

@@ -1,9 +1,11 @@
-// Where R, the number of the current level and the levels stand in the work area.
+// Where R, what the players have won, the number of the current level and the levels stand in the work area.
 use parity_game::PRIORITIES;
+use parity_game::Player;
 ghost use mathlib.Core.Path.{_≡_};
 ghost use Prim.Native.Nat.{_+_, _*_, _≤_, _<_, _^_};
+ghost use Rattle.parity_game.specs.Said.{is};
 ghost use Rattle.priority_sets.specs.Sorting.{PriorityPlaceable};
-ghost use Rattle.promotion_places.specs.Layout.{heldAt, deep};
+ghost use Rattle.promotion_places.specs.Layout.{heldAt, wonBehind, deep};
 
 // R stands behind the sets of the priorities.
 pub fn held_at(n: usize, m: usize, s: usize) -> usize
@@ -11,6 +13,17 @@ pub fn held_at(n: usize, m: usize, s: usize) -> usize
     ensures { λ r. ⌜ r ≡ heldAt n m s ⌝ }
 {
     priority_sets::behind_sets(n, m, s)
+}
+
+// What a player has won stands behind R, which is at `held`: Even's set, then Odd's.
+pub fn won_at(held: usize, s: usize, player: Player) -> usize
+    requires { ⌜ held + 2 * s < 2 ^ 64 ⌝ }
+    ensures { λ r. ⌜ r ≡ wonBehind s held (is player) ⌝ }
+{
+    match player {
+        Player::Even => held + s,
+        Player::Odd => held + 2 * s,
+    }
 }
 
 // The number of the current level stands behind three sets at `held`: R, and what Even and Odd have won.
@@ -27,8 +40,14 @@ pub fn levels_at(n: usize, depth: usize) -> usize
     requires { ⌜ depth ≤ 65535 ⌝ }
     ensures { λ r. ⌜ r ≡ depth + 1 + deep n ⌝ }
 {
-    if n < PRIORITIES {
-        return depth + 3 + n;
-    }
-    depth + 259
+    let most = if n < PRIORITIES { n } else { PRIORITIES };
+    depth + 3 + most
+}
+
+// Level k stands k sets behind level 0, which is at `levels`.
+pub fn level_at(levels: usize, s: usize, k: usize) -> usize
+    requires { ⌜ levels + k * s < 2 ^ 64 ⌝ }
+    ensures { λ r. ⌜ r ≡ levels + k * s ⌝ }
+{
+    levels + k * s
 }

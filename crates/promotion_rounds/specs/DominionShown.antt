@@ -49,7 +49,7 @@ use Rattle.promotion_levels.specs.Pulled.{Pulled, pulled-as}
 use Rattle.promotion_levels.specs.Descending.{Descends, Descended}
 use Rattle.promotion_levels.specs.Going.{won-words}
 use Rattle.promotion_levels.specs.Afresh.{afresh-ready, afresh-regions, afresh-entries, afresh-top}
-use Rattle.promotion_moves.specs.Dominion.{DominionReady, Dominated, wonBehind}
+use Rattle.promotion_moves.specs.Dominion.{DominionReady, Dominated}
 use Rattle.attractor.specs.Attracted.{Listed, listed-kept}
 use Rattle.promotion_levels.specs.Places.{sets-kept}
 use Rattle.promotion_rounds.specs.Promoted as promoted

@@ -4,17 +4,20 @@ use mathlib.Core.List.{List}
 use mathlib.Core.Logic.{inr}
 use mathlib.Core.Path.{_≡_, refl, sym, ap, ap₂, subst, subst₂, fun-ext, _∙_}
 use Prim.Native.Nat.{ℕ, suc, _+_, _-_, _*_, _%_, _≤_, _<_}
+use native.Mathlib.Nat.{mul-le-mul-right, add-mul}
 use native.Mathlib.Omega.{arith}
+use borrow.Author.Tests.{eqb-true}
 use lib.Dec.{eqb}
 use lib.ListN.{length, getD, take, drop, length-take}
 use Rattle.rules.specs.Counting.{Set, count}
-use Rattle.rules.specs.Game.{Even, Game, parity}
+use Rattle.rules.specs.Game.{Even, Game, parity, playerOf}
 use Rattle.rules.specs.Tables.{gameOf, words, Accepted, tablesOf}
 use Rattle.rules.specs.Attractor.{Closed}
 use Rattle.rules.specs.Promotion.{Regions, unsolved, regionSet, isOpen, roundOf, afterRounds}
 use Rattle.basics.specs.Basics.{and-left, count-some}
 use Rattle.sets.specs.Size.{size}
 use Rattle.accepted.specs.Tables.{accepted-sound, accepted-few}
+use Rattle.theory.specs.Players.{true-same}
 use Rattle.theory.specs.PromotionAccepted.{accepted-invariant}
 use Rattle.theory.specs.PromotionBasics.{upTo}
 use Rattle.theory.specs.PromotionEntries.{mover, remaining, RoundEntries, AttractedEntries, ClosesEntries}
@@ -28,6 +31,7 @@ use Rattle.area.specs.SetsAt.{set-kept}
 use Rattle.area.specs.Sizes.{size-at}
 use Rattle.area.specs.Walking.{lent-part}
 use Rattle.priority_sets.specs.Sorting.{PriorityPlaceable}
+use Rattle.attractor.specs.Attracted.{own-is}
 use Rattle.promotion_levels.specs.Layout.{heldAt, wonAt, depthAt, topsAt, levelsAt, levelAt, endAt, deep, depthIn, topIn, levelIn}
 use Rattle.promotion_levels.specs.Layout.{heldIn, regionIn, entryIn, Ready}
 use Rattle.promotion_levels.specs.Nesting.{few-levels, levels-below}
@@ -83,14 +87,20 @@ module _ {n : ℕ} {priorities offsets targets : List ℕ} {s levels : ℕ} {wor
         size-at n levels work (λ v i. ready .nests .below v (sym (first-in v) ∙ i)) ∙
         ap (λ (x : ℕ). count n (setAt n x work)) first-is
 
--- what a round begins with: R, the levels and the number of the current one as the code has them, room for two levels more, and
--- entries inside the regions
-pub record RoundBegins (owners priorities offsets targets : List ℕ) (s current held depth levels k : ℕ) (work : List ℕ) : Type 0 where
+-- what a round begins with: p's player, R, the levels and the number of the current one as the code has them, the places of the
+-- current level and of the two after it, which have room, and entries inside the regions
+pub record RoundBegins (owners priorities offsets targets : List ℕ) (s current alpha held depth levels k base below heads : ℕ)
+    (work : List ℕ) : Type 0 where
+  pub alpha-is : alpha ≡ current % 2
   pub held-is : held ≡ heldAt (length owners) (length targets) s
   pub depth-is : depth ≡ depthAt (length owners) (length targets) s
   pub levels-is : levels ≡ levelsAt (length owners) (length targets) s
   pub k-is : k ≡ depthIn (length owners) (length targets) s work
-  pub room : levels + k * s + s + s + s ≤ endAt (length owners) (length targets) s
+  pub base-is :
+      base ≡ levelAt (length owners) (length targets) s (depthIn (length owners) (length targets) s work)
+  pub below-is : below ≡ base + s
+  pub heads-is : heads ≡ below + s
+  pub room : base + s + s + s ≤ endAt (length owners) (length targets) s
   pub entered :
       let g = gameOf (tablesOf owners priorities offsets targets) in
       let T = regionIn (length owners) (length targets) s priorities work in
@@ -98,9 +108,21 @@ pub record RoundBegins (owners priorities offsets targets : List ℕ) (s current
 
 module _ {owners priorities offsets targets : List ℕ} {s current left rounds : ℕ} {work : List ℕ}
     (q : RoundReady owners priorities offsets targets s current left rounds work)
+    {held depth levels : ℕ}
+    (h : held ≡ heldAt (length owners) (length targets) s) (d : depth ≡ held + 3 * s)
+    (l : levels ≡ depth + 1 + deep (length owners))
   where
     abbrev depth0 : ℕ
     depth0 = depthIn (length owners) (length targets) s work
+
+    levels-at : levels ≡ levelsAt (length owners) (length targets) s
+    levels-at = omega (arith, h, d, l)
+
+    depth-at : depth ≡ depthAt (length owners) (length targets) s
+    depth-at = omega (arith, h, d)
+
+    number-is : getD work depth 0 ≡ depth0
+    number-is = ap (λ (x : ℕ). getD work x 0) depth-at
 
     -- while a vertex is unsolved there are fewer levels than vertices
     room-behind :
@@ -112,22 +134,50 @@ module _ {owners priorities offsets targets : List ℕ} {s current left rounds :
         level-high (length owners) (length targets) s (suc (suc depth0))
         (omega (arith, deeper (length owners) depth0 (levels-below (ready .nests) (ready .proper) v i) (few-levels (ready .nests))))
 
+    -- so the current level and the two after it have room
+    room : levels + getD work depth 0 * s + s + s + s ≤ endAt (length owners) (length targets) s
+    room =
+        let base : levels + getD work depth 0 * s ≡ levelAt (length owners) (length targets) s depth0 =
+        ap₂ (λ (x y : ℕ). x + y * s) levels-at number-is in
+        let after = next-level (length owners) (length targets) s depth0 in
+        let behind = next-level (length owners) (length targets) s (suc depth0) in
+        omega (arith, room-behind)
+
+    -- and so has each level before
+    pub level-fits : (j : ℕ) → j ≤ getD work depth 0 + 2 → levels + j * s + s ≤ length work
+    level-fits j low =
+        let most = mul-le-mul-right s low in
+        let e : (getD work depth 0 + 2) * s ≡ getD work depth 0 * s + 2 * s = add-mul (getD work depth 0) 2 s in
+        omega (arith, room, q .shows .ready .room)
+
+    -- their numbers are small
+    pub level-few : getD work depth 0 + 2 ≤ levels
+    level-few = omega (arith, number-is, q .shows .ready .depth, l)
+
     pub begins-by :
-        {held depth levels : ℕ} → held ≡ heldAt (length owners) (length targets) s → depth ≡ held + 3 * s →
-        levels ≡ depth + 1 + deep (length owners) →
-        RoundBegins owners priorities offsets targets s current held depth levels (getD work depth 0) work
-    begins-by {held} {depth} {levels} h d l =
+        {alpha base below heads : ℕ} →
+        alpha ≤ 1 →
+        playerOf alpha ≡ parity current →
+        base ≡ levels + getD work depth 0 * s →
+        below ≡ levels + (getD work depth 0 + 1) * s →
+        heads ≡ levels + (getD work depth 0 + 2) * s →
+        RoundBegins owners priorities offsets targets s current alpha held depth levels (getD work depth 0) base below heads work
+    begins-by {alpha} side own first second third =
         record {
+          alpha-is =
+              eqb-true alpha (current % 2)
+              (own-is alpha (current % 2) side (omega arith) ∙ true-same (playerOf alpha) (parity current) own);
           held-is = h;
-          depth-is = depth-is;
-          levels-is = levels-is;
-          k-is = k-is;
-          room =
-              let base : levels + getD work depth 0 * s ≡ levelAt (length owners) (length targets) s depth0 =
-              ap₂ (λ (x y : ℕ). x + y * s) levels-is k-is in
-              let after = next-level (length owners) (length targets) s depth0 in
-              let behind = next-level (length owners) (length targets) s (suc depth0) in
-              omega (arith, room-behind);
+          depth-is = depth-at;
+          levels-is = levels-at;
+          k-is = number-is;
+          base-is = first ∙ ap₂ (λ (x y : ℕ). x + y * s) levels-at number-is;
+          below-is = let e = add-mul (getD work depth 0) 1 s in omega arith;
+          heads-is =
+              let e = add-mul (getD work depth 0) 1 s in
+              let f = add-mul (getD work depth 0) 2 s in
+              omega arith;
+          room = omega (arith, room);
           entered =
               subst₂
               (λ (T : ℕ → ℕ) (x : ℕ).
@@ -137,15 +187,6 @@ module _ {owners priorities offsets targets : List ℕ} {s current left rounds :
               (sym (q .shows .current))
               (accepted-invariant (tablesOf owners priorities offsets targets) (q .accepted) (q .entries) .entered);
         }
-      where
-        levels-is : levels ≡ levelsAt (length owners) (length targets) s
-        levels-is = omega (arith, h, d, l)
-
-        depth-is : depth ≡ depthAt (length owners) (length targets) s
-        depth-is = omega (arith, h, d)
-
-        k-is : getD work depth 0 ≡ depth0
-        k-is = ap (λ (x : ℕ). getD work x 0) depth-is
 
 -- words behind the levels stay where one begins
 descended-rest :
@@ -210,356 +251,361 @@ module _ {owners priorities offsets targets : List ℕ} (ok : Accepted (tablesOf
         let few = words-few n (shows .ready .edges .few-vertices) in
         omega (arith, is, at, shows .ready .size, shows .ready .edges .few-vertices, shows .ready .edges .few-edges)
 
-    module _ {held depth levels k : ℕ} (at : RoundBegins owners priorities offsets targets s current held depth levels k w0) where
-      held-is : held ≡ heldAt n m s
-      held-is = at .held-is
+    module _ {alpha held depth levels k base below heads : ℕ}
+        (at : RoundBegins owners priorities offsets targets s current alpha held depth levels k base below heads w0)
+      where
+        held-is : held ≡ heldAt n m s
+        held-is = at .held-is
 
-      levels-is : levels ≡ levelsAt n m s
-      levels-is = at .levels-is
+        levels-is : levels ≡ levelsAt n m s
+        levels-is = at .levels-is
 
-      k-is : k ≡ depthIn n m s w0
-      k-is = at .k-is
+        k-is : k ≡ depthIn n m s w0
+        k-is = at .k-is
 
-      base-is : levels + k * s ≡ levelAt n m s (depthIn n m s w0)
-      base-is = ap₂ (λ (l x : ℕ). l + x * s) levels-is k-is
+        alpha-is : alpha ≡ p % 2
+        alpha-is = at .alpha-is ∙ ap (λ (x : ℕ). x % 2) (shows .current)
 
-      below-is : levels + k * s + s ≡ levelAt n m s (suc (depthIn n m s w0))
-      below-is = ap (λ (x : ℕ). x + s) base-is ∙ sym (next-level n m s (depthIn n m s w0))
+        base-at : levels + k * s ≡ base
+        base-at = ap₂ (λ (l x : ℕ). l + x * s) levels-is k-is ∙ sym (at .base-is)
 
-      heads-at : levels + k * s + s + s ≡ levelAt n m s (suc (suc (depthIn n m s w0)))
-      heads-at = ap (λ (x : ℕ). x + s) below-is ∙ sym (next-level n m s (suc (depthIn n m s w0)))
+        below-is : below ≡ levelAt n m s (suc (depthIn n m s w0))
+        below-is = at .below-is ∙ ap (λ (x : ℕ). x + s) (at .base-is) ∙ sym (next-level n m s (depthIn n m s w0))
 
-      pub base-room : levels + k * s + s + s + s ≤ length w0
-      base-room = omega (arith, at .room, shows .ready .room)
+        heads-is : heads ≡ levelAt n m s (suc (suc (depthIn n m s w0)))
+        heads-is = at .heads-is ∙ ap (λ (x : ℕ). x + s) below-is ∙ sym (next-level n m s (suc (depthIn n m s w0)))
 
-      pub round-query : QueryReady owners offsets targets s current held (levels + k * s) w0
-      round-query =
-          record {
-            priorities = priorities;
-            accepted = ok;
-            ready = shows .ready;
-            current = shows .top;
-            held-is = held-is;
-            base-is = base-is;
-            room = at .room;
-          }
+        heads-room : heads + s ≤ length w0
+        heads-room = omega (arith, at .heads-is, at .below-is, at .room, shows .ready .room)
 
-      module _ {w1 : List ℕ} (made1 : Queried owners priorities offsets targets s current w0 w1) where
-        c1 : Queried owners priorities offsets targets s p w0 w1
-        c1 = subst (λ (x : ℕ). Queried owners priorities offsets targets s x w0 w1) (shows .current) made1
-
-        ready1 : Ready n priorities offsets targets s w1
-        ready1 = c1 .ready
-
-        entries1 : AttractedEntries g r (entryIn n m s w0) (entryIn n m s w1)
-        entries1 = attracts-table g r (regionIn n m s priorities w0) (shown.agrees0 ok made shows) (c1 .attracts)
-
-        -- the regions before
-        abbrev T0 : ℕ → ℕ
-        T0 = regionIn n m s priorities w0
-
-        -- R's heads
-        head-is : (v : ℕ) → setAt n (levels + k * s + s + s) w1 v ≡ (heldIn n m s w1 v && eqb (getD priorities v 0) p)
-        head-is v = ap (λ (x : ℕ). setAt n x w1 v) heads-at ∙ c1 .heads v
-
-        head-small : (v : ℕ) → setAt n (levels + k * s + s + s) w1 v ≡ true → v < n
-        head-small v i = filled.held-small owners ok 0 ready1 v (and-left (heldIn n m s w1 v) _ (sym (head-is v) ∙ i))
-
-        pub round-openable :
-            Openable owners offsets targets s (levels + k * s + s + s) held (levels + k * s + s) w1
-        round-openable =
+        pub round-query : QueryReady owners offsets targets s current held base w0
+        round-query =
             record {
-              escapes =
-                  record {
-                    size = ready1 .size;
-                    edges = ready1 .edges;
-                    high = omega (arith, base-room, c1 .long, ready1 .size);
-                    below = head-small;
-                  };
-              held-room = held-escapes owners ok ready1 held-is .high;
-              room = omega (arith, base-room, c1 .long, ready1 .size);
+              priorities = priorities;
+              accepted = ok;
+              ready = shows .ready;
+              current = shows .top;
+              held-is = held-is;
+              base-is = at .base-is;
+              room = at .room;
             }
 
-        -- whether R is open, as the code tells it
-        abbrev openSaid : Bool
-        openSaid = isOpenIn owners offsets targets (current % 2) (levels + k * s + s + s) held (levels + k * s + s) w1
+        module _ {w1 : List ℕ} (made1 : Queried owners priorities offsets targets s current w0 w1) where
+          c1 : Queried owners priorities offsets targets s p w0 w1
+          c1 = subst (λ (x : ℕ). Queried owners priorities offsets targets s x w0 w1) (shows .current) made1
 
-        open-told : {b : Bool} → b ≡ openSaid → isOpen g r (regionSet g r) ≡ b
-        open-told e =
-            shown.open-is ok made shows c1 ∙
-            sym
-            (e ∙
-            ap₂ (λ (x z : ℕ). isOpenIn owners offsets targets (x % 2) z held (levels + k * s + s) w1) (shows .current) heads-at ∙
-            ap₂ (λ (h b : ℕ). isOpenIn owners offsets targets (p % 2) (levelAt n m s (suc (suc (depthIn n m s w0)))) h b w1)
-            held-is below-is)
+          ready1 : Ready n priorities offsets targets s w1
+          ready1 = c1 .ready
 
-        -- **an open round**
-        next-is : k + 1 ≡ suc (depthIn (length priorities) m s w1)
-        next-is = let e = c1 .depth in rw each (omega (arith, k-is, e))
+          entries1 : AttractedEntries g r (entryIn n m s w0) (entryIn n m s w1)
+          entries1 = attracts-table g r (regionIn n m s priorities w0) (shown.agrees0 ok made shows) (c1 .attracts)
 
-        module _ {said : Bool} (told : said ≡ openSaid) (taken : said ≡ true) where
-          opens : isOpen g r (regionSet g r) ≡ true
-          opens = open-told told ∙ taken
+          -- the regions before
+          abbrev T0 : ℕ → ℕ
+          T0 = regionIn n m s priorities w0
 
-          pub round-descend :
-              {bound : ℕ} → bound ≡ current - 1 → Descends priorities (length targets) s held levels (k + 1) bound w1
-          round-descend {bound} is =
-              subst (λ (x : ℕ). Descends priorities m s held levels x bound w1) (sym next-is)
-              (opened.descend-ready ok made shows c1 opens held-is levels-is (is ∙ ap (λ (x : ℕ). x - 1) (shows .current)))
+          -- R's heads
+          head-is : (v : ℕ) → setAt n heads w1 v ≡ (heldIn n m s w1 v && eqb (getD priorities v 0) p)
+          head-is v = ap (λ (x : ℕ). setAt n x w1 v) heads-is ∙ c1 .heads v
 
-          module _ {p' : ℕ} {w2 : List ℕ} (c2 : Descended priorities (length targets) s (k + 1) p' w1 w2) where
-            pub opened-same :
-                (length w2 ≡ length w0) ×
-                ((i : ℕ) → endAt (length owners) (length targets) s ≤ i → getD w2 i 0 ≡ getD w0 i 0)
-            opened-same = (
-              c2 .long ∙ c1 .long,
-              λ i l. descended-rest (round-descend refl .depth) c2 i (rw each l) ∙ c1 .rest i l,
-            )
+          head-small : (v : ℕ) → setAt n heads w1 v ≡ true → v < n
+          head-small v i = filled.held-small owners ok 0 ready1 v (and-left (heldIn n m s w1 v) _ (sym (head-is v) ∙ i))
 
-            pub round-opens :
-                Shows owners priorities offsets targets s
-                (roundOf (gameOf (tablesOf owners priorities offsets targets))
-                (afterRounds (gameOf (tablesOf owners priorities offsets targets)) made)) p' left w2 ×
-                RoundEntries (gameOf (tablesOf owners priorities offsets targets))
-                (afterRounds (gameOf (tablesOf owners priorities offsets targets)) made)
-                (entryIn (length owners) (length targets) s w0) (entryIn (length owners) (length targets) s w2)
-            round-opens =
-                opened.shows-opened ok made shows c1 opens
-                (subst (λ (x : ℕ). Descended priorities m s x p' w1 w2) next-is c2)
+          pub round-openable :
+              Openable owners offsets targets s heads held below w1
+          round-openable =
+              record {
+                escapes =
+                    record {
+                      size = ready1 .size;
+                      edges = ready1 .edges;
+                      high = omega (arith, heads-room, c1 .long, ready1 .size);
+                      below = head-small;
+                    };
+                held-room = held-escapes owners ok ready1 held-is .high;
+                room = omega (arith, heads-room, at .heads-is, c1 .long, ready1 .size);
+              }
 
-        pub round-fill :
-            FillAll owners offsets targets s (levels + k * s + s + s) held (entries (length owners) (length targets)) w1
-        round-fill =
-            subst (λ (x : ℕ). FillAll owners offsets targets s (levels + k * s + s + s) x (entries n m) w1) (sym held-is)
-            (filled.fill-ready owners ok p ready1 (omega (arith, levels-is)) (omega (arith, base-room, c1 .long)) head-small)
+          -- whether R is open, as the code tells it
+          abbrev openSaid : Bool
+          openSaid = isOpenIn owners offsets targets alpha heads held below w1
 
-        module _ {w2 : List ℕ}
-            (made2 :
-            FilledAll owners offsets targets (current % 2) (levels + k * s + s + s) held
-            (entries (length owners) (length targets)) w1 w2)
-          where
-            c2 : FilledAll owners offsets targets (current % 2) (levels + k * s + s + s) (heldAt n m s) (entries n m) w1 w2
-            c2 =
-                subst
-                (λ (x : ℕ). FilledAll owners offsets targets (current % 2) (levels + k * s + s + s) x (entries n m) w1 w2)
-                held-is made2
+          open-told : {b : Bool} → b ≡ openSaid → isOpen g r (regionSet g r) ≡ b
+          open-told e =
+              shown.open-is ok made shows c1 ∙
+              sym
+              (e ∙
+              ap₂ (λ (x z : ℕ). isOpenIn owners offsets targets x z held below w1) alpha-is heads-is ∙
+              ap₂ (λ (h b : ℕ). isOpenIn owners offsets targets (p % 2) (levelAt n m s (suc (suc (depthIn n m s w0)))) h b w1)
+              held-is below-is)
 
-            ready2 : Ready n priorities offsets targets s w2
-            ready2 = filled.filled-ready owners ok p ready1 c2
+          -- **an open round**
+          next-is : k + 1 ≡ suc (depthIn (length priorities) m s w1)
+          next-is = let e = c1 .depth in rw each (omega (arith, k-is, e))
 
-            same2 : (i : ℕ) → free n m ≤ i → getD w2 i 0 ≡ getD w1 i 0
-            same2 = filled.filled-rest owners ok p ready1 c2
+          module _ {said : Bool} (told : said ≡ openSaid) (taken : said ≡ true) where
+            opens : isOpen g r (regionSet g r) ≡ true
+            opens = open-told told ∙ taken
 
-            long2 : length w2 ≡ length w1
-            long2 = filled.filled-long owners ok p ready1 c2
+            pub round-descend :
+                {bound : ℕ} → bound ≡ current - 1 → Descends priorities (length targets) s held levels (k + 1) bound w1
+            round-descend {bound} is =
+                subst (λ (x : ℕ). Descends priorities m s held levels x bound w1) (sym next-is)
+                (opened.descend-ready ok made shows c1 opens held-is levels-is (is ∙ ap (λ (x : ℕ). x - 1) (shows .current)))
 
-            depth2 : depthIn n m s w2 ≡ depthIn n m s w1
-            depth2 = same2 (depthAt n m s) (omega arith)
+            module _ {p' : ℕ} {w2 : List ℕ} (c2 : Descended priorities (length targets) s (k + 1) p' w1 w2) where
+              pub opened-same :
+                  (length w2 ≡ length w0) ×
+                  ((i : ℕ) → endAt (length owners) (length targets) s ≤ i → getD w2 i 0 ≡ getD w0 i 0)
+              opened-same = (
+                c2 .long ∙ c1 .long,
+                λ i l. descended-rest (round-descend refl .depth) c2 i (rw each l) ∙ c1 .rest i l,
+              )
 
-            k2-is : k ≡ depthIn n m s w2
-            k2-is = k-is ∙ sym (depth2 ∙ c1 .depth)
+              pub round-opens :
+                  Shows owners priorities offsets targets s
+                  (roundOf (gameOf (tablesOf owners priorities offsets targets))
+                  (afterRounds (gameOf (tablesOf owners priorities offsets targets)) made)) p' left w2 ×
+                  RoundEntries (gameOf (tablesOf owners priorities offsets targets))
+                  (afterRounds (gameOf (tablesOf owners priorities offsets targets)) made)
+                  (entryIn (length owners) (length targets) s w0) (entryIn (length owners) (length targets) s w2)
+              round-opens =
+                  opened.shows-opened ok made shows c1 opens
+                  (subst (λ (x : ℕ). Descended priorities m s x p' w1 w2) next-is c2)
 
-            agrees2 : (v : ℕ) → v < g .size → regionIn n m s priorities w2 v ≡ attractedRegion g r v
-            agrees2 v l = filled.filled-region owners ok p ready1 c2 v ∙ shown.agrees1 ok made shows c1 v l
+          pub round-fill :
+              FillAll owners offsets targets s heads held (entries (length owners) (length targets)) w1
+          round-fill =
+              subst (λ (x : ℕ). FillAll owners offsets targets s heads x (entries n m) w1) (sym held-is)
+              (filled.fill-ready owners ok p ready1 (omega (arith, heads-is)) (omega (arith, heads-room, c1 .long)) head-small)
 
-            top2 : topIn n m s w2 (depthIn n m s w2) ≡ p
-            top2 =
-                ap (λ (j : ℕ). topIn n m s w2 j) (depth2 ∙ c1 .depth) ∙
-                same2 (topsAt n m s + depthIn n m s w0) (omega arith) ∙
-                shown.top1 ok made shows c1
+          module _ {w2 : List ℕ}
+              (made2 :
+              FilledAll owners offsets targets alpha heads held
+              (entries (length owners) (length targets)) w1 w2)
+            where
+              c2 : FilledAll owners offsets targets alpha heads (heldAt n m s) (entries n m) w1 w2
+              c2 =
+                  subst
+                  (λ (x : ℕ). FilledAll owners offsets targets alpha heads x (entries n m) w1 w2)
+                  held-is made2
 
-            won2 : (i : ℕ) → wonAt n m s Even ≤ i → i < depthAt n m s → getD w2 i 0 ≡ getD w0 i 0
-            won2 i low high = same2 i (omega arith) ∙ c1 .won i low high
+              ready2 : Ready n priorities offsets targets s w2
+              ready2 = filled.filled-ready owners ok p ready1 c2
 
-            left2 : (v : ℕ) → levelIn n m s w2 0 v ≡ levelIn n m s w0 0 v
-            left2 v =
-                kept.level-same w2 ready1 long2 (filled.filled-table owners ok p ready1 c2) same2 0 v ∙
-                c1 .levels 0 v (omega arith)
+              same2 : (i : ℕ) → free n m ≤ i → getD w2 i 0 ≡ getD w1 i 0
+              same2 = filled.filled-rest owners ok p ready1 c2
 
-            entered0 : EntriesInside g (remaining g r) (r .region) p (entryIn n m s w0)
-            entered0 =
-                subst₂ (λ (T : ℕ → ℕ) (x : ℕ). EntriesInside g (unsolved g T) T x (entryIn n m s w0))
-                (fun-ext (shown.agrees0 ok made shows)) (shows .current) (at .entered)
+              long2 : length w2 ≡ length w1
+              long2 = filled.filled-long owners ok p ready1 c2
 
-            fills2 : ClosesEntries g (mover r) (regionSet g r) (entryIn n m s w1) (entryIn n m s w2)
-            fills2 =
-                filled.filled-entries owners ok p ready1 c2 (ap (λ (x : ℕ). x % 2) (shows .current))
-                (shown.R-is ok made shows c1) head-is
-                (entry-but-heads (shown.total ok made shows) (accepted-few (tablesOf owners priorities offsets targets) ok) r
-                (shown.standing ok made shows .placed) entered0 entries1)
+              depth2 : depthIn n m s w2 ≡ depthIn n m s w1
+              depth2 = same2 (depthAt n m s) (omega arith)
 
-            same-all :
-                (length w2 ≡ length w0) × ((i : ℕ) → endAt n m s ≤ i → getD w2 i 0 ≡ getD w0 i 0)
-            same-all = (long2 ∙ c1 .long, λ i l. same2 i (omega arith) ∙ c1 .rest i l)
+              k2-is : k ≡ depthIn n m s w2
+              k2-is = k-is ∙ sym (depth2 ∙ c1 .depth)
 
-            pub filled-long : length w2 ≡ length w0
-            filled-long = same-all .0
+              agrees2 : (v : ℕ) → v < g .size → regionIn n m s priorities w2 v ≡ attractedRegion g r v
+              agrees2 v l = filled.filled-region owners ok p ready1 c2 v ∙ shown.agrees1 ok made shows c1 v l
 
-            pub round-escapable : Escapable owners offsets targets s held levels k w2
-            round-escapable =
-                record {
-                  escapes = held-escapes owners ok ready2 held-is;
-                  room = omega (arith, base-room, same-all .0);
-                  nested =
-                      subst₂ (λ (l x : ℕ). Nested (levelFrom n s l w2) x)
-                      (sym levels-is) (sym k2-is)
-                      (λ j v l i. ready2 .nests .inside j v (omega arith) i);
-                }
+              top2 : topIn n m s w2 (depthIn n m s w2) ≡ p
+              top2 =
+                  ap (λ (j : ℕ). topIn n m s w2 j) (depth2 ∙ c1 .depth) ∙
+                  same2 (topsAt n m s + depthIn n m s w0) (omega arith) ∙
+                  shown.top1 ok made shows c1
 
-            module _ {said : Bool} (told : said ≡ openSaid) (not-said : said ≡ false) {j : ℕ}
-                (found :
-                HighestLevel owners offsets targets (current % 2) (setAt (length owners) held w2)
-                (levelFrom (length owners) s levels w2) k j)
-              where
-                closed : isOpen g r (regionSet g r) ≡ false
-                closed = open-told told ∙ not-said
+              won2 : (i : ℕ) → wonAt n m s Even ≤ i → i < depthAt n m s → getD w2 i 0 ≡ getD w0 i 0
+              won2 i low high = same2 i (omega arith) ∙ c1 .won i low high
 
-                high : HighestLevel owners offsets targets (p % 2) (heldIn n m s w2) (levelIn n m s w2) (depthIn n m s w2) j
-                high =
-                    subst
-                    (λ (x : ℕ).
-                    HighestLevel owners offsets targets (x % 2) (heldIn n m s w2) (levelIn n m s w2) (depthIn n m s w2) j)
-                    (shows .current)
-                    (subst (λ (x : ℕ). HighestLevel owners offsets targets (current % 2) (heldIn n m s w2) (levelIn n m s w2) x j)
-                    k2-is
-                    (subst₂
-                    (λ (h l : ℕ). HighestLevel owners offsets targets (current % 2) (setAt n h w2) (levelFrom n s l w2) k j)
-                    held-is levels-is found))
+              left2 : (v : ℕ) → levelIn n m s w2 0 v ≡ levelIn n m s w0 0 v
+              left2 v =
+                  kept.level-same w2 ready1 long2 (filled.filled-table owners ok p ready1 c2) same2 0 v ∙
+                  c1 .levels 0 v (omega arith)
 
-                -- **a promotion**
-                module _ (some : 0 < j) where
-                  down : j - 1 < depthIn n m s w2
-                  down = let most = high .top in omega arith
+              entered0 : EntriesInside g (remaining g r) (r .region) p (entryIn n m s w0)
+              entered0 =
+                  subst₂ (λ (T : ℕ → ℕ) (x : ℕ). EntriesInside g (unsolved g T) T x (entryIn n m s w0))
+                  (fun-ext (shown.agrees0 ok made shows)) (shows .current) (at .entered)
 
-                  high-one :
-                      HighestLevel owners offsets targets (p % 2) (heldIn n m s w2) (levelIn n m s w2) (depthIn n m s w2)
-                      (suc (j - 1))
-                  high-one =
-                      let e : j ≡ suc (j - 1) = omega arith in
+              fills2 : ClosesEntries g (mover r) (regionSet g r) (entryIn n m s w1) (entryIn n m s w2)
+              fills2 =
+                  filled.filled-entries owners ok p ready1 c2 alpha-is
+                  (shown.R-is ok made shows c1) head-is
+                  (entry-but-heads (shown.total ok made shows) (accepted-few (tablesOf owners priorities offsets targets) ok) r
+                  (shown.standing ok made shows .placed) entered0 entries1)
+
+              same-all :
+                  (length w2 ≡ length w0) × ((i : ℕ) → endAt n m s ≤ i → getD w2 i 0 ≡ getD w0 i 0)
+              same-all = (long2 ∙ c1 .long, λ i l. same2 i (omega arith) ∙ c1 .rest i l)
+
+              pub filled-long : length w2 ≡ length w0
+              filled-long = same-all .0
+
+              pub round-escapable : Escapable owners offsets targets s held levels k w2
+              round-escapable =
+                  record {
+                    escapes = held-escapes owners ok ready2 held-is;
+                    room = omega (arith, base-at, heads-room, at .heads-is, at .below-is, same-all .0);
+                    nested =
+                        subst₂ (λ (l x : ℕ). Nested (levelFrom n s l w2) x)
+                        (sym levels-is) (sym k2-is)
+                        (λ j v l i. ready2 .nests .inside j v (omega arith) i);
+                  }
+
+              module _ {said : Bool} (told : said ≡ openSaid) (not-said : said ≡ false) {j : ℕ}
+                  (found :
+                  HighestLevel owners offsets targets alpha (setAt (length owners) held w2)
+                  (levelFrom (length owners) s levels w2) k j)
+                where
+                  closed : isOpen g r (regionSet g r) ≡ false
+                  closed = open-told told ∙ not-said
+
+                  high : HighestLevel owners offsets targets (p % 2) (heldIn n m s w2) (levelIn n m s w2) (depthIn n m s w2) j
+                  high =
                       subst
-                      (λ (x : ℕ).
-                      HighestLevel owners offsets targets (p % 2) (heldIn n m s w2) (levelIn n m s w2) (depthIn n m s w2) x)
-                      e high
+                      (λ (x : ℕ). HighestLevel owners offsets targets x (heldIn n m s w2) (levelIn n m s w2) (depthIn n m s w2) j)
+                      alpha-is
+                      (subst (λ (x : ℕ). HighestLevel owners offsets targets alpha (heldIn n m s w2) (levelIn n m s w2) x j)
+                      k2-is
+                      (subst₂
+                      (λ (h l : ℕ). HighestLevel owners offsets targets alpha (setAt n h w2) (levelFrom n s l w2) k j)
+                      held-is levels-is found))
 
-                  pub top-fits : depth + j < levels
-                  top-fits = omega (arith, at .depth-is, levels-is, down, ready2 .depth)
+                  -- **a promotion**
+                  module _ (some : 0 < j) where
+                    down : j - 1 < depthIn n m s w2
+                    down = let most = high .top in omega arith
 
-                  pub round-promotable : Promotable s held depth (levels + (j - 1) * s) w2
-                  round-promotable =
-                      subst₂ (λ (h l : ℕ). Promotable s h depth (l + (j - 1) * s) w2) (sym held-is) (sym levels-is)
-                      (subst (λ (d : ℕ). Promotable s (heldAt n m s) d (levelAt n m s (j - 1)) w2) (sym (at .depth-is))
-                      (promote-ready ready2 (j - 1) down))
-
-                  module _ {w3 : List ℕ}
-                      (made3 : PromotedTo (length owners) s held depth (levels + (j - 1) * s) (j - 1) w2 w3)
-                    where
-                      c3 : PromotedTo n s (heldAt n m s) (depthAt n m s) (levelAt n m s (j - 1)) (j - 1) w2 w3
-                      c3 =
-                          subst₂ (λ (h l : ℕ). PromotedTo n s h (depthAt n m s) (l + (j - 1) * s) (j - 1) w2 w3) held-is
-                          levels-is
-                          (subst (λ (d : ℕ). PromotedTo n s held d (levels + (j - 1) * s) (j - 1) w2 w3) (at .depth-is) made3)
-
-                      pub promoted-same :
-                          (length w3 ≡ length w0) ×
-                          ((i : ℕ) → endAt (length owners) (length targets) s ≤ i → getD w3 i 0 ≡ getD w0 i 0)
-                      promoted-same = (
-                        c3 .long ∙ same-all .0,
-                        λ i l.
-                            let most = level-high n m s (suc (j - 1)) (omega (arith, down, ready2 .depth)) in
-                            let next = next-level n m s (j - 1) in
-                            c3 .rest i (λ e. omega arith) (inr (omega arith)) (inr (omega (arith, most, next))) ∙ same-all .1 i l,
-                      )
-
-                      pub round-promotes :
-                          Shows owners priorities offsets targets s
-                          (roundOf (gameOf (tablesOf owners priorities offsets targets))
-                          (afterRounds (gameOf (tablesOf owners priorities offsets targets)) made))
-                          (getD w2 (depth + j) 0) left w3 ×
-                          RoundEntries (gameOf (tablesOf owners priorities offsets targets))
-                          (afterRounds (gameOf (tablesOf owners priorities offsets targets)) made)
-                          (entryIn (length owners) (length targets) s w0) (entryIn (length owners) (length targets) s w3)
-                      round-promotes =
-                          let e : topsAt n m s + (j - 1) ≡ depth + j = omega (arith, at .depth-is) in
-                          subst
-                          (λ (x : ℕ).
-                          Shows owners priorities offsets targets s (roundOf g r) (getD w2 x 0) left w3 ×
-                          RoundEntries g r (entryIn n m s w0) (entryIn n m s w3))
-                          e
-                          (promoted.shows-promoted ok made shows ready2 agrees2 top2 won2 left2 closed entries1 fills2 (j - 1)
-                          high-one c3)
-
-                -- **a dominion**: in level 0 nothing more may be drawn into R
-                whole-first : k ≤ 0 → (v : ℕ) → upTo (unsolved g T0) T0 p v ≡ levelIn n m s w2 0 v
-                whole-first none v =
-                    let at0 : depthIn n m s w0 ≡ 0 = omega (arith, k-is) in
-                    ap (λ (x : ℕ). upTo (unsolved g T0) T0 x v) (sym (shows .current) ∙ shows .top) ∙
-                    upTo-is owners priorities offsets targets (shows .ready .nests) v ∙
-                    ap (λ (j : ℕ). levelIn n m s w0 j v) at0 ∙
-                    sym (left2 v)
-
-                held2 : (v : ℕ) → heldIn n m s w1 v ≡ heldIn n m s w2 v
-                held2 v = sym (set-kept n (heldAt n m s) w1 w2 (λ i low high. same2 i (omega arith)) v)
-
-                shut2 : k ≤ 0 → Closed g (mover r) (levelIn n m s w2 0) (heldIn n m s w2) (heldIn n m s w2)
-                shut2 none =
-                    subst₂ (λ (V' R : Set). Closed g (mover r) V' R R) (fun-ext (whole-first none)) (fun-ext held2)
-                    (record { target = λ v i. i; attracted = c1 .attracts .certificate .closed .attracted })
-
-                pub round-dominion : DominionReady owners offsets targets s (parity current) k held levels w2
-                round-dominion =
-                    subst (λ (x : ℕ). DominionReady owners offsets targets s (parity x) k held levels w2) (sym (shows .current))
-                    (subst₂ (λ (h l : ℕ). DominionReady owners offsets targets s (mover r) k h l w2) (sym held-is) (sym levels-is)
-                    (solved.dominion-ready ok made shows ready2 agrees2 top2 won2 left2 closed entries1 fills2 shut2))
-
-                module _ (none : j ≤ 0) {w3 : List ℕ}
-                    (made3 : Dominated owners priorities offsets targets s current held levels w2 w3)
-                  where
-                    d3 : Dominated owners priorities offsets targets s p (heldAt n m s) (levelsAt n m s) w2 w3
-                    d3 =
-                        subst (λ (x : ℕ). Dominated owners priorities offsets targets s x (heldAt n m s) (levelsAt n m s) w2 w3)
-                        (shows .current)
-                        (subst₂ (λ (h l : ℕ). Dominated owners priorities offsets targets s current h l w2 w3) held-is levels-is
-                        made3)
-
-                    high-none :
-                        HighestLevel owners offsets targets (p % 2) (heldIn n m s w2) (levelIn n m s w2) (depthIn n m s w2) 0
-                    high-none =
-                        let e : j ≡ 0 = omega arith in
+                    high-one :
+                        HighestLevel owners offsets targets (p % 2) (heldIn n m s w2) (levelIn n m s w2) (depthIn n m s w2)
+                        (suc (j - 1))
+                    high-one =
+                        let e : j ≡ suc (j - 1) = omega arith in
                         subst
                         (λ (x : ℕ).
                         HighestLevel owners offsets targets (p % 2) (heldIn n m s w2) (levelIn n m s w2) (depthIn n m s w2) x)
                         e high
 
-                    pub round-first : Descends priorities (length targets) s held levels 0 255 w3
-                    round-first =
-                        solved.descend-first ok made shows ready2 agrees2 top2 won2 left2 closed entries1 fills2 high-none d3
-                        held-is levels-is
+                    pub top-fits : depth + j < levels
+                    top-fits = omega (arith, at .depth-is, levels-is, down, ready2 .depth)
 
-                    module _ {p' : ℕ} {w4 : List ℕ} (c4 : Descended priorities (length targets) s 0 p' w3 w4) where
-                      pub solved-same :
-                          (length w4 ≡ length w0) ×
-                          ((i : ℕ) → endAt (length owners) (length targets) s ≤ i → getD w4 i 0 ≡ getD w0 i 0)
-                      solved-same = (
-                        c4 .long ∙ d3 .long ∙ same-all .0,
-                        λ i l.
-                            let most = level-high n m s 0 (omega (arith, ready2 .depth)) in
-                            descended-rest (round-first .depth) c4 i (rw each l) ∙
-                            d3 .rest i (omega arith) (inr (omega arith)) (inr (omega (arith, most))) ∙
-                            same-all .1 i l,
-                      )
+                    module _ {level : ℕ} (level-is : level ≡ levels + (j - 1) * s) where
+                      level-at : level ≡ levelAt n m s (j - 1)
+                      level-at = omega (arith, level-is, levels-is)
 
-                      pub round-solves :
-                          {many : ℕ} →
-                          many ≡ count (length owners) (levelIn (length owners) (length targets) s w4 0) →
-                          Shows owners priorities offsets targets s
-                          (roundOf (gameOf (tablesOf owners priorities offsets targets))
-                          (afterRounds (gameOf (tablesOf owners priorities offsets targets)) made)) p' many w4 ×
-                          RoundEntries (gameOf (tablesOf owners priorities offsets targets))
-                          (afterRounds (gameOf (tablesOf owners priorities offsets targets)) made)
-                          (entryIn (length owners) (length targets) s w0) (entryIn (length owners) (length targets) s w4)
-                      round-solves counted =
-                          solved.shows-solved ok made shows ready2 agrees2 top2 won2 left2 closed entries1 fills2 high-none d3 c4
-                          counted
+                      pub round-promotable : Promotable s held depth level w2
+                      round-promotable =
+                          subst₂ (λ (h l : ℕ). Promotable s h depth l w2) (sym held-is) (sym level-at)
+                          (subst (λ (d : ℕ). Promotable s (heldAt n m s) d (levelAt n m s (j - 1)) w2) (sym (at .depth-is))
+                          (promote-ready ready2 (j - 1) down))
 
-                      pub solved-ready : Ready (length owners) priorities offsets targets s w4
-                      solved-ready = round-solves refl .0 .ready
+                      module _ {w3 : List ℕ} (made3 : PromotedTo (length owners) s held depth level (j - 1) w2 w3) where
+                        c3 : PromotedTo n s (heldAt n m s) (depthAt n m s) (levelAt n m s (j - 1)) (j - 1) w2 w3
+                        c3 =
+                            subst₂ (λ (h l : ℕ). PromotedTo n s h (depthAt n m s) l (j - 1) w2 w3) held-is level-at
+                            (subst (λ (d : ℕ). PromotedTo n s held d level (j - 1) w2 w3) (at .depth-is) made3)
+
+                        pub promoted-same :
+                            (length w3 ≡ length w0) ×
+                            ((i : ℕ) → endAt (length owners) (length targets) s ≤ i → getD w3 i 0 ≡ getD w0 i 0)
+                        promoted-same = (
+                          c3 .long ∙ same-all .0,
+                          λ i l.
+                              let most = level-high n m s (suc (j - 1)) (omega (arith, down, ready2 .depth)) in
+                              let next = next-level n m s (j - 1) in
+                              c3 .rest i (λ e. omega arith) (inr (omega arith)) (inr (omega (arith, most, next))) ∙ same-all .1 i l,
+                        )
+
+                        pub round-promotes :
+                            Shows owners priorities offsets targets s
+                            (roundOf (gameOf (tablesOf owners priorities offsets targets))
+                            (afterRounds (gameOf (tablesOf owners priorities offsets targets)) made))
+                            (getD w2 (depth + j) 0) left w3 ×
+                            RoundEntries (gameOf (tablesOf owners priorities offsets targets))
+                            (afterRounds (gameOf (tablesOf owners priorities offsets targets)) made)
+                            (entryIn (length owners) (length targets) s w0) (entryIn (length owners) (length targets) s w3)
+                        round-promotes =
+                            let e : topsAt n m s + (j - 1) ≡ depth + j = omega (arith, at .depth-is) in
+                            subst
+                            (λ (x : ℕ).
+                            Shows owners priorities offsets targets s (roundOf g r) (getD w2 x 0) left w3 ×
+                            RoundEntries g r (entryIn n m s w0) (entryIn n m s w3))
+                            e
+                            (promoted.shows-promoted ok made shows ready2 agrees2 top2 won2 left2 closed entries1 fills2 (j - 1)
+                            high-one c3)
+
+                  -- **a dominion**: in level 0 nothing more may be drawn into R
+                  whole-first : k ≤ 0 → (v : ℕ) → upTo (unsolved g T0) T0 p v ≡ levelIn n m s w2 0 v
+                  whole-first none v =
+                      let at0 : depthIn n m s w0 ≡ 0 = omega (arith, k-is) in
+                      ap (λ (x : ℕ). upTo (unsolved g T0) T0 x v) (sym (shows .current) ∙ shows .top) ∙
+                      upTo-is owners priorities offsets targets (shows .ready .nests) v ∙
+                      ap (λ (j : ℕ). levelIn n m s w0 j v) at0 ∙
+                      sym (left2 v)
+
+                  held2 : (v : ℕ) → heldIn n m s w1 v ≡ heldIn n m s w2 v
+                  held2 v = sym (set-kept n (heldAt n m s) w1 w2 (λ i low high. same2 i (omega arith)) v)
+
+                  shut2 : k ≤ 0 → Closed g (mover r) (levelIn n m s w2 0) (heldIn n m s w2) (heldIn n m s w2)
+                  shut2 none =
+                      subst₂ (λ (V' R : Set). Closed g (mover r) V' R R) (fun-ext (whole-first none)) (fun-ext held2)
+                      (record { target = λ v i. i; attracted = c1 .attracts .certificate .closed .attracted })
+
+                  pub round-dominion : DominionReady owners offsets targets s (parity current) k held levels w2
+                  round-dominion =
+                      subst (λ (x : ℕ). DominionReady owners offsets targets s (parity x) k held levels w2) (sym (shows .current))
+                      (subst₂ (λ (h l : ℕ). DominionReady owners offsets targets s (mover r) k h l w2) (sym held-is) (sym levels-is)
+                      (solved.dominion-ready ok made shows ready2 agrees2 top2 won2 left2 closed entries1 fills2 shut2))
+
+                  module _ (none : j ≤ 0) {w3 : List ℕ}
+                      (made3 : Dominated owners priorities offsets targets s current held levels w2 w3)
+                    where
+                      d3 : Dominated owners priorities offsets targets s p (heldAt n m s) (levelsAt n m s) w2 w3
+                      d3 =
+                          subst (λ (x : ℕ). Dominated owners priorities offsets targets s x (heldAt n m s) (levelsAt n m s) w2 w3)
+                          (shows .current)
+                          (subst₂ (λ (h l : ℕ). Dominated owners priorities offsets targets s current h l w2 w3) held-is levels-is
+                          made3)
+
+                      high-none :
+                          HighestLevel owners offsets targets (p % 2) (heldIn n m s w2) (levelIn n m s w2) (depthIn n m s w2) 0
+                      high-none =
+                          let e : j ≡ 0 = omega arith in
+                          subst
+                          (λ (x : ℕ).
+                          HighestLevel owners offsets targets (p % 2) (heldIn n m s w2) (levelIn n m s w2) (depthIn n m s w2) x)
+                          e high
+
+                      pub round-first : Descends priorities (length targets) s held levels 0 255 w3
+                      round-first =
+                          solved.descend-first ok made shows ready2 agrees2 top2 won2 left2 closed entries1 fills2 high-none d3
+                          held-is levels-is
+
+                      module _ {p' : ℕ} {w4 : List ℕ} (c4 : Descended priorities (length targets) s 0 p' w3 w4) where
+                        pub solved-same :
+                            (length w4 ≡ length w0) ×
+                            ((i : ℕ) → endAt (length owners) (length targets) s ≤ i → getD w4 i 0 ≡ getD w0 i 0)
+                        solved-same = (
+                          c4 .long ∙ d3 .long ∙ same-all .0,
+                          λ i l.
+                              let most = level-high n m s 0 (omega (arith, ready2 .depth)) in
+                              descended-rest (round-first .depth) c4 i (rw each l) ∙
+                              d3 .rest i (omega arith) (inr (omega arith)) (inr (omega (arith, most))) ∙
+                              same-all .1 i l,
+                        )
+
+                        pub round-solves :
+                            {many : ℕ} →
+                            many ≡ count (length owners) (levelIn (length owners) (length targets) s w4 0) →
+                            Shows owners priorities offsets targets s
+                            (roundOf (gameOf (tablesOf owners priorities offsets targets))
+                            (afterRounds (gameOf (tablesOf owners priorities offsets targets)) made)) p' many w4 ×
+                            RoundEntries (gameOf (tablesOf owners priorities offsets targets))
+                            (afterRounds (gameOf (tablesOf owners priorities offsets targets)) made)
+                            (entryIn (length owners) (length targets) s w0) (entryIn (length owners) (length targets) s w4)
+                        round-solves counted =
+                            solved.shows-solved ok made shows ready2 agrees2 top2 won2 left2 closed entries1 fills2 high-none d3 c4
+                            counted
+
+                        pub solved-ready : Ready (length owners) priorities offsets targets s w4
+                        solved-ready = round-solves refl .0 .ready

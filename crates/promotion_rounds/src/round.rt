@@ -1,12 +1,14 @@
 // One round on plain slices, with the small state by value.
 use area::Area;
 use highest_priority::one_less;
+use parity_game::Player;
 use parity_game::Priority;
 use parity_game::TOP;
 use promotion_escape::best_escape;
 use promotion_levels::depth_at;
 use promotion_levels::descend;
 use promotion_levels::held_at;
+use promotion_levels::level_at;
 use promotion_levels::levels_at;
 use promotion_moves::dominion::solve_dominion;
 use promotion_moves::fill::assign_missing_strategies;
@@ -45,11 +47,11 @@ pub fn round(
     let depth = depth_at(held, s);
     let levels = levels_at(n, depth);
     let k = work[depth] as usize;
-    let base = levels + k * s;
+    let base = level_at(levels, s, k);
+    let below = level_at(levels, s, k + 1);
+    let heads = level_at(levels, s, k + 2);
     let p = state.current;
-    let alpha = (p.0 % 2) as u8;
-    let below = base + s;
-    let heads = below + s;
+    let alpha = Player::from_priority(p).index();
     let mut after = state;
     after.rounds += 1;
     query(owners, offsets, targets, p, s, work, held, base);
@@ -62,7 +64,7 @@ pub fn round(
     let j = best_escape(owners, offsets, targets, alpha, s, work, held, levels, k);
     if 0 < j {
         let higher = Priority(work[depth + j] as usize);
-        promote(s, work, held, depth, levels + (j - 1) * s, j - 1);
+        promote(s, work, held, depth, level_at(levels, s, j - 1), j - 1);
         after.current = higher;
         return after;
     }

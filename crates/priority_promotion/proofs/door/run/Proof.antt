@@ -1,6 +1,6 @@
 -- `run` meets its contract: the rounds from the first state are those of the rules, and what they found is written out.
 use mathlib.Core.List.{List}
-use mathlib.Core.Path.{_≡_, refl, sym, subst, _∙_}
+use mathlib.Core.Path.{_≡_, refl, sym, ap, subst, _∙_}
 use Prim.Native.Nat.{ℕ, _+_, _*_, _≤_, _<_, _^_}
 use native.Mathlib.Omega.{arith}
 use lib.ListN.{length}
@@ -103,12 +103,16 @@ sized d = sized-at (placed d)
 abbrev start : tie.After-struct-known → tie.Start
 start d = start-at (sized d)
 
--- the same in a run that solved all: where the outputs are written, and where the rounds have ended
+-- the same in a run that solved all: where the outputs are written, where the place of what is won is known, and where the rounds
+-- have ended
 abbrev written : tie.After-slice-known12 → tie.After-write-out
 written c = c .before .before .before .before .before .before .before .before .before .before
 
-abbrev solved : tie.After-write-out → tie.After-struct-known
-solved w = w .before .before .before .before .before .before
+abbrev named : tie.After-write-out → tie.After-won-at
+named w = w .before .before .before .before .before
+
+abbrev solved : tie.After-won-at → tie.After-struct-known
+solved w = w .before .before
 
 -- the work area then
 abbrev left : tie.After-struct-known → List ℕ
@@ -119,17 +123,17 @@ same-long d = ended d .solve .ensures .long ∙ first-begun (begun d) .long ∙ 
 
 -- where all are solved, the rounds have found what is to be written
 found :
-    (d : tie.After-struct-known) →
+    (w : tie.After-won-at) →
+    let d = solved w in
     ended d .solve .result .unsolved ≡ 0 →
     let g = start d in
-    WinnersFound (tables g) (wonIn (tables g)) (entriesIn (tables g)) (size-at (sized d)) (held-in (placed d) + size-at (sized d))
-    (left d)
-found d z =
+    WinnersFound (tables g) (wonIn (tables g)) (entriesIn (tables g)) (size-at (sized d)) (w .won-at .result) (left d)
+found w z =
+    let d = solved w in
     let g = start d in
     subst
-    (λ (h : ℕ).
-    WinnersFound (tables g) (wonIn (tables g)) (entriesIn (tables g)) (size-at (sized d)) (h + size-at (sized d)) (left d))
-    (sym (held-at (placed d)))
+    (λ (at : ℕ). WinnersFound (tables g) (wonIn (tables g)) (entriesIn (tables g)) (size-at (sized d)) at (left d))
+    (sym (w .won-at .ensures ∙ ap (λ (h : ℕ). h + size-at (sized d)) (held-at (placed d))))
     (run-found (ended d .solve .ensures) z)
 
 set-words-requires : tie.Need-set-words-requires
@@ -218,15 +222,20 @@ returns c =
       },
     )
 
-add-write-out : tie.Need-add-write-out
-add-write-out c = let d = c .before in omega (arith, few (start d), sized d .set-words .ensures, held-at (placed d))
+won-at-requires : tie.Need-won-at-requires
+won-at-requires c κs =
+    let d = c .before in
+    let small : held-in (placed d) + 2 * size-at (sized d) < 2 ^ 64 =
+    omega (arith, few (start d), sized d .set-words .ensures, held-at (placed d)) in
+    small
 
 write-out-requires : tie.Need-write-out-requires
 write-out-requires c κs =
-    let d = c .before .before .before .before .before in
+    let w = c .before .before .before .before in
+    let d = solved w in
     let g = start d in
-    let none : ended d .solve .result .unsolved ≡ 0 = omega (arith, c .before .before .before .before .if1 .left) in
-    found-writable (found d none) (entries-at (placed d)) (g .pre .0 .even-size) (g .pre .0 .odd-size) (g .pre .0 .strategy-size)
+    let none : ended d .solve .result .unsolved ≡ 0 = omega (arith, w .before .if1 .left) in
+    found-writable (found w none) (entries-at (placed d)) (g .pre .0 .even-size) (g .pre .0 .odd-size) (g .pre .0 .strategy-size)
 
 clear-requires-2 : tie.Need-clear-requires-2
 clear-requires-2 c κs = search needs
@@ -241,17 +250,18 @@ same-length-4 : tie.Need-same-length-4
 same-length-4 c = search needs
 
 same-length-5 : tie.Need-same-length-5
-same-length-5 c = c .before .before .clear2 .ensures .long ∙ same-long (solved (written c))
+same-length-5 c = c .before .before .clear2 .ensures .long ∙ same-long (solved (named (written c)))
 
 returns-2 : tie.Need-returns-2
 returns-2 c =
-    let w = written c in
+    let o = written c in
+    let w = named o in
     let d = solved w in
     let g = start d in
     let a = g .args in
-    let none : ended d .solve .result .unsolved ≡ 0 = omega (arith, w .before .before .before .before .before .if1 .left) in (
+    let none : ended d .solve .result .unsolved ≡ 0 = omega (arith, w .before .if1 .left) in (
       cleared-all (a .work .now) (left d) (same-long d) (c .before .before .clear2 .ensures),
-      found-finished (found d none) (g .pre .0 .strategy-size) (entries-at (placed d)) (w .write-out .ensures)
+      found-finished (found w none) (g .pre .0 .strategy-size) (entries-at (placed d)) (o .write-out .ensures)
           (run-rounds (ended d .solve .ensures) none)
           (ended d .solve .ensures .within),
     )
@@ -272,7 +282,7 @@ run-spec =
     clear-requires
     same-length
     returns
-    add-write-out
+    won-at-requires
     write-out-requires
     clear-requires-2
     same-length-2

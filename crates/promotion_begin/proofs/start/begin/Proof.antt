@@ -12,11 +12,11 @@ use Rattle.promotion_begin.proofs.start.begin.Tie as tie
 
 -- where the function begins, and where the sets of what is won were cleared
 abbrev first : tie.After-clear → tie.Start
-first c = c .before .before .before .before .before
+first c = c .before .before .before .before .before .before
 
 -- the place of the sets of the priorities
 abbrev placed : tie.After-clear → tie.After-free
-placed c = c .before .before
+placed c = c .before .before .before
 
 -- nobody has won anything
 won-cleared :
@@ -25,10 +25,11 @@ won-cleared :
     Cleared (a .held + a .s) (2 * a .s) (a .work .now) (c .clear .last .0)
 won-cleared c =
     let gone = c .clear .ensures in
+    let at = c .before .before .won-at .ensures in
     record {
       long = gone .long;
-      zeros = λ i low high. gone .zeros i low (omega arith);
-      rest = λ i out. gone .rest i (⊎-elim (λ l. inl l) (λ l. inr (omega arith)) out);
+      zeros = λ i low high. gone .zeros i (omega arith) (omega arith);
+      rest = λ i out. gone .rest i (⊎-elim (λ l. inl (omega arith)) (λ l. inr (omega arith)) out);
     }
 
 abbrev cleared : tie.After-make → tie.After-clear
@@ -40,8 +41,8 @@ free-requires c κs =
     let small : free (length (g .args .priorities .now)) (g .args .m) < 2 ^ 64 = omega (arith, g .pre .room, g .good) in
     (g .pre .size, small)
 
-add-clear : tie.Need-add-clear
-add-clear c = search needs
+won-at-requires : tie.Need-won-at-requires
+won-at-requires c κs = search needs
 
 mul-clear : tie.Need-mul-clear
 mul-clear c = search needs
@@ -73,7 +74,7 @@ begin-spec =
     tie.close
     (tie.spec
     free-requires
-    add-clear
+    won-at-requires
     mul-clear
     clear-requires
     make-requires

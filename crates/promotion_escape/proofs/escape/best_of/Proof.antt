@@ -2,7 +2,7 @@
 use mathlib.Core.Bool.{_&&_, not}
 use mathlib.Core.Logic.{⊎-elim}
 use mathlib.Core.Path.{_≡_, sym, subst, _∙_}
-use Prim.Native.Nat.{ℕ, _+_, _-_, _*_, _≤_, _<_}
+use Prim.Native.Nat.{ℕ, _+_, _-_, _*_, _≤_, _<_, _^_}
 use native.Mathlib.Omega.{arith}
 use lib.ListN.{length, getD}
 use Rattle.rules.specs.Counting.{Set}
@@ -21,7 +21,11 @@ abbrev μ-loop : tie.MeasureT-loop
 
 -- where the function begins
 abbrev start-of : tie.At-loop Inv-loop μ-loop → tie.Start Inv-loop μ-loop
-start-of c = c .before .before .before .before .before .before
+start-of c = c .before .before .before .before .before .before .before
+
+-- where level k was placed
+abbrev base-of : tie.At-loop Inv-loop μ-loop → tie.After-level-at Inv-loop μ-loop
+base-of c = c .before .before .before
 
 -- the levels
 abbrev all : tie.At-loop Inv-loop μ-loop → ℕ → Set
@@ -47,48 +51,66 @@ room c =
     let a = g .args in
     omega (arith, level-room (a .s) (a .levels) (c .loop .highest) (a .k) (c .loop .inv .top), g .pre .room)
 
+-- both levels where they were placed
+high-room :
+    (c : tie.After-level-at2 Inv-loop μ-loop) →
+    let a = start-of (c .before .before .before) .args in
+    c .level-at2 .result + a .s ≤ length (a .work .now)
+high-room c = omega (arith, room (c .before .before .before), c .level-at2 .ensures)
+
+base-room :
+    (c : tie.At-loop Inv-loop μ-loop) →
+    let a = start-of c .args in
+    base-of c .level-at .result + a .s ≤ length (a .work .now)
+base-room c = omega (arith, start-of c .pre .room, base-of c .level-at .ensures)
+
 -- what the test said of the edge's end
 asked :
     (c : tie.After-in-difference Inv-loop μ-loop) →
-    let l = c .before .before .before .before .before in
+    let l = c .before .before .before .before .before .before in
     (all l (l .loop .highest) (end l) && not (all l (start-of l .args .k) (end l))) ≡ c .in-difference .result
 asked c =
-    let l = c .before .before .before .before .before in
+    let d = c .before .before .before in
+    let l = d .before .before .before in
+    let b = base-of l in
     let a = start-of l .args in
     sym
     (c .in-difference .ensures ∙
-    parts-asked (a .s) (a .levels + l .loop .highest * a .s) (a .levels + a .k * a .s) (end l) (a .work .now))
+    parts-asked (a .s) (d .level-at2 .result) (a .levels + l .loop .highest * a .s) (b .level-at .result) (a .levels + a .k * a .s)
+    (end l) (a .work .now) (d .level-at2 .ensures) (b .level-at .ensures))
 
-mul-base : tie.Need-mul-base Inv-loop μ-loop
-mul-base c = let g = c .before .before .before in omega (arith, g .pre .room, g .good)
-
-add-base : tie.Need-add-base Inv-loop μ-loop
-add-base c = let g = c .before .before .before in omega (arith, g .pre .room, g .good)
+level-at-requires : tie.Need-level-at-requires Inv-loop μ-loop
+level-at-requires c κs =
+    let g = c .before .before .before in
+    let small : g .args .levels + g .args .k * g .args .s < 2 ^ 64 = omega (arith, g .pre .room, g .good) in
+    small
 
 mul-e : tie.Need-mul-e Inv-loop μ-loop
-mul-e c = let g = c .before .before .before in omega (arith, g .pre .edges .each, g .good)
+mul-e c = let g = c .before .before .before .before in omega (arith, g .pre .edges .each, g .good)
 
 shared-slice-read-e : tie.Need-shared-slice-read-e Inv-loop μ-loop
-shared-slice-read-e c = let g = c .before .before .before .before in omega (arith, g .pre .edges .each)
+shared-slice-read-e c = let g = c .before .before .before .before .before in omega (arith, g .pre .edges .each)
 
 cast-e : tie.Need-cast-e Inv-loop μ-loop
-cast-e c = omega (arith, c .shared-slice-known4 .given (c .before .before .before .before .args .v .0))
+cast-e c = omega (arith, c .shared-slice-known4 .given (c .before .before .before .before .before .args .v .0))
 
 add-e-end : tie.Need-add-e-end Inv-loop μ-loop
-add-e-end c = let g = c .before .before .before .before in omega (arith, g .pre .edges .each, g .good)
+add-e-end c = let g = c .before .before .before .before .before in omega (arith, g .pre .edges .each, g .good)
 
 mul-e-end : tie.Need-mul-e-end Inv-loop μ-loop
-mul-e-end c = let g = c .before .before .before .before in omega (arith, g .pre .edges .each, g .good)
+mul-e-end c = let g = c .before .before .before .before .before in omega (arith, g .pre .edges .each, g .good)
 
 shared-slice-read-e-end : tie.Need-shared-slice-read-e-end Inv-loop μ-loop
-shared-slice-read-e-end c = let g = c .before .before .before .before .before in omega (arith, g .pre .edges .each)
+shared-slice-read-e-end c =
+    let g = c .before .before .before .before .before .before in omega (arith, g .pre .edges .each)
 
 cast-e-end : tie.Need-cast-e-end Inv-loop μ-loop
-cast-e-end c = omega (arith, c .shared-slice-known5 .given (c .before .before .before .before .before .args .v .0 + 1))
+cast-e-end c =
+    omega (arith, c .shared-slice-known5 .given (c .before .before .before .before .before .before .args .v .0 + 1))
 
 loop-holds : tie.Need-loop-holds Inv-loop μ-loop
 loop-holds c =
-    let g = c .before .before .before .before .before in
+    let g = c .before .before .before .before .before .before in
     highest-none (g .pre .low) (g .pre .edges .rising)
 
 mul-w : tie.Need-mul-w Inv-loop μ-loop
@@ -100,17 +122,18 @@ shared-slice-read-w c = edge-inside (c .before)
 cast-w : tie.Need-cast-w Inv-loop μ-loop
 cast-w c = omega (arith, c .shared-slice-known6 .given (c .before .before .loop .e))
 
-mul-at : tie.Need-mul-at Inv-loop μ-loop
-mul-at c = let l = c .before .before in omega (arith, room l, start-of l .good)
-
-add-at : tie.Need-add-at Inv-loop μ-loop
-add-at c = let l = c .before .before in omega (arith, room l, start-of l .good)
+level-at-requires-2 : tie.Need-level-at-requires-2 Inv-loop μ-loop
+level-at-requires-2 c κs =
+    let l = c .before .before in
+    let g = start-of l in
+    let small : g .args .levels + l .loop .highest * g .args .s < 2 ^ 64 = omega (arith, room l, g .good) in
+    small
 
 add-in-difference : tie.Need-add-in-difference Inv-loop μ-loop
-add-in-difference c = let l = c .before .before in omega (arith, room l, start-of l .good)
+add-in-difference c = omega (arith, high-room c, start-of (c .before .before .before) .good)
 
 mul-in-difference : tie.Need-mul-in-difference Inv-loop μ-loop
-mul-in-difference c = let l = c .before .before in omega (arith, room l, start-of l .good)
+mul-in-difference c = omega (arith, high-room c, start-of (c .before .before .before) .good)
 
 sub-in-difference : tie.Need-sub-in-difference Inv-loop μ-loop
 sub-in-difference c = search needs
@@ -119,13 +142,13 @@ part-in-difference-start : tie.Need-part-in-difference-start Inv-loop μ-loop
 part-in-difference-start c = search needs
 
 part-in-difference-end : tie.Need-part-in-difference-end Inv-loop μ-loop
-part-in-difference-end c = room (c .before .before)
+part-in-difference-end c = high-room c
 
 add-in-difference-2 : tie.Need-add-in-difference-2 Inv-loop μ-loop
-add-in-difference-2 c = let g = start-of (c .before .before .before) in omega (arith, g .pre .room, g .good)
+add-in-difference-2 c = let l = c .before .before .before .before in omega (arith, base-room l, start-of l .good)
 
 mul-in-difference-2 : tie.Need-mul-in-difference-2 Inv-loop μ-loop
-mul-in-difference-2 c = let g = start-of (c .before .before .before) in omega (arith, g .pre .room, g .good)
+mul-in-difference-2 c = let l = c .before .before .before .before in omega (arith, base-room l, start-of l .good)
 
 sub-in-difference-2 : tie.Need-sub-in-difference-2 Inv-loop μ-loop
 sub-in-difference-2 c = search needs
@@ -134,34 +157,34 @@ part-in-difference-start-2 : tie.Need-part-in-difference-start-2 Inv-loop μ-loo
 part-in-difference-start-2 c = search needs
 
 part-in-difference-end-2 : tie.Need-part-in-difference-end-2 Inv-loop μ-loop
-part-in-difference-end-2 c = start-of (c .before .before .before) .pre .room
+part-in-difference-end-2 c = base-room (c .before .before .before .before)
 
 in-difference-requires : tie.Need-in-difference-requires Inv-loop μ-loop
 in-difference-requires c κs =
-    let i = c .before .before .before in
+    let d = c .before .before in
+    let i = d .before .before in
     let l = i .before in
-    let g = start-of l in
-    let a = g .args in (
-      part-bit (a .s) (a .levels + l .loop .highest * a .s) (end l) (a .work .now) (room l) (bit i),
-      part-bit (a .s) (a .levels + a .k * a .s) (end l) (a .work .now) (g .pre .room) (bit i),
+    let a = start-of l .args in (
+      part-bit (a .s) (d .level-at2 .result) (end l) (a .work .now) (high-room d) (bit i),
+      part-bit (a .s) (base-of l .level-at .result) (end l) (a .work .now) (base-room l) (bit i),
     )
 
 climb-requires : tie.Need-climb-requires Inv-loop μ-loop
 climb-requires c κs =
-    let i = c .before .before .before .before .before in
+    let i = c .before .before .before .before .before .before in
     let l = i .before in
     record { bit = bit i; low = l .loop .inv .top; room = start-of l .pre .room }
 
 add-e : tie.Need-add-e Inv-loop μ-loop
 add-e c =
-    let i = c .before .before .before .before .before in omega (arith, edge-inside i, start-of (i .before) .good)
+    let i = c .before .before .before .before .before .before in omega (arith, edge-inside i, start-of (i .before) .good)
 
 loop-less : tie.Need-loop-less Inv-loop μ-loop
 loop-less c = search needs
 
 loop-again : tie.Need-loop-again Inv-loop μ-loop
 loop-again c =
-    let i = c .before .before .before .before .before in
+    let i = c .before .before .before .before .before .before in
     let l = i .before in
     let g = start-of l in
     let a = g .args in
@@ -185,8 +208,7 @@ best-of-spec =
     (tie.spec
     Inv-loop
     μ-loop
-    mul-base
-    add-base
+    level-at-requires
     mul-e
     shared-slice-read-e
     cast-e
@@ -198,8 +220,7 @@ best-of-spec =
     mul-w
     shared-slice-read-w
     cast-w
-    mul-at
-    add-at
+    level-at-requires-2
     add-in-difference
     mul-in-difference
     sub-in-difference

@@ -1,6 +1,6 @@
 -- `climb` meets its contract: every level from `best` up to the current one holds w.
 use mathlib.Core.Path.{_≡_, sym, _∙_}
-use Prim.Native.Nat.{_+_, _-_, _*_, _≤_}
+use Prim.Native.Nat.{_+_, _-_, _*_, _≤_, _<_, _^_}
 use native.Mathlib.Omega.{arith}
 use borrow.Author.Tests.{not-true, not-false}
 use lib.ListN.{length}
@@ -32,31 +32,41 @@ room c =
     let low : level ≤ a .k = omega (arith, c .loop-test .taken) in
     omega (arith, level-room (a .s) (a .levels) level (a .k) low, g .pre .room)
 
+placed :
+    (c : tie.After-level-at Inv-loop μ-loop) →
+    let a = start-of (c .before .before) .args in
+    c .level-at .result + a .s ≤ length (a .work .now)
+placed c = omega (arith, room (c .before), c .level-at .ensures)
+
 -- what the test said of w
 asked :
     (c : tie.After-contains Inv-loop μ-loop) →
-    let l = c .before .before .before in
+    let l = c .before .before .before .before in
     let a = start-of l .args in
     setsFrom (a .s) (a .s) (a .levels) (a .work .now) (l .loop .level) (a .w .0) ≡ c .contains .result
 asked c =
-    let l = c .before .before .before in
+    let d = c .before .before in
+    let l = d .before .before in
     let a = start-of l .args in
-    sym (c .contains .ensures ∙ part-asked (a .s) (a .levels + l .loop .level * a .s) (a .w .0) (a .work .now))
+    sym
+    (c .contains .ensures ∙
+    part-asked (a .s) (d .level-at .result) (a .levels + l .loop .level * a .s) (a .w .0) (a .work .now) (d .level-at .ensures))
 
 loop-holds : tie.Need-loop-holds Inv-loop μ-loop
 loop-holds c = climb-none (c .before .pre .low)
 
-mul-at : tie.Need-mul-at Inv-loop μ-loop
-mul-at c = omega (arith, room c, start-of (c .before) .good)
-
-add-at : tie.Need-add-at Inv-loop μ-loop
-add-at c = omega (arith, room c, start-of (c .before) .good)
+level-at-requires : tie.Need-level-at-requires Inv-loop μ-loop
+level-at-requires c κs =
+    let l = c .before in
+    let g = start-of l in
+    let small : g .args .levels + l .loop .level * g .args .s < 2 ^ 64 = omega (arith, room c, g .good) in
+    small
 
 add-contains : tie.Need-add-contains Inv-loop μ-loop
-add-contains c = omega (arith, room c, start-of (c .before) .good)
+add-contains c = omega (arith, placed c, start-of (c .before .before) .good)
 
 mul-contains : tie.Need-mul-contains Inv-loop μ-loop
-mul-contains c = omega (arith, room c, start-of (c .before) .good)
+mul-contains c = omega (arith, placed c, start-of (c .before .before) .good)
 
 sub-contains : tie.Need-sub-contains Inv-loop μ-loop
 sub-contains c = search needs
@@ -65,17 +75,17 @@ part-contains-start : tie.Need-part-contains-start Inv-loop μ-loop
 part-contains-start c = search needs
 
 part-contains-end : tie.Need-part-contains-end Inv-loop μ-loop
-part-contains-end c = room c
+part-contains-end c = placed c
 
 contains-requires : tie.Need-contains-requires Inv-loop μ-loop
 contains-requires c κs =
-    let l = c .before .before in
-    let g = start-of l in
+    let d = c .before in
+    let g = start-of (d .before .before) in
     let a = g .args in
-    part-bit (a .s) (a .levels + l .loop .level * a .s) (a .w .0) (a .work .now) (room (c .before)) (g .pre .bit)
+    part-bit (a .s) (d .level-at .result) (a .w .0) (a .work .now) (placed d) (g .pre .bit)
 
 returns : tie.Need-returns Inv-loop μ-loop
-returns c = climb-stop (c .before .before .before .before .loop .inv) (asked (c .before) ∙ not-true _ (c .if1 .taken))
+returns c = climb-stop (c .before .before .before .before .before .loop .inv) (asked (c .before) ∙ not-true _ (c .if1 .taken))
 
 add-level : tie.Need-add-level Inv-loop μ-loop
 add-level c = search needs
@@ -85,7 +95,7 @@ loop-less c = search needs
 
 loop-again : tie.Need-loop-again Inv-loop μ-loop
 loop-again c =
-    let i = c .before .before .before in
+    let i = c .before .before .before .before in
     climb-more (i .before .loop .inv) (i .loop-test .taken) (asked (c .before) ∙ not-false _ (c .if1 .left))
 
 returns-2 : tie.Need-returns-2 Inv-loop μ-loop
@@ -98,8 +108,7 @@ climb-spec =
     Inv-loop
     μ-loop
     loop-holds
-    mul-at
-    add-at
+    level-at-requires
     add-contains
     mul-contains
     sub-contains

@@ -1,6 +1,8 @@
 -- `descend` meets its contract: the highest priority is found and marked, and the level begins with it.
 use Rattle.promotion_levels.specs.Descending.{descend-room, descend-second, descend-searchable}
 use Rattle.promotion_levels.specs.Descending.{descend-beginnable, descended}
+use mathlib.Core.Path.{_≡_}
+use Prim.Native.Nat.{_+_, _*_, _<_, _^_}
 use native.Mathlib.Omega.{arith}
 use borrow.Author.Needs.{needs}
 use Rattle.promotion_levels.proofs.levels.descend.Statement.{statement}
@@ -8,16 +10,23 @@ use Rattle.promotion_levels.proofs.levels.descend.Tie as tie
 
 -- where the function begins, and where the places are known
 abbrev start-of : tie.After-entries → tie.Start
-start-of c = c .before .before .before .before
+start-of c = c .before .before .before .before .before
 
 abbrev placed : tie.After-get-highest-prio → tie.After-entries
 placed c = c .before .before
 
-mul-base : tie.Need-mul-base
-mul-base c = let g = c .before .before in omega (arith, descend-room (g .pre), g .good)
+-- level k is where it should be
+abbrev base-is :
+    (c : tie.After-entries) →
+    let a = start-of c .args in
+    c .before .before .level-at .result ≡ a .levels + a .k * a .s
+base-is c = c .before .before .level-at .ensures
 
-add-base : tie.Need-add-base
-add-base c = let g = c .before .before in omega (arith, descend-room (g .pre), g .good)
+level-at-requires : tie.Need-level-at-requires
+level-at-requires c κs =
+    let g = c .before .before in
+    let small : g .args .levels + g .args .k * g .args .s < 2 ^ 64 = omega (arith, descend-room (g .pre), g .good) in
+    small
 
 depth-at-requires : tie.Need-depth-at-requires
 depth-at-requires c κs = search needs
@@ -26,7 +35,7 @@ entries-requires : tie.Need-entries-requires
 entries-requires c κs = search needs
 
 get-highest-prio-requires : tie.Need-get-highest-prio-requires
-get-highest-prio-requires c κs = descend-searchable (start-of (c .before) .pre)
+get-highest-prio-requires c κs = let e = c .before in rw (base-is e) (descend-searchable (start-of e .pre))
 
 add-work : tie.Need-add-work
 add-work c = search needs
@@ -50,15 +59,17 @@ begin-level-requires : tie.Need-begin-level-requires
 begin-level-requires c κs =
     let found = c .before in
     let e = placed found in
-    descend-beginnable (start-of e .pre) (found .get-highest-prio .ensures) (e .before .depth-at .ensures) (e .entries .ensures)
+    rw (base-is e)
+    (descend-beginnable (start-of e .pre) (rw (base-is e) at (found .get-highest-prio .ensures)) (e .before .depth-at .ensures)
+    (e .entries .ensures))
 
 returns : tie.Need-returns
 returns c =
     let began = c .before .before in
     let found = began .before .before in
     let e = placed found in
-    descended (start-of e .pre) (found .get-highest-prio .ensures) (e .before .depth-at .ensures) (e .entries .ensures)
-    (began .begin-level .ensures)
+    descended (start-of e .pre) (rw (base-is e) at (found .get-highest-prio .ensures)) (e .before .depth-at .ensures)
+    (e .entries .ensures) (rw (base-is e) at (began .begin-level .ensures))
 
 same-length : tie.Need-same-length
 same-length c = returns c .long
@@ -67,8 +78,7 @@ pub descend-spec : {M : Type 1} → statement M
 descend-spec =
     tie.close
     (tie.spec
-    mul-base
-    add-base
+    level-at-requires
     depth-at-requires
     entries-requires
     get-highest-prio-requires

@@ -1,11 +1,8 @@
 -- `solve_dominion` meets its contract: each call finds what it asks for in what the calls before it left.
-use mathlib.Core.Logic.{⊎-elim}
-use mathlib.Core.Path.{_≡_, sym, ap, _∙_}
-use Prim.Native.Nat.{ℕ}
+use mathlib.Core.Path.{_≡_, ap, _∙_}
 use Rattle.rules.specs.Game.{parity, playerOf}
-use Rattle.parity_game.specs.Said.{is}
-use Rattle.parity_game.specs.declared.player.Player.{Player}
-use Rattle.promotion_moves.specs.Dominion.{wonBehind, draw-ready, union-parts, difference-parts, dominated}
+use Rattle.promotion_levels.specs.Layout.{wonBehind}
+use Rattle.promotion_moves.specs.Dominion.{draw-ready, union-parts, difference-parts, dominated}
 use borrow.Author.Needs.{needs}
 use Rattle.promotion_moves.proofs.dominion.solve_dominion.Statement.{statement}
 use Rattle.promotion_moves.proofs.dominion.solve_dominion.Tie as tie
@@ -17,7 +14,7 @@ begun c = c .before .before .before .before .before .before
 abbrev first : tie.After-draw-unsolved → tie.Start
 first c = begun (c .before .before)
 
-abbrev drawn : tie.At-match-came → tie.After-draw-unsolved
+abbrev drawn : tie.After-won-at → tie.After-draw-unsolved
 drawn c = c .before .before .before
 
 -- the player who draws R in
@@ -25,13 +22,11 @@ own : (c : tie.After-draw-unsolved) → playerOf (c .before .before .index .resu
 own c = let named = c .before .before in named .index .ensures .0 ∙ named .before .from-priority .ensures
 
 -- the place of the set won
-picked : (c : tie.At-match-came) → let a = first (drawn c) .args in c .match .won ≡ wonBehind (a .s) (a .held) (parity (a .p .0))
+picked : (c : tie.After-won-at) → let a = first (drawn c) .args in c .won-at .result ≡ wonBehind (a .s) (a .held) (parity (a .p .0))
 picked c =
     let d = drawn c in
     let a = first d .args in
-    let behind : Player → ℕ = λ q. wonBehind (a .s) (a .held) (is q) in
-    ⊎-elim (λ y. y .2 ∙ ap behind (sym (y .1 .given .1))) (λ y. y .2 ∙ ap behind (sym (y .1 .given .1))) (c .match .came) ∙
-    ap (wonBehind (a .s) (a .held)) (d .before .before .before .from-priority .ensures)
+    c .won-at .ensures ∙ ap (wonBehind (a .s) (a .held)) (d .before .before .before .from-priority .ensures)
 
 from-priority-requires : tie.Need-from-priority-requires
 from-priority-requires c κs = search needs
@@ -45,20 +40,8 @@ draw-unsolved-requires c κs =
     let g = begun named in
     draw-ready (g .args .p .0) (g .pre) (named .index .ensures .1) (named .index .ensures .0 ∙ named .before .from-priority .ensures)
 
-enum-told : tie.Need-enum-told
-enum-told c = search needs
-
-add-won : tie.Need-add-won
-add-won c = search needs
-
-enum-told-2 : tie.Need-enum-told-2
-enum-told-2 c = search needs
-
-mul-won : tie.Need-mul-won
-mul-won c = search needs
-
-add-won-2 : tie.Need-add-won-2
-add-won-2 c = search needs
+won-at-requires : tie.Need-won-at-requires
+won-at-requires c κs = search needs
 
 union-with-requires : tie.Need-union-with-requires
 union-with-requires c κs =
@@ -97,11 +80,7 @@ solve-dominion-spec =
     from-priority-requires
     index-requires
     draw-unsolved-requires
-    enum-told
-    add-won
-    enum-told-2
-    mul-won
-    add-won-2
+    won-at-requires
     union-with-requires
     difference-with-requires
     same-length

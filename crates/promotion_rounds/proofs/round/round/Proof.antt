@@ -1,14 +1,13 @@
 -- `round` meets its contract: each call finds what it asks for, and the three ways out are the three kinds of round.
-use mathlib.Core.Path.{_≡_, refl}
-use Prim.Native.Nat.{ℕ, _+_, _-_, _*_, _%_, _≤_, _<_, _^_}
+use mathlib.Core.Path.{_≡_, refl, _∙_}
+use Prim.Native.Nat.{ℕ, _+_, _-_, _*_, _≤_, _<_, _^_}
 use native.Mathlib.Omega.{arith}
 use lib.ListN.{length, getD}
 use Rattle.area.specs.Area.{entries}
 use Rattle.promotion_levels.specs.Layout.{endAt, Ready}
 use Rattle.promotion_region.specs.Query.{Queried}
 use Rattle.promotion_moves.specs.Filling.{FilledAll}
-use Rattle.promotion_moves.specs.Promotion.{Promotable}
-use Rattle.promotion_rounds.specs.RoundMade.{RoundBegins, begins-by, round-places, round-depth, base-room, round-query}
+use Rattle.promotion_rounds.specs.RoundMade.{RoundBegins, level-fits, level-few, begins-by, round-places, round-depth, round-query}
 use Rattle.promotion_rounds.specs.RoundMade.{round-openable, round-descend, opened-same, round-opens, round-fill}
 use Rattle.promotion_rounds.specs.RoundMade.{filled-long, round-escapable, top-fits, round-promotable, promoted-same}
 use Rattle.promotion_rounds.specs.RoundMade.{round-promotes, round-dominion, round-first, solved-same, round-solves}
@@ -17,32 +16,61 @@ use borrow.Author.Needs.{needs}
 use Rattle.promotion_rounds.proofs.round.round.Statement.{statement}
 use Rattle.promotion_rounds.proofs.round.round.Tie as tie
 
--- where the function begins, and where the places are known
+-- where the function begins, from where R, the levels and all places are known
 abbrev first : tie.After-held-at → tie.Start
 first h = h .before .before .before .before .before .before
 
-abbrev begun : tie.After-levels-at → tie.Start
-begun l = first (l .before .before)
+abbrev start-of : tie.After-levels-at → tie.Start
+start-of l = first (l .before .before)
 
-abbrev placed : tie.After-query → tie.After-levels-at
-placed q = q .before .before .before .before .before .before
+abbrev levels-of : tie.After-level-at → tie.After-levels-at
+levels-of b = b .before .before
 
--- R, the levels and the current level's number are where they should be, with what else a round begins with
+abbrev base-of : tie.After-index → tie.After-level-at
+base-of i = i .before .before .before .before .before
+
+abbrev levelled : tie.After-index → tie.After-levels-at
+levelled i = levels-of (base-of i)
+
+abbrev begun : tie.After-index → tie.Start
+begun i = start-of (levelled i)
+
+abbrev placed : tie.After-query → tie.After-index
+placed q = q .before .before .before
+
+-- the number of the current level
+abbrev current : tie.After-levels-at → ℕ
+current l = getD (start-of l .args .work .now) (l .before .depth-at .result) 0
+
+-- the place of R's heads
+abbrev heads : tie.After-index → ℕ
+heads i = i .before .before .before .level-at3 .result
+
+-- the current level, the two after it and all before have room
+stands :
+    (l : tie.After-levels-at) (j : ℕ) → j ≤ current l + 2 →
+    let a = start-of l .args in
+    l .levels-at .result + j * a .s + a .s ≤ length (a .work .now)
+stands l j low =
+    level-fits (start-of l .pre) (l .before .before .held-at .ensures) (l .before .depth-at .ensures) (l .levels-at .ensures) j low
+
+few : (l : tie.After-levels-at) → current l + 2 ≤ l .levels-at .result
+few l =
+    level-few (start-of l .pre) (l .before .before .held-at .ensures) (l .before .depth-at .ensures) (l .levels-at .ensures)
+
+-- p's player, R, the levels and the current level's number are as they should be, with what else a round begins with
 at :
-    (l : tie.After-levels-at) →
-    let a = begun l .args in
-    let d = l .before .depth-at .result in
+    (i : tie.After-index) →
+    let l = levelled i in
+    let a = begun i .args in
     RoundBegins (a .owners .now) (a .priorities .now) (a .offsets .now) (a .targets .now) (a .s) (a .state .current .0)
-    (l .before .before .held-at .result) d (l .levels-at .result) (getD (a .work .now) d 0) (a .work .now)
-at l = begins-by (begun l .pre) (l .before .before .held-at .ensures) (l .before .depth-at .ensures) (l .levels-at .ensures)
-
--- the two levels after the current one have room
-room :
-    (l : tie.After-levels-at) →
-    let a = begun l .args in
-    let k = getD (a .work .now) (l .before .depth-at .result) 0 in
-    l .levels-at .result + k * a .s + a .s + a .s + a .s ≤ length (a .work .now)
-room l = let g = begun l in base-room (g .pre .accepted) (g .pre .made) (g .pre .shows) (at l)
+    (i .index .result) (l .before .before .held-at .result) (l .before .depth-at .result) (l .levels-at .result) (current l)
+    (base-of i .level-at .result) (i .before .before .before .before .level-at2 .result) (heads i) (a .work .now)
+at i =
+    let l = levelled i in
+    begins-by (begun i .pre) (l .before .before .held-at .ensures) (l .before .depth-at .ensures) (l .levels-at .ensures)
+    (i .index .ensures .1) (i .index .ensures .0 ∙ i .before .from-priority .ensures) (base-of i .level-at .ensures)
+    (i .before .before .before .before .level-at2 .ensures) (i .before .before .before .level-at3 .ensures)
 
 -- the query, where it is known whether R is open
 abbrev asked : tie.After-is-open → tie.After-query
@@ -89,35 +117,48 @@ mul-k c = search needs
 slice-read-k : tie.Need-slice-read-k
 slice-read-k c = search needs
 
-mul-base : tie.Need-mul-base
-mul-base c =
+level-at-requires : tie.Need-level-at-requires
+level-at-requires c κs =
     let l = c .before in
-    omega (arith, room l, begun l .good)
+    let g = start-of l in
+    let small : l .levels-at .result + current l * g .args .s < 2 ^ 64 =
+    omega (arith, stands l (current l) (omega arith), g .good) in
+    small
 
-add-base : tie.Need-add-base
-add-base c =
-    let l = c .before in
-    omega (arith, room l, begun l .good)
+add-level-at : tie.Need-add-level-at
+add-level-at c = let l = levels-of c in omega (arith, few l, stands l 0 (omega arith), start-of l .good)
 
-cast-alpha : tie.Need-cast-alpha
-cast-alpha c = search needs
+level-at-requires-2 : tie.Need-level-at-requires-2
+level-at-requires-2 c κs =
+    let l = levels-of c in
+    let g = start-of l in
+    let small : l .levels-at .result + (current l + 1) * g .args .s < 2 ^ 64 =
+    omega (arith, stands l (current l + 1) (omega arith), g .good) in
+    small
 
-add-below : tie.Need-add-below
-add-below c =
-    let l = c .before .before .before in
-    omega (arith, room l, begun l .good)
+add-level-at-2 : tie.Need-add-level-at-2
+add-level-at-2 c = let l = levels-of (c .before) in omega (arith, few l, stands l 0 (omega arith), start-of l .good)
 
-add-heads : tie.Need-add-heads
-add-heads c =
-    let l = c .before .before .before in
-    omega (arith, room l, begun l .good)
+level-at-requires-3 : tie.Need-level-at-requires-3
+level-at-requires-3 c κs =
+    let l = levels-of (c .before) in
+    let g = start-of l in
+    let small : l .levels-at .result + (current l + 2) * g .args .s < 2 ^ 64 =
+    omega (arith, stands l (current l + 2) (omega arith), g .good) in
+    small
+
+from-priority-requires : tie.Need-from-priority-requires
+from-priority-requires c κs = search needs
+
+index-requires : tie.Need-index-requires
+index-requires c κs = search needs
 
 add-after : tie.Need-add-after
 add-after c = search needs
 
 query-requires : tie.Need-query-requires
 query-requires c κs =
-    let l = c .before .before .before .before .before in
+    let l = c .before .before in
     let g = begun l in
     round-query (g .pre .accepted) (g .pre .made) (g .pre .shows) (at l)
 
@@ -130,15 +171,8 @@ is-open-requires c κs =
 
 add-descend : tie.Need-add-descend
 add-descend c =
-    let i = c .before in
-    let o = i .before in
-    let q = asked o in
-    let l = placed q in
-    let g = begun l in
-    let down =
-    round-descend (g .pre .accepted) (g .pre .made) (g .pre .shows) (at l) (queried q) (o .is-open .ensures) (i .if1 .taken)
-    refl in
-    omega (arith, down .depth, l .levels-at .ensures, room l, g .good)
+    let l = levelled (placed (asked (c .before .before))) in
+    omega (arith, few l, stands l 0 (omega arith), start-of l .good)
 
 one-less-requires : tie.Need-one-less-requires
 one-less-requires c κs = search needs
@@ -192,9 +226,8 @@ filling :
     let q = asked (told f) in
     let l = placed q in
     let a = begun l .args in
-    let k = getD (a .work .now) (l .before .depth-at .result) 0 in
-    FilledAll (a .owners .now) (a .offsets .now) (a .targets .now) (a .state .current .0 % 2)
-    (l .levels-at .result + k * a .s + a .s + a .s) (l .before .before .held-at .result)
+    FilledAll (a .owners .now) (a .offsets .now) (a .targets .now) (l .index .result)
+    (heads l) (levelled l .before .before .held-at .result)
     (entries (length (a .owners .now)) (length (a .targets .now)))
     (q .query .last .1 .1 .1 .1 .1 .0) (f .assign-missing-strategies .last .1 .1 .1 .1 .1 .0)
 filling f = rw (f .before .before .entries .ensures) at (f .assign-missing-strategies .ensures)
@@ -221,7 +254,7 @@ long2 f =
 -- there is a region to promote to: its priority stands before the levels, and `promote` may run
 fits :
     (c : tie.Then2) →
-    let l = placed (asked (told (filled (c .before)))) in
+    let l = levelled (placed (asked (told (filled (c .before))))) in
     l .before .depth-at .result + c .before .best-escape .result < l .levels-at .result
 fits c =
     let b = c .before in
@@ -233,57 +266,50 @@ fits c =
     top-fits (g .pre .accepted) (g .pre .made) (g .pre .shows) (at l) (queried q) (filling f)
     (o .is-open .ensures) (f .before .before .before .if1 .left) (b .best-escape .ensures) (c .if2 .taken)
 
-able :
-    (c : tie.Then2) →
-    let f = filled (c .before) in
-    let l = placed (asked (told f)) in
-    let s = begun l .args .s in
-    Promotable s (l .before .before .held-at .result) (l .before .depth-at .result) (l .levels-at .result + (c .before .best-escape .result - 1) * s)
-    (f .assign-missing-strategies .last .1 .1 .1 .1 .1 .0)
-able c =
-    let b = c .before in
+add-level-at-3 : tie.Need-add-level-at-3
+add-level-at-3 c =
+    let l = levelled (placed (asked (told (filled (c .before))))) in
+    omega (arith, fits c, stands l 0 (omega arith), start-of l .good)
+
+mul-level-at : tie.Need-mul-level-at
+mul-level-at c =
+    let l = levelled (placed (asked (told (filled (c .before))))) in
+    omega (arith, fits c, stands l 0 (omega arith), start-of l .good)
+
+slice-read-level-at : tie.Need-slice-read-level-at
+slice-read-level-at c =
+    let f = filled (c .before .before) in
+    let l = levelled (placed (asked (told f))) in
+    omega (arith, fits (c .before), stands l 0 (omega arith), long2 f)
+
+sub-level-at : tie.Need-sub-level-at
+sub-level-at c = search needs
+
+level-at-requires-4 : tie.Need-level-at-requires-4
+level-at-requires-4 c κs =
+    let b = c .before .before .before in
+    let l = levelled (placed (asked (told (filled b)))) in
+    let g = start-of l in
+    let j = b .best-escape .result - 1 in
+    let small : l .levels-at .result + j * g .args .s < 2 ^ 64 =
+    omega (arith, stands l j (omega (arith, b .best-escape .ensures .top)), g .good) in
+    small
+
+sub-promote : tie.Need-sub-promote
+sub-promote c = search needs
+
+promote-requires : tie.Need-promote-requires
+promote-requires c κs =
+    let i = c .before .before .before in
+    let b = i .before in
     let f = filled b in
     let o = told f in
     let q = asked o in
     let l = placed q in
     let g = begun l in
     round-promotable (g .pre .accepted) (g .pre .made) (g .pre .shows) (at l) (queried q) (filling f)
-    (o .is-open .ensures) (f .before .before .before .if1 .left) (b .best-escape .ensures) (c .if2 .taken)
-
-add-promote : tie.Need-add-promote
-add-promote c =
-    let l = placed (asked (told (filled (c .before)))) in omega (arith, fits c, room l, begun l .good)
-
-mul-promote : tie.Need-mul-promote
-mul-promote c =
-    let l = placed (asked (told (filled (c .before)))) in omega (arith, fits c, room l, begun l .good)
-
-slice-read-promote : tie.Need-slice-read-promote
-slice-read-promote c =
-    let f = filled (c .before .before) in omega (arith, fits (c .before), room (placed (asked (told f))), long2 f)
-
-sub-promote : tie.Need-sub-promote
-sub-promote c = search needs
-
-mul-promote-2 : tie.Need-mul-promote-2
-mul-promote-2 c =
-    let i = c .before .before in
-    let f = filled (i .before) in
-    let more = able i in
-    omega (arith, more .high, long2 f, begun (placed (asked (told f))) .good)
-
-add-promote-2 : tie.Need-add-promote-2
-add-promote-2 c =
-    let i = c .before .before in
-    let f = filled (i .before) in
-    let more = able i in
-    omega (arith, more .high, long2 f, begun (placed (asked (told f))) .good)
-
-sub-promote-2 : tie.Need-sub-promote-2
-sub-promote-2 c = search needs
-
-promote-requires : tie.Need-promote-requires
-promote-requires c κs = able (c .before .before)
+    (o .is-open .ensures) (f .before .before .before .if1 .left) (b .best-escape .ensures) (i .if2 .taken)
+    (c .level-at4 .ensures)
 
 same-length-2 : tie.Need-same-length-2
 same-length-2 c = search needs
@@ -291,7 +317,8 @@ same-length-2 c = search needs
 returns-2 : tie.Need-returns-2
 returns-2 c =
     let e = c .before .before in
-    let i = e .before .before .before in
+    let is = e .before .level-at4 .ensures in
+    let i = e .before .before .before .before in
     let b = i .before in
     let f = filled b in
     let o = told f in
@@ -301,14 +328,14 @@ returns-2 c =
     let done = e .promote .ensures (length (g .args .owners .now)) (g .pre .shows .ready .size) in
     let same =
     promoted-same (g .pre .accepted) (g .pre .made) (g .pre .shows) (at l) (queried q) (filling f)
-    (o .is-open .ensures) (f .before .before .before .if1 .left) (b .best-escape .ensures) (i .if2 .taken) done in
+    (o .is-open .ensures) (f .before .before .before .if1 .left) (b .best-escape .ensures) (i .if2 .taken) is done in
     record {
       long = same .0;
       counted = refl;
       shown =
           λ k sh.
           round-promotes (g .pre .accepted) k sh (at l) (queried q) (filling f)
-          (o .is-open .ensures) (f .before .before .before .if1 .left) (b .best-escape .ensures) (i .if2 .taken) done;
+          (o .is-open .ensures) (f .before .before .before .if1 .left) (b .best-escape .ensures) (i .if2 .taken) is done;
       rest = same .1;
     }
 
@@ -446,11 +473,13 @@ round-spec =
     levels-at-requires
     mul-k
     slice-read-k
-    mul-base
-    add-base
-    cast-alpha
-    add-below
-    add-heads
+    level-at-requires
+    add-level-at
+    level-at-requires-2
+    add-level-at-2
+    level-at-requires-3
+    from-priority-requires
+    index-requires
     add-after
     query-requires
     is-open-requires
@@ -462,13 +491,12 @@ round-spec =
     entries-requires
     assign-missing-strategies-requires
     best-escape-requires
-    add-promote
-    mul-promote
-    slice-read-promote
+    add-level-at-3
+    mul-level-at
+    slice-read-level-at
+    sub-level-at
+    level-at-requires-4
     sub-promote
-    mul-promote-2
-    add-promote-2
-    sub-promote-2
     promote-requires
     same-length-2
     returns-2
