@@ -217,23 +217,24 @@ module _ {t : Tables} {s base : ℕ} {w₀ w₁ : List ℕ} (ready : OpinionRead
 
     -- **V without what is drawn to p stands at the next level.**
     pub top-made :
-        {a : Player} {looks : ℕ} {w₃ w₄ w₅ : List ℕ} →
+        {a : Player} {looks up : ℕ} {w₃ w₄ w₅ : List ℕ} →
+        up ≡ nextLevel s base →
         a ≡ parity p →
         Attracted t a base (base + s) w₂ w₃ looks →
-        Combined other (base + 8 * s) base s w₃ w₄ →
-        Combined _-_ (base + 8 * s) (base + s) s w₄ w₅ →
+        Combined other up base s w₃ w₄ →
+        Combined _-_ up (base + s) s w₄ w₅ →
         TopCut t p base w₀ w₅
-    top-made {looks = looks} {w₃} {w₄} {w₅} whose drawn copied reduced =
+    top-made {looks = looks} {w₃ = w₃} {w₄} {w₅} next whose drawn copied reduced =
         record { stays = stays-on (stays-on stays₂ drawn-stays) above; rest = rest }
       where
         drawn′ : Attracted t (parity p) base (base + words (vertices t)) w₂ w₃ looks
         drawn′ = rw (size, whose) at drawn
 
-        copied′ : Combined other (base + 8 * words (vertices t)) base (words (vertices t)) w₃ w₄
-        copied′ = rw size at copied
+        copied′ : Combined other (nextLevel (words (vertices t)) base) base (words (vertices t)) w₃ w₄
+        copied′ = rw (next, size) at copied
 
-        reduced′ : Combined _-_ (base + 8 * words (vertices t)) (base + words (vertices t)) (words (vertices t)) w₄ w₅
-        reduced′ = rw size at reduced
+        reduced′ : Combined _-_ (nextLevel (words (vertices t)) base) (base + words (vertices t)) (words (vertices t)) w₄ w₅
+        reduced′ = rw (next, size) at reduced
 
         drawn-stays : OpinionStays t (base + words (vertices t)) w₂ w₃
         drawn-stays = attracted-stays drawn′
@@ -258,9 +259,9 @@ module _ {t : Tables} {s base : ℕ} {w₀ w₁ : List ℕ} (ready : OpinionRead
             (attractor (gameOf t) (parity p) (onLevel t base w₀) (withPriority (gameOf t) (onLevel t base w₀) p))
             v
         rest v =
-            set-reduced (vertices t) (base + 8 * words (vertices t)) (base + words (vertices t)) w₄ w₅ reduced′ v ∙
+            set-reduced (vertices t) (nextLevel (words (vertices t)) base) (base + words (vertices t)) w₄ w₅ reduced′ v ∙
             ap₂ (λ (x y : Bool). x && not y)
-            (set-copied-here (vertices t) (base + 8 * words (vertices t)) base w₃ w₄ copied′ v ∙
+            (set-copied-here (vertices t) (nextLevel (words (vertices t)) base) base w₃ w₄ copied′ v ∙
             level-stays (ready .low) (omega arith) drawn-stays v ∙
             level₂ v)
             (set-kept (vertices t) (base + words (vertices t)) w₃ w₄
@@ -270,13 +271,14 @@ module _ {t : Tables} {s base : ℕ} {w₀ w₁ : List ℕ} (ready : OpinionRead
 
 module _ {owners offsets targets : List ℕ} {alpha s base : ℕ} {w₀ w₁ : List ℕ}
     (droppable : Droppable owners offsets targets alpha s base w₀)
-    (copied : Combined other (base + s) (base + 8 * s) s w₀ w₁)
+    {up : ℕ} (next : up ≡ nextLevel s base)
+    (copied : Combined other (base + s) up s w₀ w₁)
   where
     size₁ : s ≡ words (length owners)
     size₁ = droppable .ready .size
 
-    copied₁ : Combined other (base + words (length owners)) (base + 8 * words (length owners)) (words (length owners)) w₀ w₁
-    copied₁ = rw size₁ at copied
+    copied₁ : Combined other (base + words (length owners)) (nextLevel (words (length owners)) base) (words (length owners)) w₀ w₁
+    copied₁ = rw (next, size₁) at copied
 
     stays-copied : (priorities : List ℕ) → OpinionStays (tablesOf owners priorities offsets targets) (base + words (length owners)) w₀ w₁
     stays-copied priorities = combined-stays (omega (arith, droppable .ready .low)) (omega arith) copied₁
@@ -293,7 +295,7 @@ module _ {owners offsets targets : List ℕ} {alpha s base : ℕ} {w₀ w₁ : L
         drawnAt (tablesOf owners priorities offsets targets) base w₁ v ≡
         onLevel (tablesOf owners priorities offsets targets) (nextLevel (words (length owners)) base) w₀ v
     found-set priorities v =
-        set-copied-here (length owners) (base + words (length owners)) (base + 8 * words (length owners)) w₀ w₁ copied₁ v
+        set-copied-here (length owners) (base + words (length owners)) (nextLevel (words (length owners)) base) w₀ w₁ copied₁ v
 
     -- what `attract` asks for
     pub drop-attractable : Attractable owners offsets targets alpha base (base + s) w₁
@@ -303,7 +305,7 @@ module _ {owners offsets targets : List ℕ} {alpha s base : ℕ} {w₀ w₁ : L
         (λ v q.
         level-copied priorities v ∙
         droppable .part v
-        (ap (λ (k : ℕ). setAt (length owners) (base + 8 * k) w₀ v) size₁ ∙ sym (found-set priorities v) ∙ q))
+        (ap (λ (k : ℕ). setAt (length owners) (nextLevel k base) w₀ v) size₁ ∙ sym (found-set priorities v) ∙ q))
 
     -- **V loses what is drawn to what was found.**
     pub drop-made :

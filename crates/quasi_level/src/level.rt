@@ -1,7 +1,8 @@
-// The pieces of a pass, over the sets of its level: V at `base`, then what is drawn. The next level begins eight sets
-// on, and the solver below leaves what it found in the place of its V. `s` is the words of a set.
+// The pieces of a pass, over the sets of its level: V at `base`, then what is drawn. The solver below stands at the next
+// level, and leaves what it found in the place of its V. `s` is the words of a set.
 use crate::passes::Passes;
 use crate::passes::Sharp;
+use crate::places::next_level;
 use parity_game::Player;
 use parity_game::Priority;
 ghost use mathlib.Core.List.{List};
@@ -56,7 +57,7 @@ pub fn attract_top(
         (now (targets .entry))) (p .0) base (now (work .entry)) (now (work .exit)) ⌝ }
 {
     let drawn = base + s;
-    let up = base + 8 * s;
+    let up = next_level(base, s);
     sets::clear(work, drawn, s);
     highest_priority::collect(priorities, p, s, work, base, drawn);
     let alpha = Player::from_priority(p).index();
@@ -83,7 +84,7 @@ fn drop_found(
         (playerOf alpha) base (now (work .entry)) (now (work .exit))) ⌝ }
 {
     let drawn = base + s;
-    let up = base + 8 * s;
+    let up = next_level(base, s);
     sets::copy_with(work, drawn, up, s);
     attractor::attract(owners, offsets, targets, alpha, work, base, drawn);
     sets::difference_with(work, base, drawn, s);
@@ -109,7 +110,7 @@ pub fn settle(
         Settled (tablesOf (now (owners .entry)) priorities (now (offsets .entry)) (now (targets .entry)))
         (playerOf alpha) base (now (work .entry)) (now (work .exit)) sub passes half r) ⌝ }
 {
-    let up = base + 8 * s;
+    let up = next_level(base, s);
     if sets::is_empty(&work[up..up + s]) {
         return passes.after_nothing(sub, half);
     }
@@ -134,7 +135,8 @@ pub fn turn_over(s: usize, work: &mut [u64], base: usize, turned: Sharp) -> Shar
     requires { ⌜ base + 9 * s ≤ length (now work) ⌝ }
     ensures { λ r. ⌜ TurnedOver s base (now (work .entry)) (now (work .exit)) turned r ⌝ }
 {
-    sets::difference_with(work, base, base + 8 * s, s);
+    let up = next_level(base, s);
+    sets::difference_with(work, base, up, s);
     Sharp {
         keeps: turned.drops,
         drops: turned.keeps,

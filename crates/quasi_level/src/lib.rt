@@ -2,6 +2,7 @@
 // stand, and what a pass leaves. The recursion itself is in `quasi_polynomial`.
 mod level;
 mod passes;
+mod places;
 
 pub use level::attract_top;
 pub use level::give_up;
@@ -11,3 +12,4 @@ pub use level::size_at;
 pub use level::turn_over;
 pub use passes::Passes;
 pub use passes::Sharp;
+pub use places::next_level;

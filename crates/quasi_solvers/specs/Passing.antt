@@ -197,75 +197,80 @@ module _ {t : Tables} {a : Player} {base height : ℕ} {w₀ : List ℕ} (called
 
       -- ---- a height that no vertex has
 
-      module _ (theirs : parity p ≡ opponent a) {w₁ : List ℕ} (copied : Combined other (base + 8 * s) base s w₀ w₁) where
-        -- one more has the other parity, and is lower still
-        pub turned-less : p + 1 < height
-        turned-less =
-            let lower = top-lower in
-            let same-parity : p % 2 ≡ height % 2 = parity-mod p height (theirs ∙ sym (called .turn)) in
-            omega arith
+      module _ (theirs : parity p ≡ opponent a) {up : ℕ} (next : up ≡ nextLevel s base) {w₁ : List ℕ}
+          (copied : Combined other up base s w₀ w₁)
+        where
+          -- one more has the other parity, and is lower still
+          pub turned-less : p + 1 < height
+          turned-less =
+              let lower = top-lower in
+              let same-parity : p % 2 ≡ height % 2 = parity-mod p height (theirs ∙ sym (called .turn)) in
+              omega arith
 
-        copied′ : Combined other (base + 8 * words (vertices t)) base (words (vertices t)) w₀ w₁
-        copied′ = rw size at copied
+          up-at : up ≡ nextLevel (words (vertices t)) base
+          up-at = next ∙ ap (λ (k : ℕ). nextLevel k base) size
 
-        above : OpinionStays t (base + words (vertices t)) w₀ w₁
-        above =
-            record {
-              long = copied′ .long;
-              table = λ i l. copied′ .rest i (inl (omega (arith, called .low)));
-              lower = λ i f l. copied′ .rest i (inl (omega arith));
-            }
+          copied′ : Combined other (nextLevel (words (vertices t)) base) base (words (vertices t)) w₀ w₁
+          copied′ = rw (next, size) at copied
 
-        same-set : (v : ℕ) → onLevel t (base + 8 * s) w₁ v ≡ onLevel t base w₀ v
-        same-set v =
-            ap (λ (k : ℕ). onLevel t (base + 8 * k) w₁ v) size ∙
-            set-copied-here (vertices t) (base + 8 * words (vertices t)) base w₀ w₁ copied′ v
+          above : OpinionStays t (base + words (vertices t)) w₀ w₁
+          above =
+              record {
+                long = copied′ .long;
+                table = λ i l. copied′ .rest i (inl (omega (arith, called .low)));
+                lower = λ i f l. copied′ .rest i (inl (omega arith));
+              }
 
-        pub turned-called : OpinionCalled t (opponent a) (base + 8 * s) (p + 1) w₁
-        turned-called =
-            record {
-              accepted = called .accepted;
-              table = listed-kept (vertices t) (t .offsets) (t .targets) w₀ w₁ (above .long) (above .table) (called .table);
-              low = omega (arith, called .low);
-              room =
-                  let down = room-down (words (vertices t)) (p + 1) height base (length w₀) turned-less (called .room) in
-                  omega (arith, above .long, size);
-              below = λ v q. called .below v (sym (same-set v) ∙ q);
-              total = subst (λ (S : Set). TotalIn (gameOf t) S) (sym (fun-ext same-set)) (called .total);
-              under = λ v q. let l = top .most v (sym (same-set v) ∙ q) in omega arith;
-              turn = parity-next p ∙ ap opponent theirs;
-            }
+          same-set : (v : ℕ) → onLevel t up w₁ v ≡ onLevel t base w₀ v
+          same-set v =
+              ap (λ (at : ℕ). onLevel t at w₁ v) up-at ∙
+              set-copied-here (vertices t) (nextLevel (words (vertices t)) base) base w₀ w₁ copied′ v
 
-        pub turned-solved :
-            {own other : ℕ} {w₂ w₃ : List ℕ} {turned r : Sharp} →
-            SmallDominions t (opponent a) (base + 8 * s) other own w₁ w₂ turned →
-            TurnedOver s base w₂ w₃ turned r →
-            SmallDominions t a base own other w₀ w₃ r
-        turned-solved {own} {other} {w₂} {w₃} {turned} {r} solved over =
-            record {
-              stays =
-                  stays-on (stays-on (stays-under (omega arith) above) (stays-under (omega arith) (solved .stays)))
-                  (record {
-                    long = over .reduced .long;
-                    table = λ i l. over .reduced .rest i (inl (omega (arith, called .low)));
-                    lower = λ i f l. over .reduced .rest i (inl l);
-                  });
-              parts =
-                  rw (over .keeps, over .drops)
-                  (separates-over (λ v. refl) (λ v. sym (left v))
-                  (passed-over (separates-over same-set (λ v. refl) (solved .parts))));
-            }
-          where
-            reduced′ : Combined _-_ base (base + 8 * words (vertices t)) (words (vertices t)) w₂ w₃
-            reduced′ = rw size at (over .reduced)
+          pub turned-called : OpinionCalled t (opponent a) up (p + 1) w₁
+          turned-called =
+              record {
+                accepted = called .accepted;
+                table = listed-kept (vertices t) (t .offsets) (t .targets) w₀ w₁ (above .long) (above .table) (called .table);
+                low = omega (arith, called .low, next);
+                room =
+                    let down = room-down (words (vertices t)) (p + 1) height base (length w₀) turned-less (called .room) in
+                    omega (arith, above .long, up-at);
+                below = λ v q. called .below v (sym (same-set v) ∙ q);
+                total = subst (λ (S : Set). TotalIn (gameOf t) S) (sym (fun-ext same-set)) (called .total);
+                under = λ v q. let l = top .most v (sym (same-set v) ∙ q) in omega arith;
+                turn = parity-next p ∙ ap opponent theirs;
+              }
 
-            left : (v : ℕ) → onLevel t base w₃ v ≡ without (onLevel t base w₀) (onLevel t (base + 8 * s) w₂) v
-            left v =
-                set-reduced (vertices t) base (base + 8 * words (vertices t)) w₂ w₃ reduced′ v ∙
-                ap₂ (λ (x y : Bool). x && not y)
-                (level-stays (called .low) (omega (arith, size)) (solved .stays) v ∙
-                level-stays (called .low) (omega arith) above v)
-                (ap (λ (k : ℕ). onLevel t (base + 8 * k) w₂ v) (sym size))
+          pub turned-solved :
+              {own other : ℕ} {w₂ w₃ : List ℕ} {turned r : Sharp} →
+              SmallDominions t (opponent a) up other own w₁ w₂ turned →
+              TurnedOver s base w₂ w₃ turned r →
+              SmallDominions t a base own other w₀ w₃ r
+          turned-solved {own} {other} {w₂} {w₃} {turned} {r} solved over =
+              record {
+                stays =
+                    stays-on (stays-on (stays-under (omega arith) above) (stays-under (omega (arith, next)) (solved .stays)))
+                    (record {
+                      long = over .reduced .long;
+                      table = λ i l. over .reduced .rest i (inl (omega (arith, called .low)));
+                      lower = λ i f l. over .reduced .rest i (inl l);
+                    });
+                parts =
+                    rw (over .keeps, over .drops)
+                    (separates-over (λ v. refl) (λ v. sym (left v))
+                    (passed-over (separates-over same-set (λ v. refl) (solved .parts))));
+              }
+            where
+              reduced′ : Combined _-_ base (nextLevel (words (vertices t)) base) (words (vertices t)) w₂ w₃
+              reduced′ = rw size at (over .reduced)
+
+              left : (v : ℕ) → onLevel t base w₃ v ≡ without (onLevel t base w₀) (onLevel t up w₂) v
+              left v =
+                  set-reduced (vertices t) base (nextLevel (words (vertices t)) base) w₂ w₃ reduced′ v ∙
+                  ap₂ (λ (x y : Bool). x && not y)
+                  (level-stays (called .low) (omega (arith, up-at)) (solved .stays) v ∙
+                  level-stays (called .low) (omega arith) above v)
+                  (ap (λ (at : ℕ). onLevel t at w₂ v) (sym up-at))
 
 -- ---- the passes
 
@@ -314,13 +319,16 @@ module _ {t : Tables} {a : Player} {base height : ℕ} {w₀ : List ℕ} (called
             below = below;
           }
 
-      module _ (ours : parity p ≡ a) {w₁ : List ℕ} (cut : TopCut t p base w w₁) where
+      module _ (ours : parity p ≡ a) {up : ℕ} (next : up ≡ nextLevel s base) {w₁ : List ℕ} (cut : TopCut t p base w w₁) where
         abbrev A : Set
         A = attractor (gameOf t) a (onLevel t base w) (withPriority (gameOf t) (onLevel t base w) p)
 
-        rest : (v : ℕ) → onLevel t (base + 8 * s) w₁ v ≡ without (onLevel t base w) A v
+        up-is : up ≡ nextLevel (words (vertices t)) base
+        up-is = next ∙ ap (λ (k : ℕ). nextLevel k base) size
+
+        rest : (v : ℕ) → onLevel t up w₁ v ≡ without (onLevel t base w) A v
         rest v =
-            ap (λ (k : ℕ). onLevel t (base + 8 * k) w₁ v) size ∙
+            ap (λ (at : ℕ). onLevel t at w₁ v) up-is ∙
             cut .rest v ∙
             ap
             (λ (c : Player).
@@ -333,7 +341,7 @@ module _ {t : Tables} {a : Player} {base height : ℕ} {w₀ : List ℕ} (called
         fits = record { part = λ v q. and-left (onLevel t base w v) _ q; below = below }
 
         -- what the solver below asks for
-        pub going-called : OpinionCalled t (opponent a) (base + 8 * s) p w₁
+        pub going-called : OpinionCalled t (opponent a) up p w₁
         going-called =
             record {
               accepted = called .accepted;
@@ -342,11 +350,11 @@ module _ {t : Tables} {a : Player} {base height : ℕ} {w₀ : List ℕ} (called
                   (cut .stays .long ∙ going .stays .long)
                   (λ i l. cut .stays .table i l ∙ going .stays .table i l)
                   (called .table);
-              low = omega (arith, called .low);
+              low = omega (arith, called .low, next);
               room =
                   let down = room-down (words (vertices t)) p height base (length w₀) (top-lower called size top)
                   (called .room) in
-                  omega (arith, cut .stays .long, going .stays .long, size);
+                  omega (arith, cut .stays .long, going .stays .long, up-is);
               below = λ v q. called .below v (inside v (without-left (onLevel t base w) A v (sym (rest v) ∙ q)));
               total =
                   subst (λ (S : Set). TotalIn (gameOf t) S) (sym (fun-ext rest))
@@ -357,7 +365,7 @@ module _ {t : Tables} {a : Player} {base height : ℕ} {w₀ : List ℕ} (called
               turn = ours ∙ sym (opponent-twice a);
             }
           where
-            under : (v : ℕ) → onLevel t (base + 8 * s) w₁ v ≡ true → gameOf t .priority v < p
+            under : (v : ℕ) → onLevel t up w₁ v ≡ true → gameOf t .priority v < p
             under v q =
                 let in-rest = sym (rest v) ∙ q in
                 let in-V = without-left (onLevel t base w) A v in-rest in
@@ -371,16 +379,16 @@ module _ {t : Tables} {a : Player} {base height : ℕ} {w₀ : List ℕ} (called
                 (without-right (onLevel t base w) A v in-rest) in
                 omega (arith, differs)
 
-        module _ {k : ℕ} {w₂ : List ℕ} {sub : Sharp} (solved : SmallDominions t (opponent a) (base + 8 * s) k mine w₁ w₂ sub) where
+        module _ {k : ℕ} {w₂ : List ℕ} {sub : Sharp} (solved : SmallDominions t (opponent a) up k mine w₁ w₂ sub) where
           -- V stays
           stays₂ : OpinionStays t (base + words (vertices t)) w w₂
-          stays₂ = stays-on (cut .stays) (stays-under (omega (arith, size)) (solved .stays))
+          stays₂ = stays-on (cut .stays) (stays-under (omega (arith, up-is)) (solved .stays))
 
           level₂ : (v : ℕ) → onLevel t base w₂ v ≡ onLevel t base w v
           level₂ = level-stays (called .low) (omega arith) stays₂
 
           abbrev S : Set
-          S = onLevel t (base + 8 * s) w₂
+          S = onLevel t up w₂
 
           -- what a pass knows
           pass :
@@ -396,7 +404,7 @@ module _ {t : Tables} {a : Player} {base height : ℕ} {w₀ : List ℕ} (called
                 found = separates-over rest (λ v. refl) (solved .parts);
               }
 
-          found-in : (v : ℕ) → onLevel t (base + 8 * s) w₂ v ≡ true → onLevel t base w v ≡ true
+          found-in : (v : ℕ) → onLevel t up w₂ v ≡ true → onLevel t base w v ≡ true
           found-in = found-inside pass
 
           -- what the end of a pass asks for
@@ -418,11 +426,11 @@ module _ {t : Tables} {a : Player} {base height : ℕ} {w₀ : List ℕ} (called
                       below = λ v q. called .below v (inside v (sym (level₂ v) ∙ q));
                     };
                 player = side;
-                part = λ v q. level₂ v ∙ found-in v q;
+                part = λ v q. level₂ v ∙ found-in v (ap (λ (at : ℕ). onLevel t at w₂ v) next ∙ q);
               }
 
           next-set : (v : ℕ) → onLevel t (nextLevel (words (vertices t)) base) w₂ v ≡ S v
-          next-set v = ap (λ (j : ℕ). onLevel t (base + 8 * j) w₂ v) (sym size)
+          next-set v = ap (λ (at : ℕ). onLevel t at w₂ v) (sym up-is)
 
           below₀ : OpinionStays t base w₀ w₂
           below₀ = stays-on (going .stays) (stays-under (omega arith) stays₂)

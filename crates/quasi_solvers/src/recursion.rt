@@ -7,6 +7,7 @@ use quasi_level::Sharp;
 use quasi_level::attract_top;
 use quasi_level::give_up;
 use quasi_level::highest_at;
+use quasi_level::next_level;
 use quasi_level::settle;
 use quasi_level::size_at;
 use quasi_level::turn_over;
@@ -47,7 +48,7 @@ pub fn solve_even(
         return give_up(size, s, work, base);
     }
     let p = highest_at(priorities, s, work, base, height);
-    let up = base + 8 * s;
+    let up = next_level(base, s);
     if p.0 % 2 == 1 {
         sets::copy_with(work, up, base, s);
         let turned = solve_odd(
@@ -100,7 +101,7 @@ pub fn solve_odd(
         return give_up(size, s, work, base);
     }
     let p = highest_at(priorities, s, work, base, height);
-    let up = base + 8 * s;
+    let up = next_level(base, s);
     if p.0 % 2 == 0 {
         sets::copy_with(work, up, base, s);
         let turned = solve_even(

@@ -8,8 +8,11 @@ use Rattle.quasi_level.proofs.level.attract_top.Statement.{statement}
 use Rattle.quasi_level.proofs.level.attract_top.Tie as tie
 
 -- the places of the function, each from the next: where it begins, and after each call
+abbrev placed : tie.After-clear → tie.After-next-level
+placed c = c .before .before
+
 abbrev start-of : tie.After-clear → tie.Start
-start-of c = c .before .before .before .before .before .before .before
+start-of c = placed c .before .before .before .before .before .before
 
 abbrev after-clear : tie.After-collect → tie.After-clear
 after-clear c = c .before .before .before .before
@@ -32,11 +35,8 @@ after-copy c = c .before .before .before .before
 add-drawn : tie.Need-add-drawn
 add-drawn c = search needs
 
-mul-up : tie.Need-mul-up
-mul-up c = search needs
-
-add-up : tie.Need-add-up
-add-up c = search needs
+next-level-requires : tie.Need-next-level-requires
+next-level-requires c κs = search needs
 
 clear-requires : tie.Need-clear-requires
 clear-requires c κs = search needs
@@ -63,6 +63,7 @@ copy-with-requires c κs =
     let collected = after-collect (after-named (after-index drawn)) in
     let cleared = after-clear collected in
     let high = start-of cleared .pre .high in
+    let next = placed cleared .next-level .ensures in
     let long = drawn .attract .kept .1 .1 .1 .1 .0 in
     let long₂ = collected .collect .ensures .long in
     let long₁ = cleared .clear .ensures .long in
@@ -75,6 +76,7 @@ difference-with-requires c κs =
     let collected = after-collect (after-named (after-index drawn)) in
     let cleared = after-clear collected in
     let high = start-of cleared .pre .high in
+    let next = placed cleared .next-level .ensures in
     let long = drawn .attract .kept .1 .1 .1 .1 .0 in
     let long₃ = copied .copy-with .ensures .long in
     let long₂ = collected .collect .ensures .long in
@@ -94,7 +96,7 @@ returns c =
     let collected = after-collect named in
     let cleared = after-clear collected in
     let g = start-of cleared in
-    top-made (g .pre) (cleared .clear .ensures) (collected .collect .ensures)
+    top-made (g .pre) (cleared .clear .ensures) (collected .collect .ensures) (placed cleared .next-level .ensures)
     (indexed .index .ensures .0 ∙ named .from-priority .ensures)
     (drawn .attract .ensures (g .args .priorities .now) (g .pre .accepted))
     (copied .copy-with .ensures)
@@ -105,8 +107,7 @@ attract-top-spec =
     tie.close
     (tie.spec
     add-drawn
-    mul-up
-    add-up
+    next-level-requires
     clear-requires
     collect-requires
     from-priority-requires

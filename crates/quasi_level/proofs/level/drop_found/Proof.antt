@@ -7,8 +7,11 @@ use Rattle.quasi_level.proofs.level.drop_found.Statement.{statement}
 use Rattle.quasi_level.proofs.level.drop_found.Tie as tie
 
 -- the places of the function, each from the next: where it begins, and after each call
+abbrev placed : tie.After-copy-with → tie.After-next-level
+placed c = c .before .before
+
 abbrev start-of : tie.After-copy-with → tie.Start
-start-of c = c .before .before .before .before .before .before
+start-of c = placed c .before .before .before .before .before
 
 abbrev after-copy : tie.After-attract → tie.After-copy-with
 after-copy c = c .before .before .before .before
@@ -19,20 +22,19 @@ after-attract c = c .before .before .before .before
 add-drawn : tie.Need-add-drawn
 add-drawn c = search needs
 
-mul-up : tie.Need-mul-up
-mul-up c = search needs
-
-add-up : tie.Need-add-up
-add-up c = search needs
+next-level-requires : tie.Need-next-level-requires
+next-level-requires c κs = search needs
 
 copy-with-requires : tie.Need-copy-with-requires
 copy-with-requires c κs =
-    let high = c .before .before .before .before .before .pre .ready .high in
+    let next = c .before .next-level .ensures in
+    let high = c .before .before .before .before .before .before .pre .ready .high in
     record { into-fits = omega arith; from-fits = omega arith; apart = inl (omega arith) }
 
 attract-requires : tie.Need-attract-requires
 attract-requires c κs =
-    let copied = c .before .before .before in drop-attractable (start-of copied .pre) (copied .copy-with .ensures)
+    let copied = c .before .before .before in
+    drop-attractable (start-of copied .pre) (placed copied .next-level .ensures) (copied .copy-with .ensures)
 
 difference-with-requires : tie.Need-difference-with-requires
 difference-with-requires c κs =
@@ -52,7 +54,7 @@ returns c =
     let reduced = c .before .before in
     let drawn = after-attract reduced in
     let copied = after-copy drawn in
-    drop-made (start-of copied .pre) (copied .copy-with .ensures) priorities
+    drop-made (start-of copied .pre) (placed copied .next-level .ensures) (copied .copy-with .ensures) priorities
     (drawn .attract .ensures priorities ok)
     (reduced .difference-with .ensures)
 
@@ -61,8 +63,7 @@ drop-found-spec =
     tie.close
     (tie.spec
     add-drawn
-    mul-up
-    add-up
+    next-level-requires
     copy-with-requires
     attract-requires
     difference-with-requires

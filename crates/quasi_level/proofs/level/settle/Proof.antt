@@ -1,23 +1,34 @@
 -- `settle` meets its contract, by whether something was found.
 use mathlib.Core.Logic.{inl, inr}
-use mathlib.Core.Path.{refl, sym, ap, _∙_}
-use Prim.Native.Nat.{ℕ, _+_, _*_}
+use mathlib.Core.Path.{_≡_, refl, sym, ap, _∙_}
+use Prim.Native.Nat.{ℕ}
 use lib.ListN.{length}
 use borrow.Author.Needs.{needs}
+use Rattle.rules.specs.Tables.{words}
 use Rattle.area.specs.Area.{setAt}
+use Rattle.quasi_level.specs.Level.{nextLevel}
 use Rattle.quasi_level.specs.Pieces.{lent-empty, lent-some}
 use Rattle.quasi_level.proofs.level.settle.Statement.{statement}
 use Rattle.quasi_level.proofs.level.settle.Tie as tie
 
--- where the function begins
+-- where the function begins, and where the next level is known
+abbrev placed : tie.After-is-empty → tie.After-next-level
+placed c = c .before .before .before
+
 abbrev start-of : tie.After-is-empty → tie.Start
-start-of c = c .before .before .before .before .before .before .before
+start-of c = placed c .before .before .before .before .before
 
-mul-up : tie.Need-mul-up
-mul-up c = search needs
+-- the next level is where it should be
+next :
+    (c : tie.After-is-empty) →
+    let a = start-of c .args in
+    nextLevel (words (length (a .owners .now))) (a .base) ≡ placed c .next-level .result
+next c =
+    let g = start-of c in
+    sym (placed c .next-level .ensures ∙ ap (λ (k : ℕ). nextLevel k (g .args .base)) (g .pre .ready .size))
 
-add-up : tie.Need-add-up
-add-up c = search needs
+next-level-requires : tie.Need-next-level-requires
+next-level-requires c κs = search needs
 
 add-is-empty : tie.Need-add-is-empty
 add-is-empty c = search needs
@@ -49,13 +60,13 @@ returns c =
     let tested = c .before .before in
     let g = start-of tested in
     let n = length (g .args .owners .now) in
-    let size = g .pre .ready .size in
     inr
     (record {
       nothing =
           λ v.
-          ap (λ (k : ℕ). setAt n (g .args .base + 8 * k) (g .args .work .now) v) (sym size) ∙
-          lent-empty n (g .args .s) (g .args .base + 8 * g .args .s) (g .args .work .now) size (tested .is-empty .ensures)
+          ap (λ (at : ℕ). setAt n at (g .args .work .now) v) (next tested) ∙
+          lent-empty n (g .args .s) (placed tested .next-level .result) (g .args .work .now) (g .pre .ready .size)
+          (tested .is-empty .ensures)
           (c .before .if1 .taken)
           v;
       same = refl;
@@ -78,14 +89,14 @@ returns-2 c =
     let tested = dropped .before .before .before in
     let g = start-of tested in
     let n = length (g .args .owners .now) in
-    let size = g .pre .ready .size in
     let (v, p) =
-    lent-some n (g .args .s) (g .args .base + 8 * g .args .s) (g .args .work .now) size (tested .is-empty .ensures)
+    lent-some n (g .args .s) (placed tested .next-level .result) (g .args .work .now) (g .pre .ready .size)
+    (tested .is-empty .ensures)
     (dropped .before .before .if1 .left) in
     inl
     (record {
       vertex = v;
-      member = ap (λ (k : ℕ). setAt n (g .args .base + 8 * k) (g .args .work .now) v) (sym size) ∙ p;
+      member = ap (λ (at : ℕ). setAt n at (g .args .work .now) v) (next tested) ∙ p;
       dropped = dropped .drop-found .ensures priorities ok;
       stand = c .after-found .ensures;
     })
@@ -94,8 +105,7 @@ pub settle-spec : {M : Type 1} → statement M
 settle-spec =
     tie.close
     (tie.spec
-    mul-up
-    add-up
+    next-level-requires
     add-is-empty
     mul-is-empty
     sub-is-empty

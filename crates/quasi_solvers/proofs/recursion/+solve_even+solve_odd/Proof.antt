@@ -4,7 +4,7 @@
 use mathlib.Core.List.{List}
 use mathlib.Core.Logic.{inl, inr}
 use mathlib.Core.Path.{_≡_, refl, ap, _∙_}
-use Prim.Native.Nat.{ℕ, _+_, _*_, _/_, _≤_, _<_}
+use Prim.Native.Nat.{ℕ, _+_, _*_, _/_, _≤_, _<_, _^_}
 use native.Mathlib.Omega.{arith}
 use lib.ListN.{length}
 use Rattle.rules.specs.Game.{Even, Odd, opponent, parity, playerOf}
@@ -30,6 +30,7 @@ use Rattle.parity_game.proofs.set_words.Reads as set-words-reads
 use Rattle.quasi_level.proofs.attract_top.Reads as attract-top-reads
 use Rattle.quasi_level.proofs.give_up.Reads as give-up-reads
 use Rattle.quasi_level.proofs.highest_at.Reads as highest-at-reads
+use Rattle.quasi_level.proofs.next_level.Reads as next-level-reads
 use Rattle.quasi_level.proofs.settle.Reads as settle-reads
 use Rattle.quasi_level.proofs.size_at.Reads as size-at-reads
 use Rattle.quasi_level.proofs.turn_over.Reads as turn-over-reads
@@ -74,6 +75,8 @@ even-claims t = (
   give-up-reads.Learnt,
   highest-at-reads.Asked,
   highest-at-reads.Learnt,
+  next-level-reads.Asked,
+  next-level-reads.Learnt,
   copy-with-reads.Asked,
   copy-with-reads.Learnt,
   odd-below t,
@@ -124,8 +127,11 @@ module _ (t : ℕ) where
   abbrev even-copied : even-At solve-even-lts.After-solve-odd → even-At solve-even-lts.After-copy-with
   even-copied c = c .before .before .before .before .before
 
+  abbrev even-placed : even-At solve-even-lts.After-copy-with → even-At solve-even-lts.After-next-level
+  even-placed c = c .before .before .before .before
+
   abbrev even-topped : even-At solve-even-lts.After-copy-with → even-At solve-even-lts.After-highest-at
-  even-topped c = c .before .before .before .before
+  even-topped c = even-placed c .before
 
   abbrev even-entered : even-At solve-even-lts.At-loop → even-At solve-even-lts.Else2
   even-entered c = c .before .before .before
@@ -182,11 +188,11 @@ module _ (t : ℕ) where
   even-lower c = let d = even-sized c in top-lower (even-called d) (even-words d) (even-top c)
 
   -- whose it is
-  even-theirs : (c : even-At solve-even-lts.Then2) → parity (c .before .before .highest-at .result .0) ≡ opponent Even
+  even-theirs : (c : even-At solve-even-lts.Then2) → parity (c .before .before .before .highest-at .result .0) ≡ opponent Even
   even-theirs c = ap playerOf (c .if2 .taken)
 
-  even-ours : (c : even-At solve-even-lts.Else2) → parity (c .before .before .highest-at .result .0) ≡ Even
-  even-ours c = parity-even (c .before .before .highest-at .result .0) (c .if2 .left)
+  even-ours : (c : even-At solve-even-lts.Else2) → parity (c .before .before .before .highest-at .result .0) ≡ Even
+  even-ours c = parity-even (c .before .before .before .highest-at .result .0) (c .if2 .left)
 
   even-set-words-requires : even-At solve-even-lts.Need-set-words-requires
   even-set-words-requires c κs = search needs
@@ -217,15 +223,18 @@ module _ (t : ℕ) where
   even-highest-at-requires c κs =
       let d = c .before .before .before in called-searched (even-called d) (even-words d)
 
-  even-mul-up : even-At solve-even-lts.Need-mul-up
-  even-mul-up c = omega (arith, even-high c, even-start (even-sized c) .good)
-
-  even-add-up : even-At solve-even-lts.Need-add-up
-  even-add-up c = omega (arith, even-high c, even-start (even-sized c) .good)
+  even-next-level-requires : even-At solve-even-lts.Need-next-level-requires
+  even-next-level-requires c κs =
+      let d = even-sized c in
+      let g = even-start d in
+      let small : g .args .base + 8 * d .before .before .set-words .result < 2 ^ 64 = omega (arith, even-high c, g .good) in
+      small
 
   even-copy-with-requires : even-At solve-even-lts.Need-copy-with-requires
   even-copy-with-requires c κs =
-      let high = even-high (c .before .before .before) in
+      let u = c .before .before .before in
+      let high = even-high (u .before) in
+      let next = u .next-level .ensures in
       record { into-fits = omega arith; from-fits = omega arith; apart = inr (omega arith) }
 
   even-add-solve-odd : even-At solve-even-lts.Need-add-solve-odd
@@ -238,10 +247,11 @@ module _ (t : ℕ) where
       let copied = c .before .before .before .before in
       let h = even-topped copied in
       let d = even-sized h in
-      let theirs = even-theirs (copied .before .before) in (
+      let theirs = even-theirs (copied .before .before) in
+      let next = even-placed copied .next-level .ensures in (
         omega
-            (arith, turned-less (even-called d) (even-words d) (even-top h) theirs (copied .copy-with .ensures), even-start d .pre .0),
-        turned-called (even-called d) (even-words d) (even-top h) theirs (copied .copy-with .ensures),
+            (arith, turned-less (even-called d) (even-words d) (even-top h) theirs next (copied .copy-with .ensures), even-start d .pre .0),
+        turned-called (even-called d) (even-words d) (even-top h) theirs next (copied .copy-with .ensures),
       )
 
   even-turn-over-requires : even-At solve-even-lts.Need-turn-over-requires
@@ -269,6 +279,7 @@ module _ (t : ℕ) where
       let h = even-topped copied in
       let d = even-sized h in
       turned-solved (even-called d) (even-words d) (even-top h) (even-theirs (copied .before .before))
+      (even-placed copied .next-level .ensures)
       (copied .copy-with .ensures)
       (solved .solve-odd .ensures)
       (turned .turn-over .ensures)
@@ -281,7 +292,7 @@ module _ (t : ℕ) where
 
   even-loop-holds : even-At solve-even-lts.Need-loop-holds
   even-loop-holds c =
-      let h = c .before .before .before .before in
+      let h = c .before .before .before .before .before in
       let d = even-sized h in
       going-first (even-called d) (even-words d) (even-top h) (c .new .ensures)
 
@@ -291,7 +302,7 @@ module _ (t : ℕ) where
   even-attract-top-requires : even-At solve-even-lts.Need-attract-top-requires
   even-attract-top-requires c κs =
       let l = c .before .before .before .before in
-      let h = even-entered l .before .before in
+      let h = even-entered l .before .before .before in
       let d = even-sized h in
       going-ready (even-called d) (even-words d) (even-top h) (l .loop .inv)
 
@@ -300,10 +311,11 @@ module _ (t : ℕ) where
       let cut = c .before .before .before in
       let l = even-turn cut in
       let e = even-entered l in
-      let h = e .before .before in
+      let u = e .before .before in
+      let h = u .before in
       let d = even-sized h in (
         omega (arith, even-lower h, even-start d .pre .0),
-        going-called (even-called d) (even-words d) (even-top h) (l .loop .inv) (even-ours e) (cut .attract-top .ensures),
+        going-called (even-called d) (even-words d) (even-top h) (l .loop .inv) (even-ours e) (u .next-level .ensures) (cut .attract-top .ensures),
       )
 
   even-settle-requires : even-At solve-even-lts.Need-settle-requires
@@ -312,9 +324,10 @@ module _ (t : ℕ) where
       let cut = even-cut found in
       let l = even-turn cut in
       let e = even-entered l in
-      let h = e .before .before in
+      let u = e .before .before in
+      let h = u .before in
       let d = even-sized h in
-      going-droppable (even-called d) (even-words d) (even-top h) (l .loop .inv) (even-ours e) (cut .attract-top .ensures)
+      going-droppable (even-called d) (even-words d) (even-top h) (l .loop .inv) (even-ours e) (u .next-level .ensures) (cut .attract-top .ensures)
       (found .solve-odd2 .ensures)
       (omega arith)
 
@@ -325,10 +338,11 @@ module _ (t : ℕ) where
       let cut = even-cut found in
       let l = even-turn cut in
       let e = even-entered l in
-      let h = e .before .before in
+      let u = e .before .before in
+      let h = u .before in
       let d = even-sized h in
       let g = even-start d in
-      going-less (even-called d) (even-words d) (even-top h) (l .loop .inv) (even-ours e) (cut .attract-top .ensures)
+      going-less (even-called d) (even-words d) (even-top h) (l .loop .inv) (even-ours e) (u .next-level .ensures) (cut .attract-top .ensures)
       (found .solve-odd2 .ensures)
       (cut .before .before .before .if3 .taken)
       (settled .settle .ensures (g .args .priorities .now) (even-called d .accepted))
@@ -340,10 +354,11 @@ module _ (t : ℕ) where
       let cut = even-cut found in
       let l = even-turn cut in
       let e = even-entered l in
-      let h = e .before .before in
+      let u = e .before .before in
+      let h = u .before in
       let d = even-sized h in
       let g = even-start d in
-      going-on (even-called d) (even-words d) (even-top h) (l .loop .inv) (even-ours e) (cut .attract-top .ensures)
+      going-on (even-called d) (even-words d) (even-top h) (l .loop .inv) (even-ours e) (u .next-level .ensures) (cut .attract-top .ensures)
       (found .solve-odd2 .ensures)
       (cut .before .before .before .if3 .taken)
       refl
@@ -360,7 +375,8 @@ module _ (t : ℕ) where
   even-returns-3 c =
       let l = c .before .before .before in
       let e = even-entered l in
-      let h = e .before .before in
+      let u = e .before .before in
+      let h = u .before in
       let d = even-sized h in
       let k = c .before .if3 .left in
       going-ends (even-called d) (even-words d) (even-top h) (l .loop .inv) (λ early. omega arith) (d .size-at .ensures)
@@ -382,6 +398,8 @@ odd-claims t = (
   give-up-reads.Learnt,
   highest-at-reads.Asked,
   highest-at-reads.Learnt,
+  next-level-reads.Asked,
+  next-level-reads.Learnt,
   copy-with-reads.Asked,
   copy-with-reads.Learnt,
   even-below t,
@@ -432,8 +450,11 @@ module _ (t : ℕ) where
   abbrev odd-copied : odd-At solve-odd-lts.After-solve-even → odd-At solve-odd-lts.After-copy-with
   odd-copied c = c .before .before .before .before .before
 
+  abbrev odd-placed : odd-At solve-odd-lts.After-copy-with → odd-At solve-odd-lts.After-next-level
+  odd-placed c = c .before .before .before .before
+
   abbrev odd-topped : odd-At solve-odd-lts.After-copy-with → odd-At solve-odd-lts.After-highest-at
-  odd-topped c = c .before .before .before .before
+  odd-topped c = odd-placed c .before
 
   abbrev odd-entered : odd-At solve-odd-lts.At-loop → odd-At solve-odd-lts.Else2
   odd-entered c = c .before .before .before
@@ -490,11 +511,11 @@ module _ (t : ℕ) where
   odd-lower c = let d = odd-sized c in top-lower (odd-called d) (odd-words d) (odd-top c)
 
   -- whose it is
-  odd-theirs : (c : odd-At solve-odd-lts.Then2) → parity (c .before .before .highest-at .result .0) ≡ opponent Odd
+  odd-theirs : (c : odd-At solve-odd-lts.Then2) → parity (c .before .before .before .highest-at .result .0) ≡ opponent Odd
   odd-theirs c = ap playerOf (c .if2 .taken)
 
-  odd-ours : (c : odd-At solve-odd-lts.Else2) → parity (c .before .before .highest-at .result .0) ≡ Odd
-  odd-ours c = parity-odd (c .before .before .highest-at .result .0) (c .if2 .left)
+  odd-ours : (c : odd-At solve-odd-lts.Else2) → parity (c .before .before .before .highest-at .result .0) ≡ Odd
+  odd-ours c = parity-odd (c .before .before .before .highest-at .result .0) (c .if2 .left)
 
   odd-set-words-requires : odd-At solve-odd-lts.Need-set-words-requires
   odd-set-words-requires c κs = search needs
@@ -525,15 +546,18 @@ module _ (t : ℕ) where
   odd-highest-at-requires c κs =
       let d = c .before .before .before in called-searched (odd-called d) (odd-words d)
 
-  odd-mul-up : odd-At solve-odd-lts.Need-mul-up
-  odd-mul-up c = omega (arith, odd-high c, odd-start (odd-sized c) .good)
-
-  odd-add-up : odd-At solve-odd-lts.Need-add-up
-  odd-add-up c = omega (arith, odd-high c, odd-start (odd-sized c) .good)
+  odd-next-level-requires : odd-At solve-odd-lts.Need-next-level-requires
+  odd-next-level-requires c κs =
+      let d = odd-sized c in
+      let g = odd-start d in
+      let small : g .args .base + 8 * d .before .before .set-words .result < 2 ^ 64 = omega (arith, odd-high c, g .good) in
+      small
 
   odd-copy-with-requires : odd-At solve-odd-lts.Need-copy-with-requires
   odd-copy-with-requires c κs =
-      let high = odd-high (c .before .before .before) in
+      let u = c .before .before .before in
+      let high = odd-high (u .before) in
+      let next = u .next-level .ensures in
       record { into-fits = omega arith; from-fits = omega arith; apart = inr (omega arith) }
 
   odd-add-solve-even : odd-At solve-odd-lts.Need-add-solve-even
@@ -546,10 +570,11 @@ module _ (t : ℕ) where
       let copied = c .before .before .before .before in
       let h = odd-topped copied in
       let d = odd-sized h in
-      let theirs = odd-theirs (copied .before .before) in (
+      let theirs = odd-theirs (copied .before .before) in
+      let next = odd-placed copied .next-level .ensures in (
         omega
-            (arith, turned-less (odd-called d) (odd-words d) (odd-top h) theirs (copied .copy-with .ensures), odd-start d .pre .0),
-        turned-called (odd-called d) (odd-words d) (odd-top h) theirs (copied .copy-with .ensures),
+            (arith, turned-less (odd-called d) (odd-words d) (odd-top h) theirs next (copied .copy-with .ensures), odd-start d .pre .0),
+        turned-called (odd-called d) (odd-words d) (odd-top h) theirs next (copied .copy-with .ensures),
       )
 
   odd-turn-over-requires : odd-At solve-odd-lts.Need-turn-over-requires
@@ -576,7 +601,9 @@ module _ (t : ℕ) where
       let copied = odd-copied solved in
       let h = odd-topped copied in
       let d = odd-sized h in
-      turned-solved (odd-called d) (odd-words d) (odd-top h) (odd-theirs (copied .before .before)) (copied .copy-with .ensures)
+      turned-solved (odd-called d) (odd-words d) (odd-top h) (odd-theirs (copied .before .before))
+      (odd-placed copied .next-level .ensures)
+      (copied .copy-with .ensures)
       (solved .solve-even .ensures)
       (turned .turn-over .ensures)
 
@@ -588,7 +615,7 @@ module _ (t : ℕ) where
 
   odd-loop-holds : odd-At solve-odd-lts.Need-loop-holds
   odd-loop-holds c =
-      let h = c .before .before .before .before in
+      let h = c .before .before .before .before .before in
       let d = odd-sized h in
       going-first (odd-called d) (odd-words d) (odd-top h) (c .new .ensures)
 
@@ -598,7 +625,7 @@ module _ (t : ℕ) where
   odd-attract-top-requires : odd-At solve-odd-lts.Need-attract-top-requires
   odd-attract-top-requires c κs =
       let l = c .before .before .before .before in
-      let h = odd-entered l .before .before in
+      let h = odd-entered l .before .before .before in
       let d = odd-sized h in
       going-ready (odd-called d) (odd-words d) (odd-top h) (l .loop .inv)
 
@@ -607,10 +634,11 @@ module _ (t : ℕ) where
       let cut = c .before .before .before in
       let l = odd-turn cut in
       let e = odd-entered l in
-      let h = e .before .before in
+      let u = e .before .before in
+      let h = u .before in
       let d = odd-sized h in (
         omega (arith, odd-lower h, odd-start d .pre .0),
-        going-called (odd-called d) (odd-words d) (odd-top h) (l .loop .inv) (odd-ours e) (cut .attract-top .ensures),
+        going-called (odd-called d) (odd-words d) (odd-top h) (l .loop .inv) (odd-ours e) (u .next-level .ensures) (cut .attract-top .ensures),
       )
 
   odd-settle-requires : odd-At solve-odd-lts.Need-settle-requires
@@ -619,9 +647,10 @@ module _ (t : ℕ) where
       let cut = odd-cut found in
       let l = odd-turn cut in
       let e = odd-entered l in
-      let h = e .before .before in
+      let u = e .before .before in
+      let h = u .before in
       let d = odd-sized h in
-      going-droppable (odd-called d) (odd-words d) (odd-top h) (l .loop .inv) (odd-ours e) (cut .attract-top .ensures)
+      going-droppable (odd-called d) (odd-words d) (odd-top h) (l .loop .inv) (odd-ours e) (u .next-level .ensures) (cut .attract-top .ensures)
       (found .solve-even2 .ensures)
       (omega arith)
 
@@ -632,10 +661,11 @@ module _ (t : ℕ) where
       let cut = odd-cut found in
       let l = odd-turn cut in
       let e = odd-entered l in
-      let h = e .before .before in
+      let u = e .before .before in
+      let h = u .before in
       let d = odd-sized h in
       let g = odd-start d in
-      going-less (odd-called d) (odd-words d) (odd-top h) (l .loop .inv) (odd-ours e) (cut .attract-top .ensures)
+      going-less (odd-called d) (odd-words d) (odd-top h) (l .loop .inv) (odd-ours e) (u .next-level .ensures) (cut .attract-top .ensures)
       (found .solve-even2 .ensures)
       (cut .before .before .before .if3 .taken)
       (settled .settle .ensures (g .args .priorities .now) (odd-called d .accepted))
@@ -647,10 +677,11 @@ module _ (t : ℕ) where
       let cut = odd-cut found in
       let l = odd-turn cut in
       let e = odd-entered l in
-      let h = e .before .before in
+      let u = e .before .before in
+      let h = u .before in
       let d = odd-sized h in
       let g = odd-start d in
-      going-on (odd-called d) (odd-words d) (odd-top h) (l .loop .inv) (odd-ours e) (cut .attract-top .ensures)
+      going-on (odd-called d) (odd-words d) (odd-top h) (l .loop .inv) (odd-ours e) (u .next-level .ensures) (cut .attract-top .ensures)
       (found .solve-even2 .ensures)
       (cut .before .before .before .if3 .taken)
       refl
@@ -667,7 +698,8 @@ module _ (t : ℕ) where
   odd-returns-3 c =
       let l = c .before .before .before in
       let e = odd-entered l in
-      let h = e .before .before in
+      let u = e .before .before in
+      let h = u .before in
       let d = odd-sized h in
       let k = c .before .if3 .left in
       going-ends (odd-called d) (odd-words d) (odd-top h) (l .loop .inv) (λ early. omega arith) (d .size-at .ensures)
@@ -693,8 +725,7 @@ pub +solve-even+solve-odd-spec : {M : Type 1} → statement M
     (even-same-length t)
     (even-returns t)
     (even-highest-at-requires t)
-    (even-mul-up t)
-    (even-add-up t)
+    (even-next-level-requires t)
     (even-copy-with-requires t)
     (even-add-solve-odd t)
     (even-solve-odd-requires t)
@@ -726,8 +757,7 @@ pub +solve-even+solve-odd-spec : {M : Type 1} → statement M
     (odd-same-length t)
     (odd-returns t)
     (odd-highest-at-requires t)
-    (odd-mul-up t)
-    (odd-add-up t)
+    (odd-next-level-requires t)
     (odd-copy-with-requires t)
     (odd-add-solve-even t)
     (odd-solve-even-requires t)
