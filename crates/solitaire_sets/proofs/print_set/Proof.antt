@@ -1,8 +1,8 @@
 -- `print_set` ends: what is left of the vertices falls.
 use Prim.Native.Nat.{_≤_, _-_}
 use borrow.Author.Needs.{needs}
-use Rattle.solitaire.proofs.print_set.Statement.{statement}
-use Rattle.solitaire.proofs.print_set.Tie as tie
+use Rattle.solitaire_sets.proofs.print_set.Statement.{statement}
+use Rattle.solitaire_sets.proofs.print_set.Tie as tie
 
 abbrev Inv-loop : tie.InvT-loop
 Inv-loop n set rest₀ v₀ rest v = v ≤ n
