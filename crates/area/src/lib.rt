@@ -22,7 +22,7 @@ impl Area {
         requires { ⌜ counters (self .n) (self .m) < 2 ^ 64 ⌝ }
         ensures { λ r. ⌜ r ≡ counters (self .n) (self .m) ⌝ }
     {
-        self.n + 1 + self.m
+        predecessors::table_end(self.n, self.m)
     }
 
     pub fn distances(self) -> usize

@@ -21,11 +21,11 @@ pub fn take(
         ⌜ Took (now (owners .entry)) (now (offsets .entry)) (now (targets .entry)) alpha within set next w far
         (now (work .entry)) (now (work .exit)) ⌝ }
 {
-    let n = owners.len();
+    let sources = predecessors::sources_at(owners.len());
     let first = work[w] as usize;
     let last = work[w + 1] as usize;
     for e in first..last {
-        let v = work[n + 1 + e] as usize;
+        let v = work[sources + e] as usize;
         touch(
             owners,
             offsets,

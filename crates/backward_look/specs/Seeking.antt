@@ -1,5 +1,5 @@
 -- The second pass over the work area: the search for one part against the links, and what it leaves.
-use mathlib.Core.Bool.{true, false, _&&_}
+use mathlib.Core.Bool.{Bool, true, false, _&&_}
 use mathlib.Core.List.{List}
 use mathlib.Core.Logic.{_⊎_, inl, ⊎-elim}
 use mathlib.Core.Path.{_≡_, refl, sym, ap, subst, _∙_}
@@ -68,6 +68,16 @@ pub putting-as :
     {row row' queue queue' : ℕ} (x word at : ℕ) (work : List ℕ) →
     row ≡ row' → queue ≡ queue' → putting row x word queue at work ≡ putting row' x word queue' at work
 putting-as x word at work a b = rw (a, b)
+
+-- what a look at an entry answered, by what the rows are equal to
+pub opens-as :
+    {row start : ℕ} {answer b : Bool} (G : Graph) (work : List ℕ) (e w : ℕ) →
+    row ≡ labels (size G) (edgeCount G) →
+    start ≡ size G + 1 →
+    answer ≡ (freshAt (G .priorities) (G .top) work row (getD work (start + e) 0) && keeping (G .entries) (getD work (start + e) 0) w) →
+    answer ≡ b →
+    (freshAt (G .priorities) (G .top) work (labels (size G) (edgeCount G)) (source G work e) && keeping (G .entries) (source G work e) w) ≡ b
+opens-as G work e w a b is said = rw (← a, ← b) (sym is ∙ said)
 
 pub record Lookable (G : Graph) (work : List ℕ) (w r tail : ℕ) : Type 0 where
   pub sound : SoundGraph G

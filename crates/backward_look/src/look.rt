@@ -41,9 +41,10 @@ pub fn look_back(
     };
     let queue = rows.queue();
     let labels = rows.labels();
+    let sources = predecessors::sources_at(n);
     let mut end = tail;
     for e in work[w] as usize..work[w + 1] as usize {
-        let v = work[n + 1 + e] as usize;
+        let v = work[sources + e] as usize;
         if search_links::opens(priorities, entries, p, work, labels, v, v, w) {
             put(work, labels, v, r as u64 + 1, queue, end);
             end += 1;

@@ -16,7 +16,7 @@ impl Rows {
         requires { ⌜ marks (self .n) (self .m) < 2 ^ 64 ⌝ }
         ensures { λ r. ⌜ r ≡ marks (self .n) (self .m) ⌝ }
     {
-        self.n + 1 + self.m
+        predecessors::table_end(self.n, self.m)
     }
 
     // The vertices in the order in which they finish.

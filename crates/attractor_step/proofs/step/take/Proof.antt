@@ -7,15 +7,21 @@ use Rattle.attractor_step.proofs.step.take.Statement.{statement}
 use Rattle.attractor_step.proofs.step.take.Tie as tie
 
 abbrev Inv-loop : tie.InvT-loop
-Inv-loop owners offsets targets s alpha work₀ within set next w far n first last e₀ work e =
+Inv-loop owners offsets targets s alpha work₀ within set next w far sources first last e₀ work e =
     Looking owners offsets targets alpha within set next w far work₀ e work
 
 abbrev μ-loop : tie.MeasureT-loop
-μ-loop owners offsets targets s alpha work₀ within set next w far n first last e₀ work e = last - e
+μ-loop owners offsets targets s alpha work₀ within set next w far sources first last e₀ work e = last - e
 
--- where the function begins
+-- where the sources stand, and where the function begins
+abbrev sources-of : tie.At-loop Inv-loop μ-loop → tie.After-sources-at Inv-loop μ-loop
+sources-of c = c .before .before .before
+
 abbrev start-of : tie.At-loop Inv-loop μ-loop → tie.Start Inv-loop μ-loop
-start-of c = c .before .before .before .before .before .before .before
+start-of c = sources-of c .before .before .before .before .before
+
+sources-at-requires : tie.Need-sources-at-requires Inv-loop μ-loop
+sources-at-requires c κs = search needs
 
 mul-first : tie.Need-mul-first Inv-loop μ-loop
 mul-first c = search needs
@@ -34,16 +40,13 @@ slice-read-last c = search needs
 
 loop-holds : tie.Need-loop-holds Inv-loop μ-loop
 loop-holds c =
-    let g = c .before .before .before .before .before .before in
+    let g = c .before .before .before .before .before .before .before in
     let a = g .args in
     looking-none (a .owners .now) (a .offsets .now) (a .targets .now) (a .s) (a .alpha) (a .within) (a .set) (a .next)
     (a .w) (a .far) (a .work .now) (g .pre)
 
 add-v : tie.Need-add-v Inv-loop μ-loop
 add-v c = search needs
-
-add-v-2 : tie.Need-add-v-2 Inv-loop μ-loop
-add-v-2 c = search needs
 
 mul-v : tie.Need-mul-v Inv-loop μ-loop
 mul-v c = search needs
@@ -57,9 +60,10 @@ touch-requires c κs =
     let g = start-of (d .before) in
     let a = g .args in
     let l = d .before .loop in
-    look-ready (a .owners .now) (a .offsets .now) (a .targets .now) (a .s) (a .alpha) (a .within) (a .set) (a .next)
+    rw (sources-of (d .before) .sources-at .ensures)
+    (look-ready (a .owners .now) (a .offsets .now) (a .targets .now) (a .s) (a .alpha) (a .within) (a .set) (a .next)
     (a .w) (a .far) (a .work .now) (g .pre)
-    (l .e) (l .work) (l .inv) (d .loop-test .taken)
+    (l .e) (l .work) (l .inv) (d .loop-test .taken))
 
 add-e : tie.Need-add-e Inv-loop μ-loop
 add-e c = search needs
@@ -76,7 +80,7 @@ loop-again c =
     let l = d .before .loop in
     looking-more (a .owners .now) (a .offsets .now) (a .targets .now) (a .s) (a .alpha) (a .within) (a .set) (a .next)
     (a .w) (a .far) (a .work .now) (g .pre)
-    (l .e) (l .work) (l .inv) (d .loop-test .taken) _ (t .touch .ensures)
+    (l .e) (l .work) (l .inv) (d .loop-test .taken) _ (rw (sources-of (d .before) .sources-at .ensures) at (t .touch .ensures))
 
 same-length : tie.Need-same-length Inv-loop μ-loop
 same-length c = c .before .loop .inv .becomes .kept .long
@@ -96,6 +100,7 @@ take-spec =
     (tie.spec
     Inv-loop
     μ-loop
+    sources-at-requires
     mul-first
     slice-read-first
     add-last
@@ -103,7 +108,6 @@ take-spec =
     slice-read-last
     loop-holds
     add-v
-    add-v-2
     mul-v
     slice-read-v
     touch-requires
