@@ -4,9 +4,10 @@ use mathlib.Core.Bool.{true}
 use mathlib.Core.List.{List}
 use mathlib.Core.Logic.{inr, ⊎-elim}
 use mathlib.Core.Path.{_≡_, refl, sym, ap, subst, _∙_}
-use Prim.Native.Nat.{ℕ, _+_, _-_, _*_, _%_, _≤_, _<_}
+use Prim.Native.Nat.{ℕ, zero, suc, _+_, _-_, _*_, _%_, _≤_, _<_}
 use native.Mathlib.Omega.{arith}
 use lib.ListN.{length, getD, take, drop, set}
+use Rattle.rules.specs.Game.{playerOf, parity}
 use Rattle.rules.specs.Tables.{words}
 use Rattle.walk.specs.declared.members.Members.{Members}
 use Rattle.basics.specs.Basics.{bool-cases}
@@ -27,48 +28,58 @@ pub record Extends (owners offsets targets : List ℕ) (s base : ℕ) (work : Li
   pub high : base + 2 * s ≤ length work
   pub below : (v : ℕ) → setAt (length owners) (base + s) work v ≡ true → v < length owners
 
--- v is a vertex of U that p's player owns
+-- v is a vertex of U that the player alpha owns
 abbrev pub Chooses : List ℕ → ℕ → ℕ → ℕ → List ℕ → ℕ → Type 0
-Chooses owners p s base work v = (setAt (length owners) (base + s) work v ≡ true) × (getD owners v 0 ≡ p % 2)
+Chooses owners alpha s base work v = (setAt (length owners) (base + s) work v ≡ true) × (getD owners v 0 ≡ alpha)
+
+-- the index of p's player
+pub index-is : {alpha : ℕ} (p : ℕ) → alpha ≤ 1 → playerOf alpha ≡ parity p → alpha ≡ p % 2
+index-is {alpha} p low same = go alpha (p % 2) low (omega arith) same
+  where
+    go : (j k : ℕ) → j ≤ 1 → k ≤ 1 → playerOf j ≡ playerOf k → j ≡ k
+    go zero zero l m e = refl
+    go zero (suc k) l m e = cc
+    go (suc j) zero l m e = cc
+    go (suc j) (suc k) l m e = omega arith
 
 -- a word that is no entry
 abbrev pub Elsewhere : List ℕ → List ℕ → ℕ → Type 0
 Elsewhere owners targets = Beside (length owners) (entries (length owners) (length targets))
 
--- every such vertex has its lowest-numbered successor in V as its entry, and every other entry is as it was
+-- every vertex of U that p's player owns has its lowest-numbered successor in V as its entry, and every other entry is as it was
 pub record Extended (owners offsets targets : List ℕ) (p s base : ℕ) (before after : List ℕ) : Type 0 where
   pub long : length after ≡ length before
   pub chosen :
       (v : ℕ) →
-      Chooses owners p s base before v →
+      Chooses owners (p % 2) s base before v →
       entryAt (length owners) (length targets) after v ≡
       lowestEnd (length owners) offsets targets v (wordsAt (length owners) base before)
   pub kept :
       (v : ℕ) →
       v < length owners →
-      (Chooses owners p s base before v → ⊥) →
+      (Chooses owners (p % 2) s base before v → ⊥) →
       entryAt (length owners) (length targets) after v ≡ entryAt (length owners) (length targets) before v
   pub rest : (i : ℕ) → Elsewhere owners targets i → getD after i 0 ≡ getD before i 0
 
 -- the entry of a vertex: its lowest-numbered successor in V if it chooses, else as it was
-pub record Chosen (owners offsets targets : List ℕ) (p s base : ℕ) (before : List ℕ) (v w w' : ℕ) : Type 0 where
+pub record Chosen (owners offsets targets : List ℕ) (alpha s base : ℕ) (before : List ℕ) (v w w' : ℕ) : Type 0 where
   pub chosen :
-      Chooses owners p s base before v →
+      Chooses owners alpha s base before v →
       w' ≡ lowestEnd (length owners) offsets targets v (wordsAt (length owners) base before)
-  pub kept : (Chooses owners p s base before v → ⊥) → w' ≡ w
+  pub kept : (Chooses owners alpha s base before v → ⊥) → w' ≡ w
 
 -- the vertices that the walk has passed have their entries
 abbrev pub ExtendingTo : List ℕ → List ℕ → List ℕ → ℕ → ℕ → ℕ → List ℕ → Members → List ℕ → Type 0
-ExtendingTo owners offsets targets p s base before =
+ExtendingTo owners offsets targets alpha s base before =
     WalkedTo (length owners) (base + s) (Elsewhere owners targets) Always (entryAt (length owners) (length targets))
-    (Chosen owners offsets targets p s base before)
+    (Chosen owners offsets targets alpha s base before)
     before
 
 -- one is passed
 abbrev pub Extending : List ℕ → List ℕ → List ℕ → ℕ → ℕ → ℕ → List ℕ → ℕ → List ℕ → List ℕ → Type 0
-Extending owners offsets targets p s base before =
+Extending owners offsets targets alpha s base before =
     Turn (length owners) (Elsewhere owners targets) Always (entryAt (length owners) (length targets))
-    (Chosen owners offsets targets p s base before)
+    (Chosen owners offsets targets alpha s base before)
 
 module _ {owners offsets targets : List ℕ} {s base : ℕ} {before : List ℕ}
     (ready : Extends owners offsets targets s base before)
@@ -91,16 +102,17 @@ module _ {owners offsets targets : List ℕ} {s base : ℕ} {before : List ℕ}
 
     -- the walk is over
     pub extending-all :
-        {p : ℕ} {work : List ℕ} →
+        {alpha p : ℕ} {work : List ℕ} →
+        alpha ≡ p % 2 →
         Walked (length owners) (base + s) (Elsewhere owners targets) Always (entryAt (length owners) (length targets))
-        (Chosen owners offsets targets p s base before)
+        (Chosen owners offsets targets alpha s base before)
         before work →
         Extended owners offsets targets p s base before work
-    extending-all w =
+    extending-all is w =
         record {
           long = w .keeps .long;
-          chosen = λ v u. w .inside v (u .0) .chosen u;
-          kept = λ v l d. ⊎-elim (λ m. w .inside v m .kept d) (w .outside v l) (bool-cases (setAt n (base + s) before v));
+          chosen = λ v u. w .inside v (u .0) .chosen (u .0, u .1 ∙ sym is);
+          kept = λ v l d. ⊎-elim (λ m. w .inside v m .kept (λ u. d (u .0, u .1 ∙ is))) (w .outside v l) (bool-cases (setAt n (base + s) before v));
           rest = w .keeps .rest;
         }
 
@@ -116,7 +128,7 @@ module _ {owners offsets targets : List ℕ} {s base : ℕ} {before : List ℕ}
     module _ {v : ℕ} (member : setAt (length owners) (base + s) before v ≡ true) where
       -- a vertex of the other player keeps its entry
       pub other-owner :
-          {p : ℕ} {work : List ℕ} → (getD owners v 0 ≡ p % 2 → ⊥) → Extending owners offsets targets p s base before v work work
+          {alpha : ℕ} {work : List ℕ} → (getD owners v 0 ≡ alpha → ⊥) → Extending owners offsets targets alpha s base before v work work
       other-owner d = same-turn tt (record { chosen = λ u. absurd (d (u .1)); kept = λ e. refl })
 
       module _ {work : List ℕ} (kept : Keeps (Elsewhere owners targets) Always before work) where
@@ -128,15 +140,15 @@ module _ {owners offsets targets : List ℕ} {s base : ℕ} {before : List ℕ}
 
         -- it takes its lowest-numbered successor in V
         pub extending-one :
-            {p : ℕ} →
-            getD owners v 0 ≡ p % 2 →
+            {alpha : ℕ} →
+            getD owners v 0 ≡ alpha →
             {w : ℕ} →
             w ≡ lowestEnd (length owners) offsets targets v (take ((base + s) - base) (drop base work)) →
             {row : ℕ} →
             row ≡ entries (length owners) (length targets) →
-            Extending owners offsets targets p s base before v work (set work (row + v) w)
-        extending-one {p} o {w} found at =
-            subst (λ (k : ℕ). Extending owners offsets targets p s base before v work (set work (k + v) w)) (sym at)
+            Extending owners offsets targets alpha s base before v work (set work (row + v) w)
+        extending-one {alpha} o {w} found at =
+            subst (λ (k : ℕ). Extending owners offsets targets alpha s base before v work (set work (k + v) w)) (sym at)
             (store-turn (entries n m) w (ready .below v member) (omega (arith, kept .long, ready .low, ready .high))
             (record {
               chosen = λ u. found ∙ ap (lowestEnd n offsets targets v) (lent kept);

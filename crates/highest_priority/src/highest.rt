@@ -1,5 +1,6 @@
 // The highest priority in V, the vertices that have it, and the lowest-numbered successor inside V of each of them.
 use area::Area;
+use parity_game::Player;
 use parity_game::Priority;
 use successors::inside::lowest_inside;
 use walk::Members;
@@ -101,6 +102,7 @@ pub fn extend_lowest(
     let m = targets.len();
     let entries = Area { n, m, s }.entries();
     let from = base + s;
+    let alpha = Player::from_priority(p).index();
     let mut walk = Members::new(work, from, s);
     loop {
         let next = walk.next(work, from, s);
@@ -108,7 +110,7 @@ pub fn extend_lowest(
             return;
         };
         let v = member.0;
-        if owners[v] as usize == p.0 % 2 {
+        if owners[v] == alpha {
             let w = lowest_inside(n, offsets, targets, member, &work[base..base + s]);
             work[entries + v] = w;
         }
