@@ -11,6 +11,9 @@ ghost use Rattle.grammar.specs.Machine.{classOf};
 ghost use Rattle.pgsolver_acts.specs.Acts.{actOn};
 ghost use Rattle.pgsolver_moves.specs.Moves.{moreOn, beginsOn, spelledOn, moveOf};
 
+// The highest number of a text.
+const HIGHEST_NUMBER: u32 = 65535;
+
 pub enum Move {
     On(State),
     // No text of the grammar can follow.
@@ -31,7 +34,7 @@ fn more(mut s: State, b: u8) -> Move
     ensures { λ r. ⌜ r ≡ moreOn s b ⌝ }
 {
     let value = 10 * (s.value as u32) + (b % 16) as u32;
-    if 65535 < value {
+    if HIGHEST_NUMBER < value {
         return Move::Over;
     }
     s.value = value as u16;

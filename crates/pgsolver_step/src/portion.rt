@@ -1,9 +1,11 @@
 // A portion of a text, byte by byte.
 use crate::step::Step;
 use crate::step::read_byte;
+use parity_game::MOST_EDGES;
+use parity_game::MOST_VERTICES;
 use pgsolver_acts::state::State;
 ghost use mathlib.Core.Path.{_≡_};
-ghost use Prim.Native.Nat.{min};
+ghost use Prim.Native.Nat.{_<_, _^_, min};
 ghost use lib.ListN.{length};
 ghost use Rattle.pgsolver_step.specs.Steps.{Fitting};
 ghost use Rattle.pgsolver_step.specs.Portions.{Portions};
@@ -17,13 +19,14 @@ pub enum Portion {
 }
 
 // The limit that a room sets, where it is below the most.
-fn limit(most: u16, room: usize) -> u16
+fn limit(most: usize, room: usize) -> u16
+    requires { ⌜ most < 2 ^ 16 ⌝ }
     ensures { λ r. ⌜ r ≡ min most room ⌝ }
 {
-    if room < most as usize {
+    if room < most {
         room as u16
     } else {
-        most
+        most as u16
     }
 }
 
@@ -44,8 +47,8 @@ pub fn read_portion(
         (now (offsets .entry)) (now (targets .entry)) r (now (owners .exit)) (now (priorities .exit))
         (now (offsets .exit)) (now (targets .exit)) ⌝ }
 {
-    let vertices = limit(4096, owners.len());
-    let edges = limit(16384, targets.len());
+    let vertices = limit(MOST_VERTICES, owners.len());
+    let edges = limit(MOST_EDGES, targets.len());
     let mut s = state;
     let mut at = place;
     for i in 0..text.len() {

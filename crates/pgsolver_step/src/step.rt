@@ -3,6 +3,7 @@
 use pgsolver_acts::state::State;
 use pgsolver_moves::moves::Move;
 use pgsolver_moves::moves::advance;
+use reading_rooms::SEEN;
 ghost use mathlib.Core.Path.{_≡_};
 ghost use Prim.Native.Nat.{min};
 ghost use lib.ListN.{length, set, getD};
@@ -38,10 +39,10 @@ fn capped(owner: u16) -> u8
 fn word_next(old: u16, begins: u16) -> u16
     ensures { λ r. ⌜ r ≡ wordNext old begins ⌝ }
 {
-    if old < 16384 {
-        begins % 16384 + 16384
+    if old < SEEN {
+        begins % SEEN + SEEN
     } else {
-        32768
+        2 * SEEN
     }
 }
 

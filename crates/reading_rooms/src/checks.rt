@@ -4,6 +4,9 @@ ghost use Prim.Native.Nat.{_≤_};
 ghost use lib.ListN.{length};
 ghost use Rattle.reading_rooms.specs.Said.{fitsSaid, sizeChecks, identifiersSaid, headerFrom, seenChecks};
 
+// While a text is read an offset is below this; what is above says how often the identifier was seen, up to twice.
+pub const SEEN: u16 = 16384;
+
 // Whether the rooms fit each other, and the work area is long enough.
 pub enum Fits {
     Fit,
@@ -51,7 +54,7 @@ pub fn check_identifiers(n: usize, said: bool, highest: u16, offsets: &[u16]) ->
     ensures { λ r. ⌜ identifiersSaid r ≡ seenChecks n (headerFrom said highest) (now (offsets .entry)) ⌝ }
 {
     for i in 0..n {
-        if offsets[i] / 16384 != 1 {
+        if offsets[i] / SEEN != 1 {
             return Identifiers::Wrong(i);
         }
     }

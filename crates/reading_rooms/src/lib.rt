@@ -5,6 +5,7 @@ mod clear;
 
 pub use checks::Fits;
 pub use checks::Identifiers;
+pub use checks::SEEN;
 pub use checks::check_identifiers;
 pub use checks::check_rooms;
 pub use clear::clear_rooms;

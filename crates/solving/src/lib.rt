@@ -4,6 +4,9 @@ ghost use Prim.Native.Nat.{_≤_};
 ghost use lib.ListN.{length, take};
 ghost use Rattle.rules.specs.Printing.{PrintsText};
 
+// A1's limit of a text's bytes, 16 KiB.
+const MOST_BYTES: u64 = 16384;
+
 // In rooms for A1's limits: 16,384 bytes, 128 vertices and 512 edges.
 pub fn solve_text(text: &[u8], budget: u64, out: &mut [u8]) -> usize
     requires { ⌜ 256 ≤ length (now out) ⌝ }
@@ -19,7 +22,7 @@ pub fn solve_text(text: &[u8], budget: u64, out: &mut [u8]) -> usize
     let mut edges = 0;
     let read = pgsolver::read(
         text,
-        16384,
+        MOST_BYTES,
         &mut owners,
         &mut priorities,
         &mut offsets,
