@@ -2,4 +2,5 @@
 // solvers keep all their sets in one work area.
 mod difference;
 
+pub use difference::meet;
 pub use difference::without;

@@ -2,13 +2,14 @@
 use Prim.Native.Nat.{_-_, _≤_}
 use native.Mathlib.Omega.{arith}
 use borrow.Author.Needs.{needs}
-use Rattle.set_difference.specs.Without.{TakenTo, taken-none, taken-more, taken-all}
+use mathlib.Core.Path.{refl}
+use Rattle.set_difference.specs.Without.{TakenTo, taken-none, taken-more, taken-all, without-tells}
 use Rattle.sets.specs.Digits.{digit-and-not}
 use Rattle.set_difference.proofs.difference.without.Statement.{statement}
 use Rattle.set_difference.proofs.difference.without.Tie as tie
 
 abbrev Inv-loop : tie.InvT-loop
-Inv-loop s work₀ into one other i₀ work i = TakenTo into one other i work₀ work × (i ≤ s)
+Inv-loop s work₀ into one other i₀ work i = TakenTo _-_ into one other i work₀ work × (i ≤ s)
 
 abbrev μ-loop : tie.MeasureT-loop
 μ-loop s work₀ into one other i₀ work i = s - i
@@ -62,7 +63,7 @@ same-length : tie.Need-same-length Inv-loop μ-loop
 same-length c = search needs
 
 returns : tie.Need-returns Inv-loop μ-loop
-returns c = taken-all (c .before .loop .inv .0) (c .before .loop .inv .1) (c .loop-test .left)
+returns c = taken-all without-tells refl (c .before .loop .inv .0) (c .before .loop .inv .1) (c .loop-test .left)
 
 pub without-spec : {M : Type 1} → statement M
 without-spec =
