@@ -83,7 +83,7 @@ pub fn collect(
 }
 
 // The Rust's `extend_arbitrary`: each vertex of U that p's player owns takes an edge inside V. Here it is the
-// lowest-numbered successor, so that the choice is the same each time. U stands behind V.
+// lowest-numbered successor, so that the choice is the same each time. V stands at `base`, U at `from`.
 pub fn extend_lowest(
     owners: &[u8],
     offsets: &[u16],
@@ -92,16 +92,16 @@ pub fn extend_lowest(
     s: usize,
     work: &mut [u64],
     base: usize,
+    from: usize,
 )
-    requires { ⌜ Extends (now owners) (now offsets) (now targets) s base (now work) ⌝ }
+    requires { ⌜ Extends (now owners) (now offsets) (now targets) s base from (now work) ⌝ }
     ensures { λ r.
-        ⌜ Extended (now (owners .entry)) (now (offsets .entry)) (now (targets .entry)) (p .0) s base
+        ⌜ Extended (now (owners .entry)) (now (offsets .entry)) (now (targets .entry)) (p .0) base from
         (now (work .entry)) (now (work .exit)) ⌝ }
 {
     let n = owners.len();
     let m = targets.len();
     let entries = Area { n, m, s }.entries();
-    let from = base + s;
     let alpha = Player::from_priority(p).index();
     let mut walk = Members::new(work, from, s);
     loop {

@@ -5,6 +5,8 @@ use kept_numbers::HIGHEST;
 use parity_game::Answer;
 use parity_game::Priority;
 use solver::Ran;
+use zielonka_level::levels_at;
+use zielonka_level::odd_at;
 use zielonka_recursion::zielonka_rec;
 ghost use mathlib.Core.Path.{_≡_};
 ghost use lib.ListN.{length, replicate};
@@ -16,7 +18,7 @@ ghost use Rattle.kept_numbers.specs.Reading.{FreshlyCounted};
 ghost use Rattle.solver.specs.Running.{Runnable, Runs};
 ghost use Rattle.zielonka_recursion.specs.Ending.{Under};
 
-// The work itself, in W words, which are left 0. No priority is above `top`.
+// The work itself, in W words, which are left 0. No priority is above `top`. What Odd did not win is Even's.
 fn run(
     owners: &[u8],
     priorities: &[u16],
@@ -47,9 +49,12 @@ fn run(
     let area = Area { n, m, s };
     let entries = area.entries();
     let first = area.free();
-    let base = priority_sets::behind_sets(n, m, s);
+    let even_won = priority_sets::behind_sets(n, m, s);
+    let odd_won = odd_at(n, m, s);
+    let base = levels_at(n, m, s);
     solver::prepare(offsets, targets, n, s, work, base);
     priority_sets::make(priorities, s, work, first);
+    sets::clear(work, odd_won, s);
     let calls = zielonka_rec(
         owners,
         priorities,
@@ -65,7 +70,8 @@ fn run(
         sets::clear(work, 0, work.len());
         return Ran::OverBudget;
     }
-    solver::write_out(owners, s, entries, base + 2 * s, work, even, odd, strategy);
+    set_difference::without(s, work, even_won, base, odd_won);
+    solver::write_out(owners, s, entries, even_won, work, even, odd, strategy);
     sets::clear(work, 0, work.len());
     Ran::Needed(calls)
 }

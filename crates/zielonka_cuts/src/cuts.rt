@@ -1,18 +1,20 @@
-// V stands at `base`, the attractor behind it, and the next level begins after the four sets of this one. `s` is the
-// words of a set, `p` the highest priority in V.
+// V stands at `base`, the next level behind it, the attractor where `zielonka_level` says. `s` is the words of a set,
+// `p` the highest priority in V.
 use parity_game::Player;
 use parity_game::Priority;
+use zielonka_level::drawn_at;
+use zielonka_level::give;
+use zielonka_level::odd_at;
 use zielonka_level::opponent_of;
-use zielonka_level::won_at;
 ghost use mathlib.Core.List.{List};
 ghost use Prim.Native.Nat.{ℕ};
 ghost use Rattle.rules.specs.Game.{opponent, parity};
 ghost use Rattle.rules.specs.Tables.{Accepted, gameOf, tablesOf};
 ghost use Rattle.rules.specs.Zielonka.{withPriority};
 ghost use Rattle.parity_game.specs.Said.{is};
-ghost use Rattle.zielonka_level.specs.Level.{nextLevel, onLevel, drawnAt, wonAt};
-ghost use Rattle.zielonka_level.specs.Steps.{CutBy};
-ghost use Rattle.zielonka_level.specs.Pieces.{CallReady, Sorted, Cuttable, Losable};
+ghost use Rattle.zielonka_level.specs.Level.{onLevel, drawnAt};
+ghost use Rattle.zielonka_level.specs.Steps.{CutBy, LostBy};
+ghost use Rattle.zielonka_level.specs.Pieces.{CallReady, Sorted, Cuttable};
 
 // Draws to the set in the attractor's place, and puts V without the attractor at the next level.
 fn cut(
@@ -32,20 +34,13 @@ fn cut(
         (is player) base
         (onLevel (tablesOf (now (owners .entry)) priorities (now (offsets .entry)) (now (targets .entry))) base
         (now (work .entry)))
-        (drawnAt (tablesOf (now (owners .entry)) priorities (now (offsets .entry)) (now (targets .entry))) base
+        (drawnAt (tablesOf (now (owners .entry)) priorities (now (offsets .entry)) (now (targets .entry)))
         (now (work .entry)))
         (now (work .entry)) (now (work .exit))) ⌝ }
 {
-    attractor::attract(
-        owners,
-        offsets,
-        targets,
-        player.index(),
-        work,
-        base,
-        base + s,
-    );
-    set_difference::without(s, work, base + 4 * s, base, base + s);
+    let drawn = drawn_at(owners.len(), targets.len(), s);
+    attractor::attract(owners, offsets, targets, player.index(), work, base, drawn);
+    set_difference::without(s, work, base + s, base, drawn);
 }
 
 // U: the vertices of V with priority p; A: the attractor of U for p's player. V without A goes to the next level.
@@ -73,8 +68,11 @@ pub fn attract_highest(
         (now (work .entry))) (p .0))
         (now (work .entry)) (now (work .exit))) ⌝ }
 {
-    let of = priority_sets::set_at(owners.len(), targets.len(), s, p.0);
-    priority_sets::meet(work, base + s, base, of, s);
+    let n = owners.len();
+    let m = targets.len();
+    let of = priority_sets::set_at(n, m, s, p.0);
+    let drawn = drawn_at(n, m, s);
+    set_difference::meet(s, work, drawn, base, of);
     cut(
         owners,
         offsets,
@@ -86,8 +84,8 @@ pub fn attract_highest(
     );
 }
 
-// B: the attractor of what the opponent of p's player won at the next level, for that opponent. V without B goes to
-// the next level.
+// B: the attractor of the set in the attractor's place, which the opponent of p's player won, for that opponent, whose
+// it is then. V without B goes to the next level.
 pub fn attract_lost(
     owners: &[u8],
     offsets: &[u16],
@@ -97,20 +95,23 @@ pub fn attract_lost(
     work: &mut [u64],
     base: usize,
 )
-    requires { ⌜ Losable (now owners) (now offsets) (now targets) (p .0) s base (now work) ⌝ }
+    requires { ⌜ Cuttable (now owners) (now offsets) (now targets) s base (now work) ⌝ }
     ensures { λ r.
         ⌜ ((priorities : List ℕ) →
         Accepted (tablesOf (now (owners .entry)) priorities (now (offsets .entry)) (now (targets .entry))) →
-        CutBy (tablesOf (now (owners .entry)) priorities (now (offsets .entry)) (now (targets .entry)))
+        LostBy (tablesOf (now (owners .entry)) priorities (now (offsets .entry)) (now (targets .entry)))
         (opponent (parity (p .0))) base
         (onLevel (tablesOf (now (owners .entry)) priorities (now (offsets .entry)) (now (targets .entry))) base
         (now (work .entry)))
-        (wonAt (tablesOf (now (owners .entry)) priorities (now (offsets .entry)) (now (targets .entry)))
-        (nextLevel s base) (now (work .entry)) (opponent (parity (p .0))))
+        (drawnAt (tablesOf (now (owners .entry)) priorities (now (offsets .entry)) (now (targets .entry)))
+        (now (work .entry)))
         (now (work .entry)) (now (work .exit))) ⌝ }
 {
+    let n = owners.len();
+    let m = targets.len();
     let player = opponent_of(p);
-    let lost = won_at(base + 4 * s, s, player);
-    sets::copy_with(work, base + s, lost, s);
     cut(owners, offsets, targets, player, s, work, base);
+    let odd = odd_at(n, m, s);
+    let drawn = drawn_at(n, m, s);
+    give(player, s, work, odd, drawn);
 }

@@ -1,21 +1,21 @@
 -- The pieces of a call leave what they promise.
-use mathlib.Core.Bool.{Bool, true, false, _&&_, _||_, not}
+use mathlib.Core.Bool.{Bool, true, false, _&&_, _||_, not, cond}
 use mathlib.Core.List.{List}
-use mathlib.Core.Logic.{_⊎_, inl, inr}
+use mathlib.Core.Logic.{_⊎_, inl, inr, ⊎-elim}
 use mathlib.Core.Path.{_≡_, refl, sym, ap, ap₂, subst, fun-ext, _∙_}
-use Prim.Native.Nat.{ℕ, zero, suc, _+_, _-_, _*_, _%_, _≤_, _<_, max}
+use Prim.Native.Nat.{ℕ, zero, suc, _+_, _-_, _*_, _%_, _≤_, _<_, _^_, max}
 use native.Mathlib.Omega.{arith}
 use borrow.Author.Tests.{lt-ltb}
 use lib.Dec.{eqb, ltb}
 use lib.ListN.{length, getD, take, drop}
 use Rattle.rules.specs.Counting.{Set, without, some}
-use Rattle.rules.specs.Game.{Player, Even, Odd, opponent, parity, playerOf}
+use Rattle.rules.specs.Game.{Player, Even, Odd, parity, playerOf}
 use Rattle.rules.specs.Tables.{Tables, gameOf, vertices, edgesIn, words, Accepted, tablesOf}
 use Rattle.rules.specs.Attractor.{attractor}
 use Rattle.rules.specs.Distance.{lowestIn}
 use Rattle.rules.specs.Words.{setOf}
 use Rattle.rules.specs.Zielonka.{withPriority}
-use Rattle.sets.specs.After.{Parts, Combined, Cleared, other}
+use Rattle.sets.specs.After.{Parts, Combined}
 use Rattle.sets.specs.Laws.{bit-other}
 use Rattle.theory.specs.Attractor.{Fits, attractor-below}
 use Rattle.theory.specs.AttractorComplement.{TotalIn}
@@ -24,47 +24,39 @@ use Rattle.theory.specs.Run.{Cut, attractor-cut, cut-entry}
 use Rattle.accepted.specs.Tables.{accepted-sound, accepted-few}
 use Rattle.area.specs.Area.{entries, free, wordsAt, setAt}
 use Rattle.attractor.specs.Attracted.{Attractable, Attracted, listed-kept, edges-sound}
-use Rattle.area.specs.Lent.{part-is, part-length}
+use Rattle.area.specs.Lent.{part-is, part-length, words-few}
 use Rattle.priority_sets.specs.Sorting.{setOfPriority, PriorityPlaceable, set-room}
-use Rattle.priority_sets.specs.Meeting.{Meets, Met, met-set}
+use Rattle.area.specs.Walked.{Beside}
 use Rattle.successors.specs.Lowest.{lowestEnd}
-use Rattle.set_difference.specs.Without.{WithoutAt}
-use Rattle.area.specs.SetsAt.{set-kept, set-cleared, set-copied, set-copied-here, set-united}
-use Rattle.zielonka_level.specs.Level.{nextLevel, wonPlace, onLevel, drawnAt, wonAt, entriesOf, Called, Stays}
-use Rattle.zielonka_level.specs.Steps.{CutBy, AllAt, JoinedAt, stays-on, sorted-kept, level-stays, cut-over}
+use Rattle.set_difference.specs.Without.{WithoutAt, CommonAt}
+use Rattle.area.specs.SetsAt.{set-kept, set-united, set-reduced}
+use Rattle.zielonka_level.specs.Level.{nextLevel, oddPlace, drawnPlace, firstLevel, onLevel, drawnAt, oddAt, goesTo, isOdd, wonOf}
+use Rattle.zielonka_level.specs.Level.{entriesOf, Called, Stays}
+use Rattle.zielonka_level.specs.Steps.{CutBy, AllAt, LostBy, Unmoved, stays-on, sorted-kept, level-stays, cut-over}
 use Rattle.highest_priority.specs.Extending.{Extends, Extended}
-use Rattle.zielonka_level.specs.Pieces.{CallReady, Cuttable, Losable}
+use Rattle.zielonka_level.specs.Pieces.{PartWon, Gave, Levels, Told, CallReady, Cuttable}
 
--- ---- words below a bound stay
+-- ---- what stays
 
-pub record Apart (k : ℕ) (before after : List ℕ) : Type 0 where
-  pub long : length after ≡ length before
-  pub low : (i : ℕ) → i < k → getD after i 0 ≡ getD before i 0
-
-pub apart-then : {k : ℕ} {x y z : List ℕ} → Apart k x y → Apart k y z → Apart k x z
-apart-then a b = record { long = b .long ∙ a .long; low = λ i l. b .low i l ∙ a .low i l }
-
-pub apart-cleared : {k at s : ℕ} {x y : List ℕ} → k ≤ at → Cleared at s x y → Apart k x y
-apart-cleared h c = record { long = c .long; low = λ i l. c .rest i (inl (omega arith)) }
-
-pub apart-combined : {k into from s : ℕ} {f : ℕ → ℕ → ℕ} {x y : List ℕ} → k ≤ into → Combined f into from s x y → Apart k x y
-apart-combined h c = record { long = c .long; low = λ i l. c .rest i (inl (omega arith)) }
-
-module _ (t : Tables) {base k : ℕ} {x y : List ℕ}
-    (low : free (vertices t) (edgesIn t) ≤ base)
-    (high : base + words (vertices t) ≤ k)
-    (a : Apart k x y)
+-- a step that writes the attractor's place alone
+module _ (t : Tables) {base : ℕ} {x y : List ℕ} (above : firstLevel (vertices t) (edgesIn t) ≤ base)
+    (long : length y ≡ length x)
+    (rest : (i : ℕ) → Beside (words (vertices t)) (drawnPlace (vertices t) (edgesIn t)) i → getD y i 0 ≡ getD x i 0)
   where
-    pub apart-stays : Stays t base x y
-    apart-stays =
+    pub drawn-only : Unmoved t base x y
+    drawn-only =
         record {
-          long = a .long;
-          table = λ i l. a .low i (omega arith);
-          lower = λ i l h. a .low i (omega arith);
+          stays =
+              record {
+                long = long;
+                table = λ i l. rest i (inl (omega arith));
+                lower = λ i l h o. rest i (⊎-elim (λ k. inl (omega arith)) (λ k. inr (omega arith)) o);
+              };
+          odd =
+              set-kept (vertices t) (oddPlace (vertices t) (edgesIn t)) x y
+              (λ i l h. rest i (inl (omega arith)));
+          entries = λ v l. rest (entries (vertices t) (edgesIn t) + v) (inl (omega arith));
         }
-
-    pub apart-entries : (v : ℕ) → v < vertices t → entriesOf t y v ≡ entriesOf t x v
-    apart-entries v l = a .low (entries (vertices t) (edgesIn t) + v) (omega arith)
 
 -- what a call asks for stays
 pub called-stays : {t : Tables} {base : ℕ} {x y : List ℕ} → Stays t base x y → Called t base x → Called t base y
@@ -73,7 +65,6 @@ called-stays {t} {base} {x} {y} stays c =
       accepted = c .accepted;
       table = listed-kept (vertices t) (t .offsets) (t .targets) x y (stays .long) (stays .table) (c .table);
       sorted = sorted-kept t base x y (c .above) (stays .lower) (c .sorted);
-      low = c .low;
       above = c .above;
       room = rw (fun-ext same) (omega (arith, stays .long, c .room));
       below = λ v p. c .below v (sym (same v) ∙ p);
@@ -81,7 +72,7 @@ called-stays {t} {base} {x} {y} stays c =
     }
   where
     same : (v : ℕ) → onLevel t base y v ≡ onLevel t base x v
-    same = level-stays (c .low) stays
+    same = level-stays (c .above) stays
 
 pub ready-stays : {t : Tables} {s base : ℕ} {x y : List ℕ} → Stays t base x y → CallReady t s base x → CallReady t s base y
 ready-stays stays r =
@@ -90,44 +81,61 @@ ready-stays stays r =
 -- a cut from an earlier state of the work area
 pub cut-from :
     {t : Tables} {c : Player} {base : ℕ} {V' T : Set} {x y z : List ℕ} →
-    Stays t base x y →
-    ((v : ℕ) → v < vertices t → entriesOf t y v ≡ entriesOf t x v) →
+    Unmoved t base x y →
     CutBy t c base V' T y z →
     CutBy t c base V' T x z
-cut-from stays same k =
+cut-from still k =
     record {
-      stays = stays-on stays (k .stays);
+      stays = stays-on (still .stays) (k .stays);
       cut = k .cut;
       slot = k .slot;
+      odd = λ v. k .odd v ∙ still .odd v;
       entered = k .entered;
-      kept = λ v l d. k .kept v l d ∙ same v l;
+      kept = λ v l d. k .kept v l d ∙ still .entries v l;
     }
+
+-- ---- places
+
+-- the places can be asked for
+pub ready-places : {t : Tables} {s base : ℕ} {work : List ℕ} → CallReady t s base work → PriorityPlaceable (vertices t) (edgesIn t) s 255
+ready-places {t} r =
+    let sound = accepted-sound t (r .called .accepted) in
+    record { size = r .size; few = sound .few-vertices; few-edges = sound .few-edges; small = omega arith }
+
+-- two sets apart
+pub behind : {into from s : ℕ} {work : List ℕ} → into + s ≤ from → from + s ≤ length work → Parts into from s work
+behind low high = record { into-fits = omega arith; from-fits = high; apart = inl low }
+
+pub before : {into from s : ℕ} {work : List ℕ} → from + s ≤ into → into + s ≤ length work → Parts into from s work
+before low high = record { into-fits = high; from-fits = omega arith; apart = inr low }
 
 -- ---- the cut
 
 -- what `attract` asks for
 pub cut-attractable :
-    {owners offsets targets : List ℕ} {alpha s base : ℕ} {work : List ℕ} →
+    {owners offsets targets : List ℕ} {alpha s base place : ℕ} {work : List ℕ} →
     Cuttable owners offsets targets s base work →
     alpha ≤ 1 →
-    Attractable owners offsets targets alpha base (base + s) work
-cut-attractable {owners} {offsets} {targets} {s} {base} {work} c side =
+    place ≡ drawnPlace (length owners) (length targets) →
+    Attractable owners offsets targets alpha base place work
+cut-attractable {owners} {offsets} {targets} {s} {base} {place} {work} c side there =
     let called = c .ready .called in
     let size = c .ready .size in
     let high = c .ready .high in
+    let above = called .above in
     record {
       placed =
           record {
-            within-low = called .low;
+            within-low = omega arith;
             within-high = omega arith;
-            set-low = let low = called .low in omega arith;
+            set-low = omega arith;
             set-high = omega arith;
-            apart = inl (omega arith);
+            apart = inr (omega arith);
           };
       nested =
           record {
             below = called .below;
-            part = λ v p. c .part v (ap (λ (k : ℕ). setAt (length owners) (base + k) work v) (sym size) ∙ p);
+            part = λ v p. c .part v (ap (λ (k : ℕ). setAt (length owners) k work v) (sym there) ∙ p);
           };
       edges = edges-sound (tablesOf owners (c .priorities) offsets targets) (called .accepted);
       listed = called .table;
@@ -136,10 +144,10 @@ cut-attractable {owners} {offsets} {targets} {s} {base} {work} c side =
 
 module _ {t : Tables} {a : Player} {base looks : ℕ} {w₀ w₁ w₂ : List ℕ}
     (ok : Accepted t)
-    (low : free (vertices t) (edgesIn t) ≤ base)
-    (fits : Fits (gameOf t) (onLevel t base w₀) (drawnAt t base w₀))
-    (drawn : Attracted t a base (base + words (vertices t)) w₀ w₁ looks)
-    (taken : WithoutAt (vertices t) (base + 4 * words (vertices t)) base (base + words (vertices t)) w₁ w₂)
+    (above : firstLevel (vertices t) (edgesIn t) ≤ base)
+    (fits : Fits (gameOf t) (onLevel t base w₀) (drawnAt t w₀))
+    (drawn : Attracted t a base (drawnPlace (vertices t) (edgesIn t)) w₀ w₁ looks)
+    (taken : WithoutAt (vertices t) (base + words (vertices t)) base (drawnPlace (vertices t) (edgesIn t)) w₁ w₂)
   where
     abbrev n : ℕ
     n = vertices t
@@ -148,80 +156,83 @@ module _ {t : Tables} {a : Player} {base looks : ℕ} {w₀ w₁ w₂ : List ℕ
     s = words (vertices t)
 
     abbrev S : Set
-    S = attractor (gameOf t) a (onLevel t base w₀) (drawnAt t base w₀)
+    S = attractor (gameOf t) a (onLevel t base w₀) (drawnAt t w₀)
 
     -- the words of the attractor are the rules'
-    held : (v : ℕ) → drawnAt t base w₁ v ≡ S v
+    held : (v : ℕ) → drawnAt t w₁ v ≡ S v
     unfolding gameOf
     held v = go (lt-or-ge v n)
       where
-        go : (v < n) ⊎ (n ≤ v) → drawnAt t base w₁ v ≡ S v
+        go : (v < n) ⊎ (n ≤ v) → drawnAt t w₁ v ≡ S v
         go (inl l) = drawn .holds .bits v l
         go (inr l) =
-            bit-other (wordsAt n (base + s) w₁) v (drawn .holds .clear v l) ∙
+            bit-other (wordsAt n (drawnPlace n (edgesIn t)) w₁) v (drawn .holds .clear v l) ∙
             sym
             (not-true-is-false (S v)
-            (λ p. let less = attractor-below (gameOf t) a (onLevel t base w₀) (drawnAt t base w₀) v p in omega arith))
-
-    above : Apart (base + 4 * words (vertices t)) w₁ w₂
-    above = record { long = taken .long; low = λ i l. taken .rest i (inl l) }
+            (λ p. let less = attractor-below (gameOf t) a (onLevel t base w₀) (drawnAt t w₀) v p in omega arith))
 
     level : (v : ℕ) → onLevel t base w₁ v ≡ onLevel t base w₀ v
-    level = set-kept n base w₀ w₁ (λ i l h. drawn .rest i (omega arith) (inl (omega arith)))
+    level = set-kept n base w₀ w₁ (λ i l h. drawn .rest i (omega arith) (inr (omega arith)))
 
     rest : (v : ℕ) → onLevel t (nextLevel s base) w₂ v ≡ without (onLevel t base w₀) S v
     rest v = taken .made v ∙ ap₂ (λ (x y : Bool). x && not y) (level v) (held v)
 
-    made : Cut (gameOf t) a (onLevel t base w₀) (drawnAt t base w₀) S (onLevel t (nextLevel s base) w₂)
-    made = attractor-cut (gameOf t) a (onLevel t base w₀) (drawnAt t base w₀) (onLevel t (nextLevel s base) w₂) fits rest
+    made : Cut (gameOf t) a (onLevel t base w₀) (drawnAt t w₀) S (onLevel t (nextLevel s base) w₂)
+    made = attractor-cut (gameOf t) a (onLevel t base w₀) (drawnAt t w₀) (onLevel t (nextLevel s base) w₂) fits rest
 
     -- **A cut is made.**
-    pub cut-made : CutBy t a base (onLevel t base w₀) (drawnAt t base w₀) w₀ w₂
+    pub cut-made : CutBy t a base (onLevel t base w₀) (drawnAt t w₀) w₀ w₂
     unfolding gameOf
     cut-made =
         record {
           stays =
               record {
-                long = above .long ∙ drawn .long;
-                table = λ i l. above .low i (omega arith) ∙ drawn .table i l;
-                lower = λ i l h. above .low i (omega arith) ∙ drawn .rest i l (inl h);
+                long = taken .long ∙ drawn .long;
+                table = λ i l. taken .rest i (inl (omega arith)) ∙ drawn .table i l;
+                lower =
+                    λ i l h o.
+                    taken .rest i (inl h) ∙
+                    drawn .rest i l (⊎-elim (λ k. inl (omega arith)) (λ k. inr (omega arith)) o);
               };
           cut = made;
-          slot =
+          slot = λ v. set-kept n (drawnPlace n (edgesIn t)) w₁ w₂ (λ i l h. taken .rest i (inl (omega arith))) v ∙ held v;
+          odd =
               λ v.
-              set-kept n (base + s) w₁ w₂ (λ i l h. above .low i (omega arith)) v ∙ held v;
+              set-kept n (oddPlace n (edgesIn t)) w₁ w₂ (λ i l h. taken .rest i (inl (omega arith))) v ∙
+              set-kept n (oddPlace n (edgesIn t)) w₀ w₁ (λ i l h. drawn .rest i (omega arith) (inl (omega arith))) v;
           entered =
               λ v p out mine.
-              let less = attractor-below (gameOf t) a (onLevel t base w₀) (drawnAt t base w₀) v p in
-              above .low (entries n (edgesIn t) + v) (omega arith) ∙
+              let less = attractor-below (gameOf t) a (onLevel t base w₀) (drawnAt t w₀) v p in
+              taken .rest (entries n (edgesIn t) + v) (inl (omega arith)) ∙
               drawn .entered v (p, out, mine) ∙
               cut-entry fits (accepted-few t ok) made v p out mine;
           kept =
               λ v l d.
-              above .low (entries n (edgesIn t) + v) (omega arith) ∙ drawn .kept v l (λ q. d (q .0) (q .1) (q .2));
+              taken .rest (entries n (edgesIn t) + v) (inl (omega arith)) ∙ drawn .kept v l (λ q. d (q .0) (q .1) (q .2));
         }
 
--- the same, by the number of words and the player's number that the code has
+-- the same, by the number of words, the place and the player's number that the code has
 pub cut-done :
-    {owners offsets targets : List ℕ} {a : Player} {s base : ℕ} {w₀ : List ℕ} →
+    {owners offsets targets : List ℕ} {a : Player} {s base place : ℕ} {w₀ : List ℕ} →
     Cuttable owners offsets targets s base w₀ →
     (alpha : ℕ) →
     playerOf alpha ≡ a →
+    place ≡ drawnPlace (length owners) (length targets) →
     (priorities : List ℕ) →
     Accepted (tablesOf owners priorities offsets targets) →
     {looks : ℕ} {w₁ w₂ : List ℕ} →
-    Attracted (tablesOf owners priorities offsets targets) (playerOf alpha) base (base + s) w₀ w₁ looks →
-    WithoutAt (length owners) (base + 4 * s) base (base + s) w₁ w₂ →
+    Attracted (tablesOf owners priorities offsets targets) (playerOf alpha) base place w₀ w₁ looks →
+    WithoutAt (length owners) (base + s) base place w₁ w₂ →
     CutBy (tablesOf owners priorities offsets targets) a base
     (onLevel (tablesOf owners priorities offsets targets) base w₀)
-    (drawnAt (tablesOf owners priorities offsets targets) base w₀)
+    (drawnAt (tablesOf owners priorities offsets targets) w₀)
     w₀ w₂
 unfolding gameOf
-cut-done c alpha whose priorities ok drawn taken =
+cut-done c alpha whose there priorities ok drawn taken =
     let size = c .ready .size in
-    cut-made ok (c .ready .called .low) (record { part = c .part; below = c .ready .called .below })
-    (rw (size, whose) at drawn)
-    (rw size at taken)
+    cut-made ok (c .ready .called .above) (record { part = c .part; below = c .ready .called .below })
+    (rw (there, whose) at drawn)
+    (rw (size, there) at taken)
 
 -- ---- the first cut
 
@@ -234,158 +245,162 @@ module _ {t : Tables} {p s base : ℕ} {w₀ : List ℕ} (ready : CallReady t s 
   size : s ≡ words (vertices t)
   size = ready .size
 
-  -- where the set of priority p stands, and that it stands below V
+  -- where the set of priority p stands
   pub highest-placed : PriorityPlaceable (vertices t) (edgesIn t) s p
   highest-placed =
       let sound = accepted-sound t (ready .called .accepted) in
       record { size = size; few = sound .few-vertices; few-edges = sound .few-edges; small = small }
 
-  module _ {of : ℕ} (place : of ≡ setOfPriority (words (vertices t)) (free (vertices t) (edgesIn t)) p) where
-    pub highest-meets : Meets (base + s) base of s w₀
-    highest-meets =
-        let room = set-room (words (vertices t)) (free (vertices t) (edgesIn t)) p small in
-        record {
-          one-below = omega arith;
-          other-below = omega (arith, size, ready .called .above);
-          high = omega (arith, ready .high);
-        }
+  module _ {of place : ℕ}
+      (from : of ≡ setOfPriority (words (vertices t)) (free (vertices t) (edgesIn t)) p)
+      (there : place ≡ drawnPlace (vertices t) (edgesIn t))
+    where
+      -- it stands below the attractor's place, and V above
+      pub highest-parts : Parts place base s w₀ × Parts place of s w₀
+      highest-parts =
+          let room = set-room (words (vertices t)) (free (vertices t) (edgesIn t)) p small in
+          let above = ready .called .above in
+          let high = ready .high in
+          (behind (omega (arith, size)) (omega arith), before (omega (arith, size)) (omega (arith, size)))
 
-    module _ {w₁ : List ℕ} (met : Met (base + s) base of s w₀ w₁) where
-      apart-met : Apart (base + s) w₀ w₁
-      apart-met = record { long = met .long; low = λ i l. met .rest i (inl l) }
+      module _ {w₁ : List ℕ} (met : CommonAt (vertices t) place base of w₀ w₁) where
+        -- nothing but the attractor's place is written
+        pub highest-still : Unmoved t base w₀ w₁
+        highest-still = drawn-only t (ready .called .above) (met .long) (rw there at (met .rest))
 
-      stays₁ : Stays t base w₀ w₁
-      stays₁ = apart-stays t (ready .called .low) (omega (arith, size)) apart-met
+        level₁ : (v : ℕ) → onLevel t base w₁ v ≡ onLevel t base w₀ v
+        level₁ = level-stays (ready .called .above) (highest-still .stays)
 
-      level₁ : (v : ℕ) → onLevel t base w₁ v ≡ onLevel t base w₀ v
-      level₁ = level-stays (ready .called .low) stays₁
+        -- U stands in the attractor's place
+        pub top-set : (v : ℕ) → drawnAt t w₁ v ≡ withPriority (gameOf t) (onLevel t base w₀) p v
+        unfolding gameOf
+        top-set v =
+            ap (λ (k : ℕ). setAt (vertices t) k w₁ v) (sym there) ∙
+            met .made v ∙
+            ap (λ (k : ℕ). onLevel t base w₀ v && setAt (vertices t) k w₀ v) from ∙
+            ap (λ (b : Bool). onLevel t base w₀ v && b) (ready .called .sorted p v small) ∙
+            both-tests (vertices t) (onLevel t base w₀ v) v p (getD (t .priorities) v 0) (ready .called .below v)
 
-      -- U stands in the attractor's place
-      top-set : (v : ℕ) → drawnAt t base w₁ v ≡ withPriority (gameOf t) (onLevel t base w₀) p v
-      unfolding gameOf
-      top-set v =
-          met-set (vertices t) (rw size at met) v ∙
-          ap (λ (k : ℕ). onLevel t base w₀ v && setAt (vertices t) k w₀ v) place ∙
-          ap (λ (b : Bool). onLevel t base w₀ v && b) (ready .called .sorted p v small) ∙
-          both-tests (vertices t) (onLevel t base w₀ v) v p (getD (t .priorities) v 0) (ready .called .below v)
+        -- what the cut asks for
+        pub highest-cuttable : Cuttable (t .owners) (t .offsets) (t .targets) s base w₁
+        highest-cuttable =
+            record {
+              priorities = t .priorities;
+              ready = ready-stays (highest-still .stays) ready;
+              part = λ v q. level₁ v ∙ and-left (onLevel t base w₀ v) (eqb (gameOf t .priority v) p) (sym (top-set v) ∙ q);
+            }
 
-      -- what the cut asks for
-      pub highest-cuttable : Cuttable (t .owners) (t .offsets) (t .targets) s base w₁
-      highest-cuttable =
-          record {
-            priorities = t .priorities;
-            ready = ready-stays stays₁ ready;
-            part = λ v q. level₁ v ∙ and-left (onLevel t base w₀ v) (eqb (gameOf t .priority v) p) (sym (top-set v) ∙ q);
-          }
-
-      -- **The first cut is made.**
-      pub highest-made :
-          {a : Player} {w₂ : List ℕ} →
-          a ≡ parity p →
-          CutBy t a base (onLevel t base w₁) (drawnAt t base w₁) w₁ w₂ →
-          CutBy t (parity p) base (onLevel t base w₀) (withPriority (gameOf t) (onLevel t base w₀) p) w₀ w₂
-      highest-made whose k =
-          cut-from stays₁ (apart-entries t (ready .called .low) (omega (arith, size)) apart-met)
-          (cut-over level₁ top-set (rw whose at k))
-
--- ---- the second cut
-
-module _ {owners offsets targets : List ℕ} {p s base place : ℕ} {w₀ w₁ : List ℕ}
-    (losable : Losable owners offsets targets p s base w₀)
-    {a : Player} (whose : a ≡ opponent (parity p))
-    (there : place ≡ wonPlace s (base + 4 * s) a)
-    (copied : Combined other (base + s) place s w₀ w₁)
-  where
-    size₁ : s ≡ words (length owners)
-    size₁ = losable .ready .size
-
-    apart₁ : Apart (base + s) w₀ w₁
-    apart₁ = apart-combined (omega arith) copied
-
-    stays-lost : (priorities : List ℕ) → Stays (tablesOf owners priorities offsets targets) base w₀ w₁
-    stays-lost priorities =
-        apart-stays (tablesOf owners priorities offsets targets) (losable .ready .called .low) (omega (arith, size₁)) apart₁
-
-    level-lost :
-        (priorities : List ℕ) (v : ℕ) →
-        onLevel (tablesOf owners priorities offsets targets) base w₁ v ≡
-        onLevel (tablesOf owners priorities offsets targets) base w₀ v
-    level-lost priorities = level-stays (losable .ready .called .low) (stays-lost priorities)
-
-    -- what the opponent won stands in the attractor's place
-    lost-set :
-        (priorities : List ℕ) (v : ℕ) →
-        drawnAt (tablesOf owners priorities offsets targets) base w₁ v ≡
-        wonAt (tablesOf owners priorities offsets targets) (nextLevel s base) w₀ (opponent (parity p)) v
-    lost-set priorities v =
-        set-copied-here (length owners) (base + words (length owners)) place w₀ w₁ (rw size₁ at copied) v ∙
-        ap (λ (k : ℕ). setAt (length owners) k w₀ v)
-        (there ∙ ap₂ (λ (k : ℕ) (c : Player). wonPlace k (base + 4 * s) c) size₁ whose)
-
-    -- what the cut asks for
-    pub lost-cuttable : Cuttable owners offsets targets s base w₁
-    lost-cuttable =
-        record {
-          priorities = losable .priorities;
-          ready = ready-stays (stays-lost (losable .priorities)) (losable .ready);
-          part = λ v q. level-lost (losable .priorities) v ∙ losable .part v (sym (lost-set (losable .priorities) v) ∙ q);
-        }
-
-    -- **The second cut is made.**
-    pub lost-made :
-        (priorities : List ℕ) {w₂ : List ℕ} →
-        CutBy (tablesOf owners priorities offsets targets) a base
-        (onLevel (tablesOf owners priorities offsets targets) base w₁)
-        (drawnAt (tablesOf owners priorities offsets targets) base w₁)
-        w₁ w₂ →
-        CutBy (tablesOf owners priorities offsets targets) (opponent (parity p)) base
-        (onLevel (tablesOf owners priorities offsets targets) base w₀)
-        (wonAt (tablesOf owners priorities offsets targets) (nextLevel s base) w₀ (opponent (parity p)))
-        w₀ w₂
-    lost-made priorities {w₂} k =
-        cut-from (stays-lost priorities)
-        (apart-entries (tablesOf owners priorities offsets targets) (losable .ready .called .low) (omega (arith, size₁)) apart₁)
-        (cut-over (level-lost priorities) (lost-set priorities)
-        (subst
-        (λ (c : Player).
-        CutBy (tablesOf owners priorities offsets targets) c base
-        (onLevel (tablesOf owners priorities offsets targets) base w₁)
-        (drawnAt (tablesOf owners priorities offsets targets) base w₁)
-        w₁ w₂)
-        whose
-        k))
+        -- **The first cut is made.**
+        pub highest-made :
+            {a : Player} {w₂ : List ℕ} →
+            a ≡ parity p →
+            CutBy t a base (onLevel t base w₁) (drawnAt t w₁) w₁ w₂ →
+            CutBy t (parity p) base (onLevel t base w₀) (withPriority (gameOf t) (onLevel t base w₀) p) w₀ w₂
+        highest-made whose k = cut-from highest-still (cut-over level₁ top-set (rw whose at k))
 
 -- ---- what each player wins
 
--- the two sets of a level stand after V and the attractor
-pub won-range : (s base : ℕ) (c : Player) → (base + 2 * s ≤ wonPlace s base c) × (wonPlace s base c ≤ base + 3 * s)
-won-range s base Even = (omega arith, omega arith)
-won-range s base Odd = (omega arith, omega arith)
+-- the player's name is known
+pub part-of :
+    (c : Player) {c′ : Player} {n into of odd : ℕ} {x y : List ℕ} → c′ ≡ c → PartWon c n into of odd x y → PartWon c′ n into of odd x y
+part-of c {n} {into} {of} {odd} {x} {y} e part = subst (λ (a : Player). PartWon a n into of odd x y) (sym e) part
 
--- so each is apart from a set before them
-pub won-parts :
-    {place from s : ℕ} {work : List ℕ} (base : ℕ) (c : Player) →
-    place ≡ wonPlace s base c →
-    from + s ≤ base + 2 * s →
-    base + 4 * s ≤ length work →
-    Parts place from s work
-won-parts {s} base c there low high =
-    let range = won-range s base c in
-    record { into-fits = omega arith; from-fits = omega arith; apart = inr (omega arith) }
+pub gave-of :
+    (c : Player) {c′ : Player} {n odd from : ℕ} {x y : List ℕ} → c′ ≡ c → Gave c n odd from x y → Gave c′ n odd from x y
+gave-of c {n} {odd} {from} {x} {y} e gave = subst (λ (a : Player). Gave a n odd from x y) (sym e) gave
 
--- and apart from each other
-pub won-apart :
-    (s base : ℕ) (c : Player) →
-    (wonPlace s base c + s ≤ wonPlace s base (opponent c)) ⊎ (wonPlace s base (opponent c) + s ≤ wonPlace s base c)
-won-apart s base Even = inl (omega arith)
-won-apart s base Odd = inr (omega arith)
+-- the members are taken out of what Odd won, or put into it
+pub gave-even :
+    {s odd from : ℕ} {x y : List ℕ} → Combined _-_ odd from s x y → (n : ℕ) → s ≡ words n → Gave Even n odd from x y
+gave-even {s} {odd} {from} {x} {y} c n size =
+    record {
+      long = c .long;
+      odd = λ v. set-reduced n odd from x y (rw size at c) v ∙ taken (setAt n odd x v) (setAt n from x v);
+      rest = λ i o. c .rest i (⊎-elim (λ k. inl k) (λ k. inr (omega arith)) o);
+    }
+  where
+    taken : (a b : Bool) → (a && not b) ≡ cond b false a
+    taken true true = refl
+    taken true false = refl
+    taken false true = refl
+    taken false false = refl
 
--- a player's set, by how far it stands from the first
-won-offset :
-    (s base : ℕ) (c : Player) →
-    (k : ℕ) × (k ≤ s) × (wonPlace s base c ≡ base + 2 * s + k) × (wonPlace s (base + 4 * s) c ≡ base + 6 * s + k)
-won-offset s base Even = (0, omega arith, omega arith, omega arith)
-won-offset s base Odd = (s, omega arith, omega arith, omega arith)
+pub gave-odd :
+    {s odd from : ℕ} {x y : List ℕ} → Combined max odd from s x y → (n : ℕ) → s ≡ words n → Gave Odd n odd from x y
+gave-odd {s} {odd} {from} {x} {y} c n size =
+    record {
+      long = c .long;
+      odd = λ v. set-united n odd from x y (rw size at c) v ∙ joined (setAt n odd x v) (setAt n from x v);
+      rest = λ i o. c .rest i (⊎-elim (λ k. inl k) (λ k. inr (omega arith)) o);
+    }
+  where
+    joined : (a b : Bool) → (a || b) ≡ cond b true a
+    joined true true = refl
+    joined true false = refl
+    joined false true = refl
+    joined false false = refl
+
+-- the three places that the lost are collected from and to stand apart
+pub told-parts :
+    {n m s base odd place : ℕ} {work : List ℕ} →
+    Levels n m s base work →
+    odd ≡ oddPlace n m →
+    place ≡ drawnPlace n m →
+    Parts place (base + s) s work × Parts place odd s work
+told-parts given at there =
+    let size = given .places .size in
+    let above = given .above in
+    let high = given .high in
+    (behind (omega arith) (omega arith), before (omega arith) (omega arith))
+
+-- what is asked of them stands in the work area
+pub told-made :
+    {n m s base odd place : ℕ} {x y : List ℕ} (c a : Player) {r : Bool} →
+    Levels n m s base x →
+    odd ≡ oddPlace n m →
+    place ≡ drawnPlace n m →
+    a ≡ c →
+    PartWon a n place (base + s) odd x y →
+    (let lent = take ((place + s) - place) (drop place y) in r ≡ not (some (64 * length lent) (setOf lent))) →
+    Told c n m s base x y r
+told-made {n} {m} {s} {base} {odd} {place} {x} {y} c a given at there whose part told =
+    let size = given .places .size in
+    let above = given .above in
+    let high = given .high in
+    record {
+      part = rw (at, there, whose, size) at part;
+      none =
+          told ∙
+          ap (λ (xs : List ℕ). not (some (64 * length xs) (setOf xs))) (part-is place s y) ∙
+          ap (λ (k : ℕ). not (some (64 * k) (setOf (take s (drop place y)))))
+          (part-length place s y (omega (arith, part .long))) ∙
+          ap (λ (k : ℕ). not (some (64 * s) (setOf (take s (drop k y))))) there ∙
+          ap (λ (k : ℕ). not (some (64 * s) (setOf (take k (drop (drawnPlace n m) y))))) size;
+    }
+
+-- **The second cut is made, and its attractor is the player's.**
+pub lost-made :
+    {owners offsets targets : List ℕ} {s base odd place : ℕ} {a c : Player} {w₀ w₁ w₂ : List ℕ} →
+    Cuttable owners offsets targets s base w₀ →
+    a ≡ c →
+    odd ≡ oddPlace (length owners) (length targets) →
+    place ≡ drawnPlace (length owners) (length targets) →
+    (priorities : List ℕ) →
+    CutBy (tablesOf owners priorities offsets targets) a base
+    (onLevel (tablesOf owners priorities offsets targets) base w₀)
+    (drawnAt (tablesOf owners priorities offsets targets) w₀)
+    w₀ w₁ →
+    ((n : ℕ) → s ≡ words n → Gave a n odd place w₁ w₂) →
+    LostBy (tablesOf owners priorities offsets targets) c base
+    (onLevel (tablesOf owners priorities offsets targets) base w₀)
+    (drawnAt (tablesOf owners priorities offsets targets) w₀)
+    w₀ w₂
+lost-made {owners} {w₁} given whose at there priorities k gave =
+    record {
+      mid = w₁;
+      cut = rw whose at k;
+      gave = rw (whose, at, there) at (gave (length owners) (given .ready .size));
+    }
 
 -- the numbers 0 and 1 stand for different players
 player-number : (a b : ℕ) → a ≤ 1 → b ≤ 1 → playerOf a ≡ playerOf b → a ≡ b
@@ -394,228 +409,117 @@ player-number zero (suc b) h k e = let z : _≡_ {A = ℕ} 0 1 = cc in absurd (o
 player-number (suc a) zero h k e = let z : _≡_ {A = ℕ} 0 1 = cc in absurd (omega arith)
 player-number (suc a) (suc b) h k e = omega arith
 
-module _ {t : Tables} {s base : ℕ} (p : ℕ) {of place : ℕ} {w₀ w₁ w₂ w₃ : List ℕ}
+module _ {t : Tables} {s base : ℕ} (p : ℕ) {of place : ℕ} {w₀ w₁ : List ℕ}
     (ready : CallReady t s base w₀)
     (small : p < 256)
     (from : of ≡ setOfPriority (words (vertices t)) (free (vertices t) (edgesIn t)) p)
-    (met : Met (base + s) base of s w₀ w₁)
-    {a : Player} (whose : a ≡ parity p)
-    (there : place ≡ wonPlace s base a)
-    (cleared : Cleared (base + 2 * s) (2 * s) w₁ w₂)
-    (copied : Combined other place base s w₂ w₃)
+    (there : place ≡ drawnPlace (vertices t) (edgesIn t))
+    (met : CommonAt (vertices t) place base of w₀ w₁)
   where
-    size₂ : s ≡ words (vertices t)
-    size₂ = ready .size
+    size₁ : s ≡ words (vertices t)
+    size₁ = ready .size
 
-    -- V and U stand below the sets that are won
-    apart₂ : Apart (base + 2 * s) w₁ w₃
-    apart₂ =
-        let range = won-range s base a in
-        apart-then (apart-cleared (omega arith) cleared) (apart-combined (omega arith) copied)
+    still : Unmoved t base w₀ w₁
+    still = highest-still ready small from there met
 
-    apart₃ : Apart (base + s) w₀ w₃
-    apart₃ =
-        apart-then (apart-met ready small from met)
-        (record { long = apart₂ .long; low = λ i l. apart₂ .low i (omega arith) })
+    level-all : (v : ℕ) → onLevel t base w₁ v ≡ onLevel t base w₀ v
+    level-all = level-stays (ready .called .above) (still .stays)
 
-    stays-all : Stays t base w₀ w₃
-    stays-all = apart-stays t (ready .called .low) (omega (arith, size₂)) apart₃
-
-    level-all : (v : ℕ) → onLevel t base w₃ v ≡ onLevel t base w₀ v
-    level-all = level-stays (ready .called .low) stays-all
-
-    -- U is still there
-    top-all : (v : ℕ) → setAt (vertices t) (base + s) w₃ v ≡ withPriority (gameOf t) (onLevel t base w₀) p v
-    top-all v =
-        set-kept (vertices t) (base + s) w₁ w₃ (λ i l h. apart₂ .low i (omega (arith, size₂))) v ∙
-        ap (λ (k : ℕ). setAt (vertices t) (base + k) w₁ v) size₂ ∙
-        top-set ready small from met v
+    top-all : (v : ℕ) → setAt (vertices t) place w₁ v ≡ withPriority (gameOf t) (onLevel t base w₀) p v
+    top-all v = ap (λ (k : ℕ). setAt (vertices t) k w₁ v) there ∙ top-set ready small from there met v
 
     -- what the walk asks for
-    pub all-extends : Extends (t .owners) (t .offsets) (t .targets) s base w₃
+    pub all-extends : Extends (t .owners) (t .offsets) (t .targets) s base place w₁
     all-extends =
+        let above = ready .called .above in
+        let high = ready .high in
         record {
-          size = size₂;
+          size = size₁;
           few = accepted-sound t (ready .called .accepted) .few-vertices;
           edges = edges-sound t (ready .called .accepted);
-          low = ready .called .low;
-          high = omega (arith, ready .high, stays-all .long);
+          low = omega arith;
+          high = omega (arith, met .long);
+          from-low = omega arith;
+          from-high = omega (arith, met .long, size₁);
           below =
               λ v q.
               ready .called .below v (and-left (onLevel t base w₀ v) (eqb (gameOf t .priority v) p) (sym (top-all v) ∙ q));
         }
 
-    module _ {w₄ : List ℕ} (extended : Extended (t .owners) (t .offsets) (t .targets) p s base w₃ w₄) where
-      stays-last : Stays t base w₃ w₄
-      stays-last =
-          record {
-            long = extended .long;
-            table = λ i l. extended .rest i (inl (omega arith));
-            lower = λ i l h. extended .rest i (inr (omega arith));
-          }
-
-      won-kept : (c : Player) (v : ℕ) → wonAt t base w₄ c v ≡ wonAt t base w₃ c v
-      won-kept c =
-          let range = won-range (words (vertices t)) base c in
-          set-kept (vertices t) (wonPlace (words (vertices t)) base c) w₃ w₄
-          (λ i l h. extended .rest i (inr (omega (arith, ready .called .low))))
-
-      place-is : place ≡ wonPlace (words (vertices t)) base (parity p)
-      place-is = there ∙ ap₂ (λ (k : ℕ) (c : Player). wonPlace k base c) size₂ whose
-
-      -- V when the sets were cleared
-      level₂ : (v : ℕ) → onLevel t base w₂ v ≡ onLevel t base w₀ v
-      level₂ =
-          level-stays (ready .called .low)
-          (apart-stays t (ready .called .low) (omega (arith, size₂))
-          (apart-then (apart-met ready small from met) (apart-cleared {k = base + s} (omega arith) cleared)))
-
-      -- p's player owns v
-      mine-number : (v : ℕ) → v < vertices t → gameOf t .owner v ≡ parity p → getD (t .owners) v 0 ≡ p % 2
-      unfolding gameOf
-      mine-number v l e =
-          player-number (getD (t .owners) v 0) (p % 2) (accepted-sound t (ready .called .accepted) .owner-small v l)
-          (omega arith)
-          e
-
-      number-mine : (v : ℕ) → getD (t .owners) v 0 ≡ p % 2 → gameOf t .owner v ≡ parity p
-      unfolding gameOf
-      number-mine v e = ap playerOf e
-
-      -- the lowest-numbered successor
-      lowest-is :
-          (v : ℕ) →
-          lowestEnd (vertices t) (t .offsets) (t .targets) v (wordsAt (vertices t) base w₃) ≡
-          lowestIn (gameOf t) (onLevel t base w₃) v
-      unfolding gameOf lowestIn
-      lowest-is v = refl
-
-      -- **p's player wins everything.**
-      pub all-made : AllAt t p base w₀ w₄
-      all-made =
-          record {
-            stays = stays-on stays-all stays-last;
-            mine =
-                λ v.
-                won-kept (parity p) v ∙
-                ap (λ (k : ℕ). setAt (vertices t) k w₃ v) (sym place-is) ∙
-                set-copied-here (vertices t) place base w₂ w₃ (rw size₂ at copied) v ∙
-                level₂ v;
-            theirs =
-                λ v.
-                let range = won-range (words (vertices t)) base (opponent (parity p)) in
-                won-kept (opponent (parity p)) v ∙
-                set-kept (vertices t) (wonPlace (words (vertices t)) base (opponent (parity p))) w₂ w₃
-                (λ i l h. copied .rest i (beside i l h (won-apart (words (vertices t)) base (parity p))))
-                v ∙
-                set-cleared (vertices t) (base + 2 * s) (2 * s) (wonPlace (words (vertices t)) base (opponent (parity p))) cleared
-                (omega (arith, size₂))
-                (omega (arith, size₂))
-                v;
-            chosen =
-                λ v u mine.
-                let l = ready .called .below v (and-left (onLevel t base w₀ v) (eqb (gameOf t .priority v) p) u) in
-                extended .chosen v (top-all v ∙ u, mine-number v l mine) ∙
-                lowest-is v ∙
-                ap (λ (S : Set). lowestIn (gameOf t) S v) (fun-ext level-all);
-            kept =
-                λ v l d.
-                extended .kept v l (λ u. d (sym (top-all v) ∙ u .0) (number-mine v (u .1))) ∙
-                apart-entries t (ready .called .low) (omega (arith, size₂)) apart₃ v l;
-          }
-        where
-          beside :
-              (i : ℕ) →
-              wonPlace (words (vertices t)) base (opponent (parity p)) ≤ i →
-              i < wonPlace (words (vertices t)) base (opponent (parity p)) + words (vertices t) →
-              (wonPlace (words (vertices t)) base (parity p) + words (vertices t) ≤
-              wonPlace (words (vertices t)) base (opponent (parity p))) ⊎
-              (wonPlace (words (vertices t)) base (opponent (parity p)) + words (vertices t) ≤
-              wonPlace (words (vertices t)) base (parity p)) →
-              (i < place) ⊎ (place + s ≤ i)
-          beside i l h (inl q) = inr (omega (arith, place-is, size₂))
-          beside i l h (inr q) = inl (omega (arith, place-is, size₂))
-
-module _ {s base : ℕ} (p : ℕ) {place : ℕ} {w₀ w₁ w₂ : List ℕ}
-    (copied : Combined other (base + 2 * s) (base + 6 * s) (2 * s) w₀ w₁)
-    {a : Player} (whose : a ≡ opponent (parity p))
-    (there : place ≡ wonPlace s base a)
-    (united : Combined max place (base + s) s w₁ w₂)
-    (t : Tables)
-    (sized : s ≡ words (vertices t))
-    (low : free (vertices t) (edgesIn t) ≤ base)
-  where
-    place-lost : place ≡ wonPlace (words (vertices t)) base (opponent (parity p))
-    place-lost = there ∙ ap₂ (λ (k : ℕ) (c : Player). wonPlace k base c) sized whose
-
-    apart-join : Apart (base + 2 * s) w₀ w₂
-    apart-join =
-        let range = won-range s base a in
-        apart-then (apart-combined (omega arith) copied) (apart-combined (omega arith) united)
-
-    -- each player's set comes from the next level
-    from-next : (c : Player) (v : ℕ) → wonAt t base w₁ c v ≡ wonAt t (nextLevel (words (vertices t)) base) w₀ c v
-    from-next c v =
-        let n = vertices t in
-        let (k, few, here, next) = won-offset (words n) base c in
-        ap (λ (x : ℕ). setAt n x w₁ v) here ∙
-        set-copied n (base + 2 * words n) (base + 6 * words n) (2 * words n) w₀ w₁ (rw sized at copied) k (omega arith) v ∙
-        ap (λ (x : ℕ). setAt (vertices t) x w₀ v) (sym next)
-
-    -- **The sets are joined.**
-    pub joined-made : JoinedAt t p base w₀ w₂
-    joined-made =
-        record {
-          stays = apart-stays t low (omega (arith, sized)) apart-join;
-          mine =
-              λ v.
-              set-kept (vertices t) (wonPlace (words (vertices t)) base (parity p)) w₁ w₂
-              (λ i l h. united .rest i (beside i l h (won-apart (words (vertices t)) base (parity p))))
-              v ∙
-              from-next (parity p) v;
-          theirs =
-              λ v.
-              ap (λ (x : ℕ). setAt (vertices t) x w₂ v) (sym place-lost) ∙
-              set-united (vertices t) place (base + words (vertices t)) w₁ w₂ (rw sized at united) v ∙
-              ap₂ (λ (x y : Bool). x || y)
-              (ap (λ (x : ℕ). setAt (vertices t) x w₁ v) place-lost ∙ from-next (opponent (parity p)) v)
-              (set-kept (vertices t) (base + words (vertices t)) w₀ w₁ (λ i l h. copied .rest i (inl (omega (arith, sized)))) v) ∙
-              or-swap
-              (wonAt t (nextLevel (words (vertices t)) base) w₀ (opponent (parity p)) v)
-              (drawnAt t base w₀ v);
-          entries = apart-entries t low (omega (arith, sized)) apart-join;
-        }
+    module _ {odd : ℕ} {w₂ w₃ : List ℕ} {a : Player}
+        (extended : Extended (t .owners) (t .offsets) (t .targets) p base place w₁ w₂)
+        (whose : a ≡ parity p)
+        (at : odd ≡ oddPlace (vertices t) (edgesIn t))
+        (gave : Gave a (vertices t) odd base w₂ w₃)
       where
-        beside :
-            (i : ℕ) →
-            wonPlace (words (vertices t)) base (parity p) ≤ i →
-            i < wonPlace (words (vertices t)) base (parity p) + words (vertices t) →
-            (wonPlace (words (vertices t)) base (parity p) + words (vertices t) ≤
-            wonPlace (words (vertices t)) base (opponent (parity p))) ⊎
-            (wonPlace (words (vertices t)) base (opponent (parity p)) + words (vertices t) ≤
-            wonPlace (words (vertices t)) base (parity p)) →
-            (i < place) ⊎ (place + s ≤ i)
-        beside i l h (inl q) = inl (omega (arith, place-lost, sized))
-        beside i l h (inr q) = inr (omega (arith, place-lost, sized))
+        gave-rest : (i : ℕ) → Beside (words (vertices t)) (oddPlace (vertices t) (edgesIn t)) i → getD w₃ i 0 ≡ getD w₂ i 0
+        gave-rest = rw at at (gave .rest)
 
-        or-swap : (x y : Bool) → (x || y) ≡ (y || x)
-        or-swap true true = refl
-        or-swap true false = refl
-        or-swap false true = refl
-        or-swap false false = refl
+        stays-last : Stays t base w₁ w₃
+        stays-last =
+            record {
+              long = gave .long ∙ extended .long;
+              table = λ i l. gave-rest i (inl (omega arith)) ∙ extended .rest i (inl (omega arith));
+              lower =
+                  λ i l h o.
+                  gave-rest i (⊎-elim (λ k. inl k) (λ k. inr (omega arith)) o) ∙ extended .rest i (inr (omega arith));
+            }
 
--- whether the opponent won nothing, by the part that is lent
-pub lost-told :
-    (s base p : ℕ) {place : ℕ} (work : List ℕ) {a : Player} {r : Bool} →
-    a ≡ opponent (parity p) →
-    place ≡ wonPlace s base a →
-    place + s ≤ length work →
-    (let lent = take ((place + s) - place) (drop place work) in r ≡ not (some (64 * length lent) (setOf lent))) →
-    r ≡ not (some (64 * s) (setOf (take s (drop (wonPlace s base (opponent (parity p))) work))))
-lost-told s base p {place} work whose there fits told =
-    let there′ : place ≡ wonPlace s base (opponent (parity p)) =
-    there ∙ ap (λ (c : Player). wonPlace s base c) whose in
-    told ∙
-    ap (λ (xs : List ℕ). not (some (64 * length xs) (setOf xs))) (part-is place s work) ∙
-    ap (λ (k : ℕ). not (some (64 * k) (setOf (take s (drop place work))))) (part-length place s work fits) ∙
-    ap (λ (k : ℕ). not (some (64 * s) (setOf (take s (drop k work))))) there′
+        -- the entries were written before V was given
+        entry-last : (v : ℕ) → v < vertices t → entriesOf t w₃ v ≡ entriesOf t w₂ v
+        entry-last v l = gave-rest (entries (vertices t) (edgesIn t) + v) (inl (omega arith))
+
+        level₂ : (v : ℕ) → setAt (vertices t) base w₂ v ≡ onLevel t base w₀ v
+        level₂ v =
+            let above = ready .called .above in
+            set-kept (vertices t) base w₁ w₂ (λ i l h. extended .rest i (inr (omega arith))) v ∙ level-all v
+
+        odd₂ : (v : ℕ) → oddAt t w₂ v ≡ oddAt t w₀ v
+        odd₂ v =
+            set-kept (vertices t) (oddPlace (vertices t) (edgesIn t)) w₁ w₂ (λ i l h. extended .rest i (inr (omega arith))) v ∙
+            still .odd v
+
+        -- p's player owns v
+        mine-number : (v : ℕ) → v < vertices t → gameOf t .owner v ≡ parity p → getD (t .owners) v 0 ≡ p % 2
+        unfolding gameOf
+        mine-number v l e =
+            player-number (getD (t .owners) v 0) (p % 2) (accepted-sound t (ready .called .accepted) .owner-small v l)
+            (omega arith)
+            e
+
+        number-mine : (v : ℕ) → getD (t .owners) v 0 ≡ p % 2 → gameOf t .owner v ≡ parity p
+        unfolding gameOf
+        number-mine v e = ap playerOf e
+
+        -- the lowest-numbered successor
+        lowest-is :
+            (v : ℕ) →
+            lowestEnd (vertices t) (t .offsets) (t .targets) v (wordsAt (vertices t) base w₁) ≡
+            lowestIn (gameOf t) (onLevel t base w₁) v
+        unfolding gameOf lowestIn
+        lowest-is v = refl
+
+        -- **p's player wins everything.**
+        pub all-made : AllAt t p base w₀ w₃
+        all-made =
+            record {
+              stays = stays-on (still .stays) stays-last;
+              odd =
+                  λ v.
+                  ap (λ (k : ℕ). setAt (vertices t) k w₃ v) (sym at) ∙
+                  gave .odd v ∙
+                  ap₂ (λ (b : Bool) (k : ℕ). cond b (isOdd a) (setAt (vertices t) k w₂ v)) (level₂ v) at ∙
+                  ap₂ (λ (c : Player) (b : Bool). cond (onLevel t base w₀ v) (isOdd c) b) whose (odd₂ v);
+              chosen =
+                  λ v u mine.
+                  let l = ready .called .below v (and-left (onLevel t base w₀ v) (eqb (gameOf t .priority v) p) u) in
+                  entry-last v l ∙
+                  extended .chosen v (top-all v ∙ u, mine-number v l mine) ∙
+                  lowest-is v ∙
+                  ap (λ (S : Set). lowestIn (gameOf t) S v) (fun-ext level-all);
+              kept =
+                  λ v l d.
+                  entry-last v l ∙
+                  extended .kept v l (λ u. d (sym (top-all v) ∙ u .0) (number-mine v (u .1))) ∙
+                  still .entries v l;
+            }

@@ -1,22 +1,19 @@
-// The pieces of a call, over the four sets of its level: V at `base`, then the attractor, then what Even and Odd win.
-// The next level begins after them. `s` is the words of a set, `p` the highest priority in V.
+// The pieces of a call: V stands at `base`, the next level behind it, what Odd won and the attractor where `places`
+// says. `s` is the words of a set, `p` the highest priority in V.
+use crate::places::drawn_at;
+use crate::places::odd_at;
 use highest_priority::extend_lowest;
 use parity_game::Player;
 use parity_game::Priority;
 ghost use mathlib.Core.List.{List};
-ghost use mathlib.Core.Bool.{not};
 ghost use mathlib.Core.Path.{_≡_};
-ghost use Prim.Native.Nat.{ℕ, _+_, _*_, _^_, _≤_, _<_};
-ghost use lib.ListN.{length, take, drop};
-ghost use Rattle.rules.specs.Counting.{some};
+ghost use Prim.Native.Nat.{ℕ};
 ghost use Rattle.rules.specs.Game.{opponent, parity};
-ghost use Rattle.rules.specs.Tables.{Tables, vertices, edgesIn, words, tablesOf};
-ghost use Rattle.rules.specs.Words.{setOf};
+ghost use Rattle.rules.specs.Tables.{words, tablesOf};
 ghost use Rattle.parity_game.specs.Said.{is};
-ghost use Rattle.area.specs.Area.{free};
-ghost use Rattle.zielonka_level.specs.Level.{wonPlace};
-ghost use Rattle.zielonka_level.specs.Steps.{AllAt, JoinedAt};
-ghost use Rattle.zielonka_level.specs.Pieces.{CallReady, Sorted};
+ghost use Rattle.sets.specs.After.{Parts};
+ghost use Rattle.zielonka_level.specs.Steps.{AllAt};
+ghost use Rattle.zielonka_level.specs.Pieces.{PartWon, Gave, Levels, Told, CallReady, Sorted};
 
 // The player who does not have p's parity.
 pub fn opponent_of(p: Priority) -> Player
@@ -25,26 +22,49 @@ pub fn opponent_of(p: Priority) -> Player
     Player::from_priority(p).opponent()
 }
 
-// Where the set that a player wins stands at a level.
-pub fn won_at(base: usize, s: usize, player: Player) -> usize
-    requires { ⌜ base + 3 * s < 2 ^ 64 ⌝ }
-    ensures { λ r. ⌜ r ≡ wonPlace s base (is player) ⌝ }
+// What a player won of the set at `of`, by what Odd won, goes to `into`.
+fn part_won(player: Player, s: usize, work: &mut [u64], into: usize, of: usize, odd: usize)
+    requires { ⌜ Parts into of s (now work) × Parts into odd s (now work) ⌝ }
+    ensures { λ r.
+        ⌜ ((n : ℕ) → s ≡ words n →
+        PartWon (is player) n into of odd (now (work .entry)) (now (work .exit))) ⌝ }
 {
     match player {
-        Player::Even => base + 2 * s,
-        Player::Odd => base + 3 * s,
+        Player::Even => set_difference::without(s, work, into, of, odd),
+        Player::Odd => set_difference::meet(s, work, into, of, odd),
     }
 }
 
-// Whether the opponent of p's player won nothing at a level.
-pub fn lost_nothing(p: Priority, s: usize, work: &[u64], base: usize) -> bool
-    requires { ⌜ base + 4 * s ≤ length (now work) ⌝ }
+// The members of the set at `from` are a player's now.
+pub fn give(player: Player, s: usize, work: &mut [u64], odd: usize, from: usize)
+    requires { ⌜ Parts odd from s (now work) ⌝ }
     ensures { λ r.
-        ⌜ r ≡ not (some (64 * s) (setOf (take s
-        (drop (wonPlace s base (opponent (parity (p .0)))) (now (work .entry)))))) ⌝ }
+        ⌜ ((n : ℕ) → s ≡ words n →
+        Gave (is player) n odd from (now (work .entry)) (now (work .exit))) ⌝ }
 {
-    let lost = won_at(base, s, opponent_of(p));
-    sets::is_empty(&work[lost..lost + s])
+    match player {
+        Player::Even => sets::difference_with(work, odd, from, s),
+        Player::Odd => sets::union_with(work, odd, from, s),
+    }
+}
+
+// Whether the opponent of p's player won nothing at the next level. What it won there goes to the attractor's place.
+pub fn lost_nothing(
+    n: usize,
+    m: usize,
+    p: Priority,
+    s: usize,
+    work: &mut [u64],
+    base: usize,
+) -> bool
+    requires { ⌜ Levels n m s base (now work) ⌝ }
+    ensures { λ r.
+        ⌜ Told (opponent (parity (p .0))) n m s base (now (work .entry)) (now (work .exit)) r ⌝ }
+{
+    let odd = odd_at(n, m, s);
+    let drawn = drawn_at(n, m, s);
+    part_won(opponent_of(p), s, work, drawn, base + s, odd);
+    sets::is_empty(&work[drawn..drawn + s])
 }
 
 // p's player wins V, and its vertices of priority p take their lowest-numbered successor in V. They are put in the
@@ -66,22 +86,12 @@ pub fn win_everything(
         AllAt (tablesOf (now (owners .entry)) priorities (now (offsets .entry)) (now (targets .entry))) (p .0) base
         (now (work .entry)) (now (work .exit))) ⌝ }
 {
-    let of = priority_sets::set_at(owners.len(), targets.len(), s, p.0);
-    priority_sets::meet(work, base + s, base, of, s);
-    sets::clear(work, base + 2 * s, 2 * s);
-    let won = won_at(base, s, Player::from_priority(p));
-    sets::copy_with(work, won, base, s);
-    extend_lowest(owners, offsets, targets, p, s, work, base);
-}
-
-// Each player wins what it won at the next level, and the opponent of p's player B too.
-pub fn join(p: Priority, s: usize, work: &mut [u64], base: usize)
-    requires { ⌜ base + 8 * s ≤ length (now work) ⌝ }
-    ensures { λ r.
-        ⌜ ((t : Tables) → s ≡ words (vertices t) → free (vertices t) (edgesIn t) ≤ base →
-        JoinedAt t (p .0) base (now (work .entry)) (now (work .exit))) ⌝ }
-{
-    sets::copy_with(work, base + 2 * s, base + 6 * s, 2 * s);
-    let lost = won_at(base, s, opponent_of(p));
-    sets::union_with(work, lost, base + s, s);
+    let n = owners.len();
+    let m = targets.len();
+    let of = priority_sets::set_at(n, m, s, p.0);
+    let odd = odd_at(n, m, s);
+    let drawn = drawn_at(n, m, s);
+    set_difference::meet(s, work, drawn, base, of);
+    extend_lowest(owners, offsets, targets, p, s, work, base, drawn);
+    give(Player::from_priority(p), s, work, odd, base);
 }

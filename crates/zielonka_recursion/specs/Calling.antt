@@ -1,8 +1,8 @@
 -- How far a call has come, from piece to piece: what each piece needs of those before it, and what the call leaves by each way
 -- out.
-use mathlib.Core.Bool.{Bool, true, false, not}
+use mathlib.Core.Bool.{Bool, true, false, _&&_, not}
 use mathlib.Core.List.{List}
-use mathlib.Core.Path.{_≡_, refl, sym, ap, subst, _∙_}
+use mathlib.Core.Path.{_≡_, sym, ap, subst, subst₂, fun-ext, _∙_}
 use Prim.Native.Nat.{ℕ, _+_, _-_, _*_, _≤_, _<_}
 use native.Mathlib.Nat.{mul-le-mul-left, mul-add, mul-one}
 use native.Mathlib.Omega.{arith}
@@ -15,43 +15,41 @@ use Rattle.rules.specs.Game.{Player, opponent, parity}
 use Rattle.rules.specs.Tables.{Tables, gameOf, vertices, edgesIn, words}
 use Rattle.rules.specs.Words.{setOf}
 use Rattle.rules.specs.Zielonka.{withPriority}
-use Rattle.sets.specs.After.{Cleared}
 use Rattle.sets.specs.Laws.{no-member}
-use Rattle.basics.specs.Basics.{clash, and-intro, without-right, not-true-is-false, some-elim, some-false, count-pos}
-use Rattle.theory.specs.Run.{Top, highest-top, cut-inside}
-use Rattle.theory.specs.RunSound.{run-sound}
+use Rattle.basics.specs.Basics.{clash, and-left, and-intro, without-right, not-true-is-false, some-elim, some-false, count-pos}
+use Rattle.theory.specs.Run.{Top, Cut, highest-top, cut-inside}
 use Rattle.accepted.specs.Tables.{accepted-sound}
 use Rattle.area.specs.Area.{free, setAt, sizeAt, wordsAt}
 use Rattle.area.specs.Sizes.{size-at}
-use Rattle.area.specs.SetsAt.{set-cleared, set-inside}
+use Rattle.area.specs.SetsAt.{set-inside}
 use Rattle.area.specs.Walking.{lent-part}
 use Rattle.highest_priority.specs.Parts.{highestOf, Searchable}
 use Rattle.zielonka_recursion.specs.Ending.{CalledUnder}
-use Rattle.zielonka_level.specs.Level.{nextLevel, wonPlace, onLevel, wonAt, Called, Stays, Done, Over}
-use Rattle.zielonka_level.specs.Steps.{CutBy, AllAt, JoinedAt, stays-on, stays-next, level-stays, cut-over}
+use Rattle.zielonka_level.specs.Level.{nextLevel, drawnPlace, onLevel, drawnAt, oddAt, goesTo, wonOf, Called, Stays, Done, Over}
+use Rattle.zielonka_level.specs.Steps.{CutBy, AllAt, LostBy, Unmoved, stays-on, stays-next, level-stays, lost-stays, lost-cut}
 use Rattle.zielonka_level.specs.Steps.{nested-called, first-less, cut-less}
-use Rattle.zielonka_level.specs.Steps.{done-empty, done-all, done-some, over-nested, over-second}
-use Rattle.zielonka_level.specs.Pieces.{CallReady, Sorted, Losable}
-use Rattle.zielonka_level.specs.PiecesHold.{apart-cleared, apart-stays, apart-entries, ready-stays, won-range}
+use Rattle.zielonka_level.specs.Steps.{done-all, done-some, over-nested, over-second}
+use Rattle.zielonka_level.specs.Pieces.{Levels, Told, CallReady, Sorted, Cuttable}
+use Rattle.zielonka_level.specs.PiecesHold.{drawn-only, ready-stays, ready-places}
 
 -- there is room for the level above a call on a set that has a member
-eight-fit : (s k base long : ℕ) → 0 < k → base + 4 * (s * (k + 1)) ≤ long → base + 8 * s ≤ long
-eight-fit s k base long pos room =
+two-fit : (s k base long : ℕ) → 0 < k → base + s * (k + 1) ≤ long → base + 2 * s ≤ long
+two-fit s k base long pos room =
     let fits = mul-le-mul-left s pos in
     let one : s * 1 ≡ s = mul-one s in
     let e : s * (k + 1) ≡ s * k + s = mul-add s k 1 ∙ ap (λ (x : ℕ). s * k + x) (mul-one s) in
     omega arith
 
-four-fit : (s k base long : ℕ) → base + 4 * (s * (k + 1)) ≤ long → base + 4 * s ≤ long
-four-fit s k base long room =
+one-fits : (s k base long : ℕ) → base + s * (k + 1) ≤ long → base + s ≤ long
+one-fits s k base long room =
     let e : s * (k + 1) ≡ s * k + s = mul-add s k 1 ∙ ap (λ (x : ℕ). s * k + x) (mul-one s) in
     omega arith
 
 module _ {t : Tables} {base : ℕ} {w₀ : List ℕ} (called : Called t base w₀) {s : ℕ} (size : s ≡ words (vertices t)) where
   -- a call has room for its own level
-  pub level-fits : base + 4 * s ≤ length w₀
+  pub level-fits : base + s ≤ length w₀
   level-fits =
-      let fits = four-fit (words (vertices t)) (count (vertices t) (onLevel t base w₀)) base (length w₀) (called .room) in
+      let fits = one-fits (words (vertices t)) (count (vertices t) (onLevel t base w₀)) base (length w₀) (called .room) in
       omega arith
 
   lent : take ((base + s) - base) (drop base w₀) ≡ wordsAt (vertices t) base w₀
@@ -100,30 +98,12 @@ module _ {t : Tables} {base : ℕ} {w₀ : List ℕ} (called : Called t base w�
       (not-false _ (rw lent at (sym told ∙ no′))) in
       (v, p)
 
-  -- nothing is won
-  pub empty-done :
-      {calls budget : ℕ} {w₁ : List ℕ} →
-      ((v : ℕ) → onLevel t base w₀ v ≡ false) →
-      calls < budget →
-      Cleared (base + 2 * s) (2 * s) w₀ w₁ →
-      Done t base calls budget (calls + 1) w₀ w₁
-  empty-done none l cleared =
-      done-empty called none l
-      (λ c v.
-      let range = won-range (words (vertices t)) base c in
-      set-cleared (vertices t) (base + 2 * s) (2 * s) (wonPlace (words (vertices t)) base c) cleared
-      (omega (arith, size))
-      (omega (arith, size))
-      v)
-      (apart-stays t (called .low) (omega (arith, size)) (apart-cleared {k = base + s} (omega arith) cleared))
-      (apart-entries t (called .low) (omega (arith, size)) (apart-cleared {k = base + s} (omega arith) cleared))
-
   module _ (vertex : ℕ) (member : onLevel t base w₀ vertex ≡ true) where
     -- a member leaves room for the level above
     pub member-ready : CallReady t s base w₀
     member-ready =
         let fits =
-        eight-fit (words (vertices t)) (count (vertices t) (onLevel t base w₀)) base (length w₀)
+        two-fit (words (vertices t)) (count (vertices t) (onLevel t base w₀)) base (length w₀)
         (count-pos (vertices t) (onLevel t base w₀) vertex (called .below vertex member) member)
         (called .room) in
         record { called = called; size = size; high = omega arith }
@@ -195,15 +175,22 @@ pub record Came (t : Tables) (s base p calls budget made : ℕ) (w₀ w₁ w₂ 
   pub begun : FirstCut t s base p w₀ w₁
   pub done : Done t (nextLevel (words (vertices t)) base) (calls + 1) budget made w₁ w₂
 
--- after the second cut
-pub record Lost (t : Tables) (s base p calls budget made : ℕ) (w₀ w₁ w₂ w₃ : List ℕ) : Type 0 where
+-- what the opponent won there
+abbrev pub lostThere : Tables → ℕ → ℕ → List ℕ → List ℕ → Set
+lostThere t base p w₁ w₂ = wonOf t (onLevel t (nextLevel (words (vertices t)) base) w₁) w₂ (opponent (parity p))
+
+-- it stands in the attractor's place
+pub record Collected (t : Tables) (s base p calls budget made : ℕ) (w₀ w₁ w₂ w₃ : List ℕ) : Type 0 where
   pub came : Came t s base p calls budget made w₀ w₁ w₂
+  pub still : Unmoved t base w₂ w₃
+  pub lost : (v : ℕ) → drawnAt t w₃ v ≡ lostThere t base p w₁ w₂ v
+
+-- after the second cut
+pub record Lost (t : Tables) (s base p calls budget made : ℕ) (w₀ w₁ w₂ w₃ w₄ : List ℕ) : Type 0 where
+  pub told : Collected t s base p calls budget made w₀ w₁ w₂ w₃
   pub vertex : ℕ
-  pub lost : wonAt t (nextLevel (words (vertices t)) base) w₂ (opponent (parity p)) vertex ≡ true
-  pub cut :
-      CutBy t (opponent (parity p)) base (onLevel t base w₀)
-      (wonAt t (nextLevel (words (vertices t)) base) w₂ (opponent (parity p)))
-      w₂ w₃
+  pub lost : lostThere t base p w₁ w₂ vertex ≡ true
+  pub by : LostBy t (opponent (parity p)) base (onLevel t base w₀) (lostThere t base p w₁ w₂) w₃ w₄
 
 module _ {t : Tables} {s base p : ℕ} {w₀ w₁ : List ℕ} (b : FirstCut t s base p w₀ w₁) where
   -- no priority there is above p − 1: every vertex of priority p was drawn
@@ -225,29 +212,28 @@ module _ {t : Tables} {s base p : ℕ} {w₀ w₁ : List ℕ} (b : FirstCut t s 
       go (no d) = omega (arith, d, b .top .most v inside)
 
   -- and it has what it asks for
-  pub begun-called : CalledUnder t (base + 4 * s) (p - 1) w₁
+  pub begun-called : CalledUnder t (base + s) (p - 1) w₁
   begun-called =
       rw (b .ready .size)
       (record {
         called =
-            nested-called (b .called) (record { long = refl; table = λ i l. refl; lower = λ i l h. refl }) (b .cut)
-            (first-less (b .called) (b .top) (b .cut));
+            nested-called (b .called) (b .cut .stays) (b .cut .cut) (first-less (b .called) (b .top) (b .cut));
         under = first-under;
       })
 
   -- on a set of fewer vertices
-  pub begun-less : sizeAt (vertices t) (base + 4 * s) w₁ < sizeAt (vertices t) base w₀
+  pub begun-less : sizeAt (vertices t) (base + s) w₁ < sizeAt (vertices t) base w₀
   begun-less =
       smaller (b .called) (begun-called .called) (rw (b .ready .size) (first-less (b .called) (b .top) (b .cut)))
 
   pub begun-came :
       {calls budget made : ℕ} {w₂ : List ℕ} →
-      Done t (base + 4 * s) (calls + 1) budget made w₁ w₂ →
+      Done t (base + s) (calls + 1) budget made w₁ w₂ →
       Came t s base p calls budget made w₀ w₁ w₂
   begun-came d = record { begun = b; done = rw (b .ready .size) at d }
 
   -- it needs more calls than are left
-  pub begun-over : (calls budget : ℕ) → Over t (base + 4 * s) (calls + 1) budget w₁ → Over t base calls budget w₀
+  pub begun-over : (calls budget : ℕ) → Over t (base + s) (calls + 1) budget w₁ → Over t base calls budget w₀
   begun-over calls budget over = over-nested (b .called) calls budget (b .top) (b .cut) (rw (b .ready .size) at over)
 
 module _ {t : Tables} {s base p calls budget made : ℕ} {w₀ w₁ w₂ : List ℕ} (c : Came t s base p calls budget made w₀ w₁ w₂) where
@@ -260,107 +246,135 @@ module _ {t : Tables} {s base p calls budget made : ℕ} {w₀ w₁ w₂ : List 
   pub came-ready : CallReady t s base w₂
   came-ready = ready-stays came-stays (c .begun .ready)
 
-  pub came-sorted : Sorted (t .owners) (t .offsets) (t .targets) p s base w₂
-  came-sorted = ready-sorted (c .begun .called) (c .begun .top) came-ready
+  -- the levels can be asked what the opponent won
+  pub came-levels : Levels (vertices t) (edgesIn t) s base w₂
+  came-levels = record { places = ready-places came-ready; above = came-ready .called .above; high = came-ready .high }
 
-  -- what each player won at the next level lies in V
-  came-inside : (a : Player) (v : ℕ) → wonAt t (nextLevel (words (vertices t)) base) w₂ a v ≡ true → onLevel t base w₀ v ≡ true
-  came-inside a v q = cut-inside (c .begun .cut .cut) v (run-sound (c .done .run) .splits .inside a v q)
-
-  -- whether the opponent won nothing there
-  told-words :
-      {r : Bool} →
-      r ≡ not (some (64 * s) (setOf (take s (drop (wonPlace s (base + 4 * s) (opponent (parity p))) w₂)))) →
-      r ≡
-      not
-      (some (64 * words (vertices t)) (wonAt t (nextLevel (words (vertices t)) base) w₂ (opponent (parity p))))
-  told-words told = rw sized at told
-
-  pub came-all :
+  -- what the opponent won stands in the attractor's place
+  pub came-told :
       {r : Bool} {w₃ : List ℕ} →
-      r ≡ not (some (64 * s) (setOf (take s (drop (wonPlace s (base + 4 * s) (opponent (parity p))) w₂)))) →
-      r ≡ true →
-      AllAt t p base w₂ w₃ →
-      Done t base calls budget made w₀ w₃
-  came-all told yes′ all =
-      done-all (c .begun .called) (c .begun .top) (c .begun .cut) (c .done)
-      (empty-set t (wonPlace (words (vertices t)) (nextLevel (words (vertices t)) base) (opponent (parity p))) w₂
-      (not-true _ (sym (told-words told) ∙ yes′)))
-      all
-
-  -- the second cut has what it asks for
-  pub came-losable : Losable (t .owners) (t .offsets) (t .targets) p s base w₂
-  came-losable =
-      record {
-        priorities = t .priorities;
-        ready = came-ready;
-        part =
-            λ v q.
-            level-stays (c .begun .called .low) came-stays v ∙
-            came-inside (opponent (parity p)) v
-            (ap (λ (k : ℕ). wonAt t (nextLevel k base) w₂ (opponent (parity p)) v) (sym sized) ∙ q);
-      }
-
-  pub came-lost :
-      {r : Bool} {w₃ : List ℕ} →
-      r ≡ not (some (64 * s) (setOf (take s (drop (wonPlace s (base + 4 * s) (opponent (parity p))) w₂)))) →
-      r ≡ false →
-      CutBy t (opponent (parity p)) base (onLevel t base w₂) (wonAt t (nextLevel s base) w₂ (opponent (parity p))) w₂ w₃ →
-      Lost t s base p calls budget made w₀ w₁ w₂ w₃
-  came-lost told no′ k =
-      let (v, l, q) =
-      some-elim (64 * words (vertices t)) (wonAt t (nextLevel (words (vertices t)) base) w₂ (opponent (parity p)))
-      (not-false _ (sym (told-words told) ∙ no′)) in
+      Told (opponent (parity p)) (vertices t) (edgesIn t) s base w₂ w₃ r →
+      Collected t s base p calls budget made w₀ w₁ w₂ w₃
+  came-told {w₃} told =
       record {
         came = c;
-        vertex = v;
-        lost = q;
-        cut =
-            cut-over (level-stays (c .begun .called .low) came-stays)
-            (λ u. ap (λ (j : ℕ). wonAt t (nextLevel j base) w₂ (opponent (parity p)) u) sized)
-            k;
+        still = drawn-only t (c .begun .called .above) (told .part .long) (told .part .rest);
+        lost =
+            λ v.
+            told .part .made v ∙
+            ap (λ (b : Bool). b && goesTo (opponent (parity p)) (oddAt t w₂ v))
+            (level-stays (nested .above) (c .done .stays) v);
       }
+    where
+      nested : Called t (nextLevel (words (vertices t)) base) w₁
+      nested = rw sized at (begun-called (c .begun) .called)
 
 module _ {t : Tables} {s base p calls budget made : ℕ} {w₀ w₁ w₂ w₃ : List ℕ}
-    (l : Lost t s base p calls budget made w₀ w₁ w₂ w₃)
+    (d : Collected t s base p calls budget made w₀ w₁ w₂ w₃)
+  where
+    abbrev c : Came t s base p calls budget made w₀ w₁ w₂
+    c = d .came
+
+    told-stays : Stays t base w₀ w₃
+    told-stays = stays-on (came-stays c) (d .still .stays)
+
+    pub told-ready : CallReady t s base w₃
+    told-ready = ready-stays told-stays (c .begun .ready)
+
+    pub told-sorted : Sorted (t .owners) (t .offsets) (t .targets) p s base w₃
+    told-sorted = ready-sorted (c .begun .called) (c .begun .top) told-ready
+
+    told-none :
+        {r : Bool} →
+        r ≡ not (some (64 * s) (drawnAt t w₃)) →
+        r ≡ not (some (64 * words (vertices t)) (drawnAt t w₃))
+    told-none told = rw (sized c) at told
+
+    -- it is nothing
+    pub told-all :
+        {r : Bool} {w₄ : List ℕ} →
+        r ≡ not (some (64 * s) (drawnAt t w₃)) →
+        r ≡ true →
+        AllAt t p base w₃ w₄ →
+        Done t base calls budget made w₀ w₄
+    told-all told yes′ all =
+        done-all (c .begun .called) (c .begun .top) (c .begun .cut) (c .done)
+        (λ v.
+        sym (d .lost v) ∙
+        empty-set t (drawnPlace (vertices t) (edgesIn t)) w₃ (not-true _ (sym (told-none told) ∙ yes′)) v)
+        (d .still)
+        all
+
+    -- what the opponent won lies in V
+    told-inside : (v : ℕ) → lostThere t base p w₁ w₂ v ≡ true → onLevel t base w₀ v ≡ true
+    told-inside v q = cut-inside (c .begun .cut .cut) v (and-left _ _ q)
+
+    -- the second cut has what it asks for
+    pub told-cuttable : Cuttable (t .owners) (t .offsets) (t .targets) s base w₃
+    told-cuttable =
+        record {
+          priorities = t .priorities;
+          ready = told-ready;
+          part = λ v q. level-stays (c .begun .called .above) told-stays v ∙ told-inside v (sym (d .lost v) ∙ q);
+        }
+
+    pub told-lost :
+        {r : Bool} {w₄ : List ℕ} →
+        r ≡ not (some (64 * s) (drawnAt t w₃)) →
+        r ≡ false →
+        LostBy t (opponent (parity p)) base (onLevel t base w₃) (drawnAt t w₃) w₃ w₄ →
+        Lost t s base p calls budget made w₀ w₁ w₂ w₃ w₄
+    told-lost {w₄} told no′ by =
+        let (v, l, q) =
+        some-elim (64 * words (vertices t)) (drawnAt t w₃) (not-false _ (sym (told-none told) ∙ no′)) in
+        record {
+          told = d;
+          vertex = v;
+          lost = sym (d .lost v) ∙ q;
+          by =
+              subst₂ (λ (X Y : Set). LostBy t (opponent (parity p)) base X Y w₃ w₄)
+              (fun-ext (level-stays (c .begun .called .above) told-stays))
+              (fun-ext (d .lost))
+              by;
+        }
+
+module _ {t : Tables} {s base p calls budget made : ℕ} {w₀ w₁ w₂ w₃ w₄ : List ℕ}
+    (l : Lost t s base p calls budget made w₀ w₁ w₂ w₃ w₄)
   where
     abbrev begun : FirstCut t s base p w₀ w₁
-    begun = l .came .begun
+    begun = l .told .came .begun
 
-    second-under : (v : ℕ) → onLevel t (nextLevel (words (vertices t)) base) w₃ v ≡ true → getD (t .priorities) v 0 ≤ p
+    rest : Cut (gameOf t) (opponent (parity p)) (onLevel t base w₀) (lostThere t base p w₁ w₂)
+        (attractor (gameOf t) (opponent (parity p)) (onLevel t base w₀) (lostThere t base p w₁ w₂))
+        (onLevel t (nextLevel (words (vertices t)) base) w₄)
+    rest = lost-cut (begun .called .above) (l .by)
+
+    less : count (vertices t) (onLevel t (nextLevel (words (vertices t)) base) w₄) < count (vertices t) (onLevel t base w₀)
+    less = cut-less (begun .called) rest (l .vertex) (l .lost)
+
+    second-under : (v : ℕ) → onLevel t (nextLevel (words (vertices t)) base) w₄ v ≡ true → getD (t .priorities) v 0 ≤ p
     unfolding gameOf
-    second-under v m = begun .top .most v (cut-inside (l .cut .cut) v m)
+    second-under v m = begun .top .most v (cut-inside rest v m)
 
-    pub lost-called : CalledUnder t (base + 4 * s) p w₃
+    pub lost-called : CalledUnder t (base + s) p w₄
     lost-called =
         rw (begun .ready .size)
         (record {
-          called =
-              nested-called (begun .called) (came-stays (l .came)) (l .cut)
-              (cut-less (begun .called) (l .cut) (l .vertex) (l .lost));
+          called = nested-called (begun .called) (stays-on (told-stays (l .told)) (lost-stays (begun .called .above) (l .by))) rest less;
           under = second-under;
         })
 
     -- the second nested call is on a set of fewer vertices
-    pub lost-less : sizeAt (vertices t) (base + 4 * s) w₃ < sizeAt (vertices t) base w₀
-    lost-less =
-        smaller (begun .called) (lost-called .called)
-        (rw (begun .ready .size) (cut-less (begun .called) (l .cut) (l .vertex) (l .lost)))
+    pub lost-less : sizeAt (vertices t) (base + s) w₄ < sizeAt (vertices t) base w₀
+    lost-less = smaller (begun .called) (lost-called .called) (rw (begun .ready .size) less)
 
-    pub lost-over : Over t (base + 4 * s) made budget w₃ → Over t base calls budget w₀
+    pub lost-over : Over t (base + s) made budget w₄ → Over t base calls budget w₀
     lost-over over =
-        over-second (begun .called) calls (begun .top) (begun .cut) (l .came .done) (l .vertex) (l .lost) (l .cut)
+        over-second (begun .called) calls (begun .top) (begun .cut) (l .told .came .done) (l .vertex) (l .lost) (l .by)
         (rw (begun .ready .size) at over)
 
-    pub lost-high : {made₂ : ℕ} {w₄ : List ℕ} → Done t (base + 4 * s) made budget made₂ w₃ w₄ → base + 8 * s ≤ length w₄
-    lost-high d = omega (arith, d .stays .long, l .cut .stays .long, came-ready (l .came) .high)
-
     pub lost-done :
-        {made₂ : ℕ} {w₄ w₅ : List ℕ} →
-        Done t (base + 4 * s) made budget made₂ w₃ w₄ →
-        ((t′ : Tables) → s ≡ words (vertices t′) → free (vertices t′) (edgesIn t′) ≤ base → JoinedAt t′ p base w₄ w₅) →
-        Done t base calls budget made₂ w₀ w₅
-    lost-done d joined =
-        done-some (begun .called) (begun .top) (begun .cut) (l .came .done) (l .vertex) (l .lost) (l .cut)
+        {made₂ : ℕ} {w₅ : List ℕ} → Done t (base + s) made budget made₂ w₄ w₅ → Done t base calls budget made₂ w₀ w₅
+    lost-done d =
+        done-some (begun .called) (begun .top) (begun .cut) (l .told .came .done) (l .told .still) (l .vertex) (l .lost) (l .by)
         (rw (begun .ready .size) at d)
-        (joined t (begun .ready .size) (begun .called .low))

@@ -1,5 +1,5 @@
-// Zielonka's recursion over one lent work area, after zielonka.rs. A call keeps four sets at its own level: V, an
-// attractor, and the sets that Even and Odd win; the call below stands at the next level.
+// Zielonka's recursion over one lent work area, after zielonka.rs. A call keeps one set at its own level, V; the call
+// below stands at the next level. What Odd won stands once, for the whole recursion.
 mod recursion;
 
 pub use recursion::zielonka_rec;

@@ -1,10 +1,9 @@
-// One call on the set V at `base`, its sets at its own level, the calls below it one level up.
+// One call on the set V at `base`, the calls below it one level up. It decides the vertices of V and leaves all others.
 use highest_priority::get_highest_prio;
 use highest_priority::one_less;
 use parity_game::Priority;
 use zielonka_cuts::attract_highest;
 use zielonka_cuts::attract_lost;
-use zielonka_level::join;
 use zielonka_level::lost_nothing;
 use zielonka_level::win_everything;
 ghost use Rattle.zielonka_recursion.specs.Ending.{CalledUnder, Ends};
@@ -33,14 +32,14 @@ pub fn zielonka_rec(
     if cap <= calls {
         return 0;
     }
-    let s = parity_game::set_words(owners.len());
+    let n = owners.len();
+    let s = parity_game::set_words(n);
     if sets::is_empty(&work[base..base + s]) {
-        sets::clear(work, base + 2 * s, 2 * s);
         return calls + 1;
     }
     let p = get_highest_prio(priorities, work, base, s, top);
     attract_highest(owners, offsets, targets, p, s, work, base);
-    let up = base + 4 * s;
+    let up = base + s;
     let made = zielonka_rec(
         owners,
         priorities,
@@ -55,15 +54,10 @@ pub fn zielonka_rec(
     if made == 0 {
         return 0;
     }
-    if lost_nothing(p, s, work, up) {
+    if lost_nothing(n, targets.len(), p, s, work, base) {
         win_everything(owners, offsets, targets, p, s, work, base);
         return made;
     }
     attract_lost(owners, offsets, targets, p, s, work, base);
-    let all = zielonka_rec(owners, priorities, offsets, targets, work, up, p, made, cap);
-    if all == 0 {
-        return 0;
-    }
-    join(p, s, work, base);
-    all
+    zielonka_rec(owners, priorities, offsets, targets, work, up, p, made, cap)
 }

@@ -15,12 +15,12 @@ use Rattle.highest_priority.proofs.highest.extend_lowest.Statement.{sta
 use Rattle.highest_priority.proofs.highest.extend_lowest.Tie as tie
 
 abbrev Inv-loop : tie.InvT-loop
-Inv-loop owners offsets targets s work₀ base n m row from alpha walk₀ work walk =
-    ExtendingTo owners offsets targets alpha s base work₀ walk work
+Inv-loop owners offsets targets s work₀ base from n m row alpha walk₀ work walk =
+    ExtendingTo owners offsets targets alpha base from work₀ walk work
 
 abbrev μ-loop : tie.MeasureT-loop
-μ-loop owners offsets targets s work₀ base n m row from alpha walk₀ work walk =
-    length (left (wordsAt (length owners) (base + s) work₀) walk)
+μ-loop owners offsets targets s work₀ base from n m row alpha walk₀ work walk =
+    length (left (wordsAt (length owners) from work₀) walk)
 
 -- where p's player and the entries' place are known, where the function begins, and the loop's head of a turn
 abbrev player-of : tie.At-loop Inv-loop μ-loop → tie.After-index Inv-loop μ-loop
@@ -57,9 +57,6 @@ entry-place c =
 
 entries-requires : tie.Need-entries-requires Inv-loop μ-loop
 entries-requires c κs = search needs
-
-add-from : tie.Need-add-from Inv-loop μ-loop
-add-from c = search needs
 
 from-priority-requires : tie.Need-from-priority-requires Inv-loop μ-loop
 from-priority-requires c κs = search needs
@@ -162,7 +159,6 @@ extend-lowest-spec =
     Inv-loop
     μ-loop
     entries-requires
-    add-from
     from-priority-requires
     index-requires
     new-requires

@@ -1,9 +1,6 @@
--- `attract_lost` meets its contract: what the opponent won is the target of the cut.
+-- `attract_lost` meets its contract: what the opponent won is the target of the cut, and the attractor is the opponent's.
 use native.Mathlib.Omega.{arith}
-use mathlib.Core.Logic.{inl}
-use Prim.Native.Nat.{_+_, _*_}
-use Rattle.parity_game.specs.Said.{is}
-use Rattle.zielonka_level.specs.PiecesHold.{won-range, lost-cuttable, lost-made}
+use Rattle.zielonka_level.specs.PiecesHold.{ready-places, behind, lost-made}
 use borrow.Author.Needs.{needs}
 use Rattle.zielonka_cuts.proofs.cuts.attract_lost.Statement.{statement}
 use Rattle.zielonka_cuts.proofs.cuts.attract_lost.Tie as tie
@@ -12,72 +9,58 @@ use Rattle.zielonka_cuts.proofs.cuts.attract_lost.Tie as tie
 abbrev start-of : tie.After-opponent-of → tie.Start
 start-of c = c .before .before .before .before .before
 
-abbrev after-named : tie.After-won-at → tie.After-opponent-of
-after-named c = c .before
+abbrev after-named : tie.After-cut → tie.After-opponent-of
+after-named c = c .before .before
 
-abbrev after-won-at : tie.After-copy-with → tie.After-won-at
-after-won-at c = c .before .before
-
-abbrev after-copy : tie.After-cut → tie.After-copy-with
-after-copy c = c .before .before .before .before
+abbrev after-cut : tie.After-odd-at → tie.After-cut
+after-cut c = c .before .before .before
 
 opponent-of-requires : tie.Need-opponent-of-requires
 opponent-of-requires c κs = search needs
 
-mul-won-at : tie.Need-mul-won-at
-mul-won-at c = search needs
-
-add-won-at : tie.Need-add-won-at
-add-won-at c = search needs
-
-won-at-requires : tie.Need-won-at-requires
-won-at-requires c κs =
-    let g = start-of c in omega (arith, g .pre .ready .high, g .good)
-
-add-copy-with : tie.Need-add-copy-with
-add-copy-with c = search needs
-
-copy-with-requires : tie.Need-copy-with-requires
-copy-with-requires c κs =
-    let placed = c .before in
-    let named = after-named placed in
-    let g = start-of named in
-    let a = g .args in
-    let high = g .pre .ready .high in
-    let range = won-range (a .s) (a .base + 4 * a .s) (is (named .opponent-of .result)) in
-    let there = placed .won-at .ensures in
-    record { into-fits = omega arith; from-fits = omega arith; apart = inl (omega arith) }
-
 cut-requires : tie.Need-cut-requires
-cut-requires c κs =
-    let copied = c .before .before .before in
-    let placed = after-won-at copied in
-    let named = after-named placed in
-    lost-cuttable (start-of named .pre) (named .opponent-of .ensures) (placed .won-at .ensures) (copied .copy-with .ensures)
+cut-requires c κs = start-of (c .before) .pre
+
+odd-at-requires : tie.Need-odd-at-requires
+odd-at-requires c κs = ready-places (start-of (after-named (c .before .before)) .pre .ready)
+
+drawn-at-requires : tie.Need-drawn-at-requires
+drawn-at-requires c κs = ready-places (start-of (after-named (after-cut c)) .pre .ready)
+
+give-requires : tie.Need-give-requires
+give-requires c κs =
+    let placed = c .before in
+    let parted = after-cut (placed .before) in
+    let g = start-of (after-named parted) in
+    let high = g .pre .ready .high in
+    let above = g .pre .ready .called .above in
+    let size = g .pre .ready .size in
+    let odd = placed .before .odd-at .ensures in
+    let there = placed .drawn-at .ensures in
+    behind (omega arith) (omega (arith, parted .cut .kept .1 .1 .1 .1 .1 .0))
 
 same-length : tie.Need-same-length
 same-length c = search needs
 
 returns : tie.Need-returns
-returns c =
-    λ priorities ok.
-    let parted = c .before .before in
-    let copied = after-copy parted in
-    let placed = after-won-at copied in
-    let named = after-named placed in
-    lost-made (start-of named .pre) (named .opponent-of .ensures) (placed .won-at .ensures) (copied .copy-with .ensures) priorities
+returns c priorities ok =
+    let given = c .before .before in
+    let placed = given .before .before in
+    let parted = after-cut (placed .before) in
+    let named = after-named parted in
+    lost-made (start-of named .pre) (named .opponent-of .ensures) (placed .before .odd-at .ensures) (placed .drawn-at .ensures)
+    priorities
     (parted .cut .ensures priorities ok)
+    (given .give .ensures)
 
 pub attract-lost-spec : {M : Type 1} → statement M
 attract-lost-spec =
     tie.close
     (tie.spec
     opponent-of-requires
-    mul-won-at
-    add-won-at
-    won-at-requires
-    add-copy-with
-    copy-with-requires
     cut-requires
+    odd-at-requires
+    drawn-at-requires
+    give-requires
     same-length
     returns)

@@ -1,33 +1,33 @@
--- `lost_nothing` meets its contract: it asks for the words of the opponent's set.
-use native.Mathlib.Omega.{arith}
-use Prim.Native.Nat.{_+_, _*_, _≤_}
+-- `lost_nothing` meets its contract.
+use Rattle.rules.specs.Game.{opponent, parity}
 use Rattle.parity_game.specs.Said.{is}
-use Rattle.zielonka_level.specs.PiecesHold.{won-range, lost-told}
+use Rattle.zielonka_level.specs.PiecesHold.{told-parts, told-made}
 use borrow.Author.Needs.{needs}
 use Rattle.zielonka_level.proofs.level.lost_nothing.Statement.{statement}
 use Rattle.zielonka_level.proofs.level.lost_nothing.Tie as tie
 
-abbrev start-of : tie.After-won-at → tie.Start
-start-of c = c .before .before .before
+odd-at-requires : tie.Need-odd-at-requires
+odd-at-requires c κs = search needs
 
--- the set ends at its level's end or before
-high : (c : tie.After-won-at) → let a = start-of c .args in c .won-at .result + a .s ≤ a .base + 4 * a .s
-high c =
-    let a = start-of c .args in
-    let range = won-range (a .s) (a .base) (is (c .before .opponent-of .result)) in
-    omega (arith, c .won-at .ensures)
+drawn-at-requires : tie.Need-drawn-at-requires
+drawn-at-requires c κs = search needs
 
 opponent-of-requires : tie.Need-opponent-of-requires
 opponent-of-requires c κs = search needs
 
-won-at-requires : tie.Need-won-at-requires
-won-at-requires c κs = let g = c .before .before in omega (arith, g .pre, g .good)
+add-part-won : tie.Need-add-part-won
+add-part-won c = search needs
+
+part-won-requires : tie.Need-part-won-requires
+part-won-requires c κs =
+    let d = c .before .before in
+    told-parts (d .before .before .before .pre) (d .before .odd-at .ensures) (d .drawn-at .ensures)
 
 add-is-empty : tie.Need-add-is-empty
-add-is-empty c = omega (arith, high c, start-of c .good, start-of c .pre)
+add-is-empty c = search needs
 
 mul-is-empty : tie.Need-mul-is-empty
-mul-is-empty c = omega (arith, high c, start-of c .good, start-of c .pre)
+mul-is-empty c = search needs
 
 sub-is-empty : tie.Need-sub-is-empty
 sub-is-empty c = search needs
@@ -36,29 +36,39 @@ part-is-empty-start : tie.Need-part-is-empty-start
 part-is-empty-start c = search needs
 
 part-is-empty-end : tie.Need-part-is-empty-end
-part-is-empty-end c = omega (arith, high c, start-of c .pre)
+part-is-empty-end c = search needs
 
 is-empty-requires : tie.Need-is-empty-requires
 is-empty-requires c κs = search needs
 
+same-length : tie.Need-same-length
+same-length c = search needs
+
 returns : tie.Need-returns
 returns c =
-    let placed = c .before .before in
-    let a = start-of placed .args in
-    lost-told (a .s) (a .base) (a .p .0) (a .work .now) (placed .before .opponent-of .ensures) (placed .won-at .ensures)
-    (omega (arith, high placed, start-of placed .pre))
+    let won = c .before .before .before .before .before in
+    let named = won .before .before in
+    let d = named .before in
+    let g = d .before .before .before in
+    told-made (opponent (parity (g .args .p .0))) (is (named .opponent-of .result)) (g .pre) (d .before .odd-at .ensures)
+    (d .drawn-at .ensures) (named .opponent-of .ensures)
+    (won .part-won .ensures (g .args .n) (g .pre .places .size))
     (c .is-empty .ensures)
 
 pub lost-nothing-spec : {M : Type 1} → statement M
 lost-nothing-spec =
     tie.close
     (tie.spec
+    odd-at-requires
+    drawn-at-requires
     opponent-of-requires
-    won-at-requires
+    add-part-won
+    part-won-requires
     add-is-empty
     mul-is-empty
     sub-is-empty
     part-is-empty-start
     part-is-empty-end
     is-empty-requires
+    same-length
     returns)

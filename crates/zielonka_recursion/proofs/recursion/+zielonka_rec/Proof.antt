@@ -3,19 +3,20 @@
 use mathlib.Core.Path.{_≡_}
 use mathlib.Core.Bool.{true}
 use mathlib.Core.List.{List}
-use Prim.Native.Nat.{ℕ, _+_, _*_, _≤_, _<_}
+use Prim.Native.Nat.{ℕ, _+_, _≤_, _<_}
 use native.Mathlib.Omega.{arith}
 use lib.ListN.{length}
 use Rattle.rules.specs.Tables.{Tables, tablesOf}
 use Rattle.area.specs.Area.{sizeAt}
-use Rattle.zielonka_level.specs.Level.{onLevel, Done}
+use Rattle.zielonka_level.specs.Level.{onLevel}
 use Rattle.zielonka_recursion.specs.Ending.{ends-over, ends-done}
-use Rattle.zielonka_level.specs.Steps.{over-first}
-use Rattle.zielonka_recursion.specs.Calling.{level-fits, highest-given, level-empty, level-some, empty-done}
+use Rattle.zielonka_level.specs.Steps.{done-empty, over-first}
+use Rattle.zielonka_recursion.specs.Calling.{level-fits, highest-given, level-empty, level-some}
 use Rattle.zielonka_recursion.specs.Calling.{member-ready, member-top, ready-sorted}
 use Rattle.zielonka_recursion.specs.Calling.{FirstCut, begun-less, begun-called, begun-came, begun-over}
-use Rattle.zielonka_recursion.specs.Calling.{Came, came-ready, came-sorted, came-all, came-losable, came-lost}
-use Rattle.zielonka_recursion.specs.Calling.{Lost, lost-less, lost-called, lost-over, lost-high, lost-done}
+use Rattle.zielonka_recursion.specs.Calling.{Came, came-levels, came-told}
+use Rattle.zielonka_recursion.specs.Calling.{Collected, told-ready, told-sorted, told-all, told-cuttable, told-lost}
+use Rattle.zielonka_recursion.specs.Calling.{Lost, lost-less, lost-called, lost-over, lost-done}
 use borrow.Author.Needs.{needs}
 use borrow.Fn.Kinds.{In, Out}
 use borrow.Fn.PlainCycle.{Measures, is, falls, and}
@@ -23,13 +24,11 @@ use Rattle.zielonka_recursion.proofs.recursion.zielonka_rec.Reads as ow
 use Rattle.zielonka_recursion.proofs.recursion.zielonka_rec.Kinds as kinds
 use Rattle.zielonka_recursion.proofs.recursion.+zielonka_rec.Lts-zielonka_rec as lts
 use Rattle.parity_game.proofs.set_words.Reads as set-words-reads
-use Rattle.sets.proofs.clear.Reads as clear-reads
 use Rattle.sets.proofs.is_empty.Reads as is-empty-reads
 use Rattle.highest_priority.proofs.get_highest_prio.Reads as get-highest-prio-reads
 use Rattle.zielonka_cuts.proofs.attract_highest.Reads as attract-highest-reads
 use Rattle.highest_priority.proofs.one_less.Reads as one-less-reads
 use Rattle.zielonka_cuts.proofs.attract_lost.Reads as attract-lost-reads
-use Rattle.zielonka_level.proofs.join.Reads as join-reads
 use Rattle.zielonka_level.proofs.lost_nothing.Reads as lost-nothing-reads
 use Rattle.zielonka_level.proofs.win_everything.Reads as win-everything-reads
 use Rattle.zielonka_recursion.proofs.recursion.+zielonka_rec.{statement}
@@ -50,8 +49,6 @@ cs t = (
   set-words-reads.Learnt,
   is-empty-reads.Asked,
   is-empty-reads.Learnt,
-  clear-reads.Asked,
-  clear-reads.Learnt,
   get-highest-prio-reads.Asked,
   get-highest-prio-reads.Learnt,
   attract-highest-reads.Asked,
@@ -66,8 +63,6 @@ cs t = (
   win-everything-reads.Learnt,
   attract-lost-reads.Asked,
   attract-lost-reads.Learnt,
-  join-reads.Asked,
-  join-reads.Learnt,
 )
 
 -- a call with V of size t
@@ -96,17 +91,23 @@ module _ (t : ℕ) where
   abbrev after-first : At lts.Else3 → At lts.After-zielonka-rec
   after-first c = c .before .before .before
 
-  abbrev after-told : At lts.After-attract-lost → At lts.Else3
-  after-told c = c .before .before .before .before .before
+  abbrev before-told : At lts.After-lost-nothing → At lts.Else3
+  before-told c = c .before .before
 
-  abbrev first-cut : At lts.After-attract-lost → At lts.After-attract-highest
-  first-cut c = after-cut (after-first (after-told c))
+  abbrev first-cut : At lts.After-lost-nothing → At lts.After-attract-highest
+  first-cut c = after-cut (after-first (before-told c))
+
+  abbrev told-some : At lts.Else4 → At lts.After-lost-nothing
+  told-some c = c .before .before .before
+
+  abbrev told-none : At lts.Then4 → At lts.After-lost-nothing
+  told-none c = c .before .before .before
+
+  abbrev before-second-cut : At lts.After-attract-lost → At lts.Else4
+  before-second-cut c = c .before .before
 
   abbrev after-second-cut : At lts.After-zielonka-rec2 → At lts.After-attract-lost
   after-second-cut c = c .before .before .before .before
-
-  abbrev after-second : At lts.After-join → At lts.After-zielonka-rec2
-  after-second c = c .before .before .before .before .before
 
   -- the tables
   abbrev tables : At lts.Start → Tables
@@ -126,7 +127,7 @@ module _ (t : ℕ) where
   abbrev made : At lts.Else3 → ℕ
   made c = after-first c .zielonka-rec .result
 
-  -- the work area as it was lent, and after the first cut, the first nested call, the second cut and the second nested call
+  -- the work area as it was lent, and after the first cut, the first nested call, the question what was lost, and the second cut
   abbrev work₀ : At lts.After-attract-highest → List ℕ
   work₀ c = start c .args .work .now
 
@@ -136,14 +137,14 @@ module _ (t : ℕ) where
   abbrev work₂ : At lts.After-zielonka-rec → List ℕ
   work₂ c = c .zielonka-rec .last .1 .1 .1 .1 .0
 
-  abbrev work₃ : At lts.After-attract-lost → List ℕ
-  work₃ c = c .attract-lost .last .1 .1 .1 .1 .1 .0
+  abbrev work₃ : At lts.After-lost-nothing → List ℕ
+  work₃ c = c .lost-nothing .last .1 .1 .1 .1 .0
 
-  abbrev work₄ : At lts.After-zielonka-rec2 → List ℕ
-  work₄ c = c .zielonka-rec2 .last .1 .1 .1 .1 .0
+  abbrev work₄ : At lts.After-attract-lost → List ℕ
+  work₄ c = c .attract-lost .last .1 .1 .1 .1 .1 .0
 
   -- there is room for the level
-  fits : (c : At lts.After-set-words) → let a = start-of c .args in a .base + 4 * c .set-words .result ≤ length (a .work .now)
+  fits : (c : At lts.After-set-words) → let a = start-of c .args in a .base + c .set-words .result ≤ length (a .work .now)
   fits c = level-fits (start-of c .pre .1 .called) (c .set-words .ensures)
 
   -- V has a member
@@ -183,28 +184,31 @@ module _ (t : ℕ) where
       let first = after-first c in
       begun-came (begun (after-cut first)) (first .zielonka-rec .ensures .done (omega (arith, c .if3 .left)))
 
+  -- what the opponent won was asked for
+  told :
+      (c : At lts.After-lost-nothing) →
+      let e = before-told c in
+      let d = first-cut c in
+      let a = start d .args in
+      Collected (tables (start d)) (wide d) (a .base) (top d) (a .calls) (a .cap) (made e)
+      (work₀ d) (work₁ d) (work₂ (after-first e)) (work₃ c)
+  told c = came-told (came (before-told c)) (c .lost-nothing .ensures)
+
   -- the second cut is made
   lost :
       (c : At lts.After-attract-lost) →
-      let told = after-told c in
-      let d = first-cut c in
+      let asked = told-some (before-second-cut c) in
+      let e = before-told asked in
+      let d = first-cut asked in
       let a = start d .args in
-      Lost (tables (start d)) (wide d) (a .base) (top d) (a .calls) (a .cap) (made told)
-      (work₀ d) (work₁ d) (work₂ (after-first told)) (work₃ c)
+      Lost (tables (start d)) (wide d) (a .base) (top d) (a .calls) (a .cap) (made e)
+      (work₀ d) (work₁ d) (work₂ (after-first e)) (work₃ asked) (work₄ c)
   lost c =
-      let g = start (first-cut c) in
-      came-lost (came (after-told c)) (c .before .before .before .lost-nothing .ensures) (c .before .before .if4 .left)
+      let some = before-second-cut c in
+      let asked = told-some some in
+      let g = start (first-cut asked) in
+      told-lost (told asked) (asked .lost-nothing .ensures .none) (some .if4 .left)
       (c .attract-lost .ensures (g .args .priorities .now) (g .pre .1 .called .accepted))
-
-  -- the second nested call has ended within the budget
-  second :
-      (c : At lts.Else5) →
-      let e = c .before .before .before in
-      let l = after-second-cut e in
-      let d = first-cut l in
-      let a = start d .args in
-      Done (tables (start d)) (a .base + 4 * wide d) (made (after-told l)) (a .cap) (e .zielonka-rec2 .result) (work₃ l) (work₄ e)
-  second c = c .before .before .before .zielonka-rec2 .ensures .done (omega (arith, c .if5 .left))
 
   returns : At lts.Need-returns
   returns c =
@@ -233,18 +237,6 @@ module _ (t : ℕ) where
   is-empty-requires : At lts.Need-is-empty-requires
   is-empty-requires c κs = search needs
 
-  mul-clear : At lts.Need-mul-clear
-  mul-clear c = search needs
-
-  add-clear : At lts.Need-add-clear
-  add-clear c = search needs
-
-  mul-clear-2 : At lts.Need-mul-clear-2
-  mul-clear-2 c = search needs
-
-  clear-requires : At lts.Need-clear-requires
-  clear-requires c κs = omega (arith, fits (after-words (c .before .before)))
-
   add-result : At lts.Need-add-result
   add-result c = search needs
 
@@ -253,14 +245,12 @@ module _ (t : ℕ) where
 
   returns-2 : At lts.Need-returns-2
   returns-2 c =
-      let tested = c .before .before .before .before .before in
+      let tested = c .before in
       let sized = after-words tested in
       let called = start-of sized .pre .1 .called in
-      let s = sized .set-words .ensures in
       ends-done (omega arith)
-      (empty-done called s (level-empty called s (tested .is-empty .ensures) (c .before .before .before .before .if2 .taken))
-      (omega (arith, sized .before .if1 .left))
-      (c .before .before .clear .ensures))
+      (done-empty called (level-empty called (sized .set-words .ensures) (tested .is-empty .ensures) (c .if2 .taken))
+      (omega (arith, sized .before .if1 .left)))
 
   get-highest-prio-requires : At lts.Need-get-highest-prio-requires
   get-highest-prio-requires c κs =
@@ -275,9 +265,6 @@ module _ (t : ℕ) where
       let called = start-of sized .pre .1 .called in
       ready-sorted called (member-top called (sized .set-words .ensures) v q (c .before .get-highest-prio .ensures))
       (member-ready called (sized .set-words .ensures) v q)
-
-  mul-up : At lts.Need-mul-up
-  mul-up c = search needs
 
   add-up : At lts.Need-add-up
   add-up c = search needs
@@ -304,64 +291,54 @@ module _ (t : ℕ) where
       ends-over (begun-over (begun (after-cut first)) (a .calls) (a .cap) (first .zielonka-rec .ensures .over (c .if3 .taken)))
 
   lost-nothing-requires : At lts.Need-lost-nothing-requires
-  lost-nothing-requires c κs = omega (arith, came-ready (came (c .before)) .high)
+  lost-nothing-requires c κs = came-levels (came (c .before))
 
   win-everything-requires : At lts.Need-win-everything-requires
-  win-everything-requires c κs = came-sorted (came (c .before .before .before .before))
+  win-everything-requires c κs = told-sorted (told (told-none (c .before)))
 
   same-length-3 : At lts.Need-same-length-3
   same-length-3 c = search needs
 
   returns-4 : At lts.Need-returns-4
   returns-4 c =
-      let asked = c .before .before .before .before .before in
-      let told = asked .before .before in
-      ends-done (omega (arith, told .if3 .left))
-      (came-all (came told) (asked .lost-nothing .ensures) (c .before .before .before .before .if4 .taken)
-      (c .before .before .win-everything .ensures (start (after-cut (after-first told)) .args .priorities .now)
-      (came-ready (came told))))
+      let won = c .before .before in
+      let none = won .before .before in
+      let asked = told-none none in
+      ends-done (omega (arith, before-told asked .if3 .left))
+      (told-all (told asked) (asked .lost-nothing .ensures .none) (none .if4 .taken)
+      (won .win-everything .ensures (start (first-cut asked) .args .priorities .now) (told-ready (told asked))))
 
   attract-lost-requires : At lts.Need-attract-lost-requires
-  attract-lost-requires c κs = came-losable (came (c .before .before .before .before))
+  attract-lost-requires c κs = told-cuttable (told (told-some (c .before)))
 
   zielonka-rec-requires-2 : At lts.Need-zielonka-rec-requires-2
   zielonka-rec-requires-2 c κs =
       let d = c .before .before .before in
-      (omega (arith, lost-less (lost d), start (first-cut d) .pre .0), lost-called (lost d))
+      (omega (arith, lost-less (lost d), start (first-cut (told-some (before-second-cut d))) .pre .0), lost-called (lost d))
 
   same-length-4 : At lts.Need-same-length-4
-  same-length-4 c = search needs
-
-  returns-5 : At lts.Need-returns-5
-  returns-5 c =
-      let e = c .before .before .before in
-      ends-over (lost-over (lost (after-second-cut e)) (e .zielonka-rec2 .ensures .over (c .if5 .taken)))
-
-  join-requires : At lts.Need-join-requires
-  join-requires c κs =
-      let d = c .before in lost-high (lost (after-second-cut (d .before .before .before))) (second d)
-
-  same-length-5 : At lts.Need-same-length-5
-  same-length-5 c =
-      let joined = c .before .before in
-      let e = after-second joined in
+  same-length-4 c =
+      let e = c .before .before in
       let cut₂ = after-second-cut e in
-      let first = after-first (after-told cut₂) in
+      let asked = told-some (before-second-cut cut₂) in
+      let first = after-first (before-told asked) in
       omega (
         arith,
-        joined .join .kept .1 .1 .0,
         e .zielonka-rec2 .kept .1 .1 .1 .1 .0,
         cut₂ .attract-lost .kept .1 .1 .1 .1 .1 .0,
+        asked .lost-nothing .kept .1 .1 .1 .1 .0,
         first .zielonka-rec .kept .1 .1 .1 .1 .0,
         after-cut first .attract-highest .kept .1 .1 .1 .1 .1 .0,
       )
 
-  returns-6 : At lts.Need-returns-6
-  returns-6 c =
-      let joined = c .before .before in
-      let d = joined .before .before in
-      ends-done (omega (arith, d .if5 .left))
-      (lost-done (lost (after-second-cut (after-second joined))) (second d) (joined .join .ensures))
+  returns-5 : At lts.Need-returns-5
+  returns-5 c =
+      let e = c .before .before in
+      let l = lost (after-second-cut e) in
+      record {
+        over = λ none. lost-over l (e .zielonka-rec2 .ensures .over none);
+        done = λ some. lost-done l (e .zielonka-rec2 .ensures .done some);
+      }
 
 pub +zielonka-rec-spec : {M : Type 1} → statement M
 +zielonka-rec-spec = close μ λ t. lts.spec
@@ -376,16 +353,11 @@ pub +zielonka-rec-spec : {M : Type 1} → statement M
     (part-is-empty-start t)
     (part-is-empty-end t)
     (is-empty-requires t)
-    (mul-clear t)
-    (add-clear t)
-    (mul-clear-2 t)
-    (clear-requires t)
     (add-result t)
     (same-length t)
     (returns-2 t)
     (get-highest-prio-requires t)
     (attract-highest-requires t)
-    (mul-up t)
     (add-up t)
     (one-less-requires t)
     (add-zielonka-rec t)
@@ -400,6 +372,3 @@ pub +zielonka-rec-spec : {M : Type 1} → statement M
     (zielonka-rec-requires-2 t)
     (same-length-4 t)
     (returns-5 t)
-    (join-requires t)
-    (same-length-5 t)
-    (returns-6 t)

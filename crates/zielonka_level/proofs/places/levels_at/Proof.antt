@@ -1,0 +1,18 @@
+-- `levels_at` meets its contract.
+use native.Mathlib.Omega.{arith}
+use Rattle.priority_sets.specs.Sorting.{placed-few}
+use borrow.Author.Needs.{needs}
+use Rattle.zielonka_level.proofs.places.levels_at.Statement.{statement}
+use Rattle.zielonka_level.proofs.places.levels_at.Tie as tie
+
+drawn-at-requires : tie.Need-drawn-at-requires
+drawn-at-requires c κs = c .pre
+
+add-result : tie.Need-add-result
+add-result c = let few = placed-few (c .before .pre) in omega (arith, c .drawn-at .ensures, c .before .pre .size)
+
+returns : tie.Need-returns
+returns c = omega (arith, c .drawn-at .ensures, c .before .pre .size)
+
+pub levels-at-spec : {M : Type 1} → statement M
+levels-at-spec = tie.close (tie.spec drawn-at-requires add-result returns)

@@ -1,0 +1,18 @@
+-- `odd_at` meets its contract.
+use native.Mathlib.Omega.{arith}
+use Rattle.priority_sets.specs.Sorting.{placed-few}
+use borrow.Author.Needs.{needs}
+use Rattle.zielonka_level.proofs.places.odd_at.Statement.{statement}
+use Rattle.zielonka_level.proofs.places.odd_at.Tie as tie
+
+behind-sets-requires : tie.Need-behind-sets-requires
+behind-sets-requires c κs = c .pre
+
+add-result : tie.Need-add-result
+add-result c = let few = placed-few (c .before .pre) in omega (arith, c .behind-sets .ensures, c .before .pre .size)
+
+returns : tie.Need-returns
+returns c = omega (arith, c .behind-sets .ensures, c .before .pre .size)
+
+pub odd-at-spec : {M : Type 1} → statement M
+odd-at-spec = tie.close (tie.spec behind-sets-requires add-result returns)
