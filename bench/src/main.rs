@@ -1,5 +1,5 @@
 //! bench [SVG]: prints every table and writes the plot. bench TABLE: prints that table alone, one of solvers, many, opinion,
-//! alone and growth; behind growth may stand where the plot goes.
+//! alone and growth; behind solvers may stand a word that the names of its families have, behind growth where the plot goes.
 
 mod alone;
 mod families;
@@ -28,13 +28,13 @@ fn bench() {
     }
     let arguments: Vec<String> = std::env::args().skip(1).collect();
     match arguments.first().map(String::as_str) {
-        Some("solvers") => solvers::print(),
+        Some("solvers") => solvers::print(arguments.get(1)),
         Some("many") => many::print(),
         Some("opinion") => opinion::print(),
         Some("alone") => alone::print(),
         Some("growth") => growth::print(arguments.get(1)),
         _ => {
-            solvers::print();
+            solvers::print(None);
             many::print();
             opinion::print();
             alone::print();

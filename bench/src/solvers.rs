@@ -15,9 +15,10 @@ struct Measured<'a> {
     row: Option<Row>,
 }
 
-/// Two Markdown tables, one row a game and solver in each.
-pub fn print() {
-    let games = families::timed();
+/// Two Markdown tables, one row a game and solver in each; of all families, or of those whose name has the word `only`.
+pub fn print(only: Option<&String>) {
+    let mut games = families::timed();
+    games.retain(|(name, _)| only.map_or(true, |word| name.contains(word.as_str())));
     let pairs = games.iter().flat_map(|(name, game)| SOLVERS.map(|solver| (*name, game, solver)));
     let rows: Vec<Measured> = pairs
         .map(|(name, game, solver)| Measured { name, game, solver, row: measure(std::slice::from_ref(game), solver) })
