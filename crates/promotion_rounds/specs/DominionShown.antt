@@ -1,40 +1,30 @@
 -- R is closed and a dominion: what the work area shows once it is solved and the first level has begun again.
 use mathlib.Core.Bool.{Bool, true, false, _&&_, _||_, not, cond, and-false}
 use mathlib.Core.List.{List}
-use mathlib.Core.Logic.{_⊎_, inl, inr, ⊎-elim}
+use mathlib.Core.Logic.{_⊎_, inl}
 use mathlib.Core.Path.{_≡_, refl, sym, ap, ap₂, subst, _∙_}
-use Prim.Native.Nat.{ℕ, zero, suc, _+_, _*_, _%_, _≤_, _<_}
+use Prim.Native.Nat.{ℕ, suc, _+_, _%_, _≤_, _<_}
 use native.Mathlib.Nat.{le-refl, le-antisymm}
 use native.Mathlib.Omega.{arith}
-use borrow.Author.Tests.{eqb-true, eq-eqb, lt-ltb, le-ltb, ltb-true, not-true}
-use lib.Dec.{eqb, ltb}
+use borrow.Author.Tests.{eq-eqb, lt-ltb, le-ltb, not-true}
+use lib.Dec.{ltb}
 use lib.ListN.{length, getD}
-use Rattle.rules.specs.Counting.{Set, count, some, lowest}
-use Rattle.rules.specs.Game.{Player, Even, Odd, Game, Total, parity, same}
-use Rattle.rules.specs.Tables.{Tables, gameOf, words, Accepted, tablesOf}
+use Rattle.rules.specs.Counting.{Set, count}
+use Rattle.rules.specs.Game.{Player, Even, Odd, Game, parity, same}
+use Rattle.rules.specs.Tables.{Tables, gameOf, tablesOf}
 use Rattle.rules.specs.Words.{noEntry}
 use Rattle.rules.specs.Attractor.{Closed}
-use Rattle.rules.specs.Promotion.{Regions, regionSet, isOpen, roundOf, afterRounds}
-use Rattle.basics.specs.Basics.{bool-cases, clash, not-true-is-false, and-intro, and-left, and-right, lt-or-ge, some-intro, some-elim}
-use Rattle.basics.specs.Basics.{false-some, someOf-intro, someOf-elim, lowest-none, lowest-unique, count-cong}
-use Rattle.theory.specs.Players.{same-false, false-same}
-use Rattle.theory.specs.PromotionEntries.{mover, RoundEntries, promotes, AttractedEntries, ClosesEntries}
-use Rattle.theory.specs.PromotionRounds.{attractedRegion}
-use Rattle.theory.specs.PromotionTable.{openAt, leadsUp, nextAbove, open-read, some-way-read, table-promotes, promoted-entries-read}
+use Rattle.rules.specs.Promotion.{Regions, roundOf, afterRounds}
+use Rattle.basics.specs.Basics.{clash, not-true-is-false, and-left, and-right}
+use Rattle.theory.specs.PromotionEntries.{mover, RoundEntries}
+use Rattle.theory.specs.PromotionTable.{nextAbove, some-way-read}
 use Rattle.area.specs.Area.{setAt}
-use Rattle.area.specs.SetsAt.{set-kept}
-use Rattle.promotion_levels.specs.Nesting.{inside-all, falls-all, here-is}
-use Rattle.promotion_levels.specs.Layout.{heldAt, wonAt, depthAt, levelsAt, levelAt, endAt, depthIn, topIn, levelIn, heldIn, regionIn, entryIn, Ready}
-use Rattle.promotion_levels.specs.Pulled.{owner-number, number-owner}
+use Rattle.promotion_levels.specs.Layout.{heldAt, wonAt, depthAt, levelsAt, levelAt, depthIn, levelIn, heldIn, regionIn, entryIn, Ready}
 use Rattle.promotion_escape.specs.Highest.{HighestLevel}
-use Rattle.promotion_escape.specs.ByRegions.{LowestAbove, ReachesAbove, regionBefore, highest-lowest}
-use Rattle.promotion_moves.specs.Promotion.{PromotedTo, region-promoted, entry-promoted, ready-promoted, won-promoted, top-promoted, left-promoted}
-use Rattle.promotion_rounds.specs.Shown as shown
+use Rattle.promotion_escape.specs.ByRegions.{regionBefore}
 use Rattle.promotion_rounds.specs.Shown.{Shows}
-use Rattle.promotion_rounds.specs.Above.{next-above}
 use Rattle.rules.specs.Counting.{greatest}
 use Rattle.rules.specs.Promotion.{unsolved, highestRegion}
-use Rattle.theory.specs.AttractorRank.{Ranked}
 use Rattle.basics.specs.Greatest.{greatest-bounds, greatest-le, greatest-cong}
 use Rattle.theory.specs.PromotionBasics.{atRegion, at-is}
 use Rattle.theory.specs.PromotionEntries.{solves}
@@ -52,45 +42,11 @@ use Rattle.promotion_levels.specs.Afresh.{afresh-ready, afresh-regions, afresh-
 use Rattle.promotion_moves.specs.Dominion.{DominionReady, Dominated}
 use Rattle.attractor.specs.Attracted.{Listed, listed-kept}
 use Rattle.promotion_levels.specs.Places.{sets-kept}
-use Rattle.promotion_rounds.specs.Promoted as promoted
+use Rattle.promotion_rounds.specs.ClosedRound.{ClosedRound, total, small, held-is, held-first, not-open, found-above}
+use Rattle.promotion_rounds.specs.WonKept.{won-sets-kept}
 
-module _ {owners priorities offsets targets : List ℕ} (ok : Accepted (tablesOf owners priorities offsets targets)) {s : ℕ}
-    (made : ℕ) {current left : ℕ} {w0 : List ℕ}
-    (shows :
-    Shows owners priorities offsets targets s (afterRounds (gameOf (tablesOf owners priorities offsets targets)) made) current left
-    w0)
-    {w2 : List ℕ}
-    (ready : Ready (length owners) priorities offsets targets s w2)
-    (agrees :
-    (v : ℕ) → v < gameOf (tablesOf owners priorities offsets targets) .size →
-    regionIn (length owners) (length targets) s priorities w2 v ≡
-    attractedRegion (gameOf (tablesOf owners priorities offsets targets))
-    (afterRounds (gameOf (tablesOf owners priorities offsets targets)) made) v)
-    (top :
-    topIn (length owners) (length targets) s w2 (depthIn (length owners) (length targets) s w2) ≡
-    afterRounds (gameOf (tablesOf owners priorities offsets targets)) made .current)
-    (won-kept :
-    (i : ℕ) → wonAt (length owners) (length targets) s Even ≤ i → i < depthAt (length owners) (length targets) s →
-    getD w2 i 0 ≡ getD w0 i 0)
-    (left-kept :
-    (v : ℕ) → levelIn (length owners) (length targets) s w2 0 v ≡ levelIn (length owners) (length targets) s w0 0 v)
-    (closed :
-    isOpen (gameOf (tablesOf owners priorities offsets targets))
-    (afterRounds (gameOf (tablesOf owners priorities offsets targets)) made)
-    (regionSet (gameOf (tablesOf owners priorities offsets targets))
-    (afterRounds (gameOf (tablesOf owners priorities offsets targets)) made)) ≡
-    false)
-    {σ : ℕ → ℕ}
-    (drawn :
-    AttractedEntries (gameOf (tablesOf owners priorities offsets targets))
-    (afterRounds (gameOf (tablesOf owners priorities offsets targets)) made)
-    (entryIn (length owners) (length targets) s w0) σ)
-    (filled :
-    ClosesEntries (gameOf (tablesOf owners priorities offsets targets))
-    (mover (afterRounds (gameOf (tablesOf owners priorities offsets targets)) made))
-    (regionSet (gameOf (tablesOf owners priorities offsets targets))
-    (afterRounds (gameOf (tablesOf owners priorities offsets targets)) made)) σ
-    (entryIn (length owners) (length targets) s w2))
+module _ {owners priorities offsets targets : List ℕ} {s made current left : ℕ} {w0 w2 : List ℕ} {σ : ℕ → ℕ}
+    (round : ClosedRound owners priorities offsets targets s made current left w0 w2 σ)
   where
     abbrev n : ℕ
     n = length owners
@@ -116,18 +72,6 @@ module _ {owners priorities offsets targets : List ℕ} (ok : Accepted (tablesOf
     abbrev T : ℕ → ℕ
     T = regionIn n m s priorities w2
 
-    total : Total g
-    total = shown.total ok made shows
-
-    small : p < 256
-    small = shown.small ok made shows
-
-    held-is : (v : ℕ) → heldIn n m s w2 v ≡ eqb (T v) p
-    held-is = promoted.held-is ok made shows ready agrees top won-kept left-kept closed drawn filled
-
-    held-small : (v : ℕ) → heldIn n m s w2 v ≡ true → v < n
-    held-small = promoted.held-small ok made shows ready agrees top won-kept left-kept closed drawn filled
-
     abbrev L : ℕ → Set
     L = levelIn n m s w2
 
@@ -138,14 +82,10 @@ module _ {owners priorities offsets targets : List ℕ} (ok : Accepted (tablesOf
     first-in : (w : List ℕ) (v : ℕ) → levelIn n m s w 0 v ≡ setAt n (levelsAt n m s) w v
     first-in w v = ap (λ (x : ℕ). setAt n x w v) place0
 
-    held-first : (v : ℕ) → heldIn n m s w2 v ≡ true → L 0 v ≡ true
-    held-first v i =
-        inside-all (ready .nests) 0 k v (omega arith) (omega arith) (and-left (L k v) _ (sym (ready .held v) ∙ i))
-
     high0 : levelsAt n m s + s ≤ length w2
     high0 =
-        let high = level-high n m s 0 (omega (arith, ready .depth)) in
-        omega (arith, ready .room, place0)
+        let high = level-high n m s 0 (omega (arith, round .ready .depth)) in
+        omega (arith, round .ready .room, place0)
 
     -- what `solve_dominion` asks for
     pub dominion-ready :
@@ -161,14 +101,14 @@ module _ {owners priorities offsets targets : List ℕ} (ok : Accepted (tablesOf
     dominion-ready shut =
         record {
           priorities = priorities;
-          accepted = ok;
-          size = ready .size;
-          edges = ready .edges;
-          listed = ready .listed;
+          accepted = round .accepted;
+          size = round .ready .size;
+          edges = round .ready .edges;
+          listed = round .ready .listed;
           nested =
               record {
-                below = λ v i. ready .nests .below v (first-in w2 v ∙ i);
-                part = λ v i. sym (first-in w2 v) ∙ held-first v i;
+                below = λ v i. round .ready .nests .below v (first-in w2 v ∙ i);
+                part = λ v i. sym (first-in w2 v) ∙ held-first round v i;
               };
           shut =
               λ none.
@@ -193,7 +133,7 @@ module _ {owners priorities offsets targets : List ℕ} (ok : Accepted (tablesOf
         same3 = c3 .rest
 
         each : length priorities ≡ length owners
-        each = accepted-sound t ok .priority-each
+        each = accepted-sound t (round .accepted) .priority-each
 
         -- what `descend` asks for
         pub descend-first :
@@ -203,40 +143,40 @@ module _ {owners priorities offsets targets : List ℕ} (ok : Accepted (tablesOf
         unfolding gameOf
         descend-first held-place levels-place =
             record {
-              size = rw each (ready .size);
-              few = rw each (ready .edges .few-vertices);
-              few-edges = ready .edges .few-edges;
+              size = rw each (round .ready .size);
+              few = rw each (round .ready .edges .few-vertices);
+              few-edges = round .ready .edges .few-edges;
               held-is = rw each held-place;
               levels-is = rw each levels-place;
-              room = rw each (omega (arith, ready .room, c3 .long));
-              depth = rw each (omega (arith, ready .depth));
+              room = rw each (omega (arith, round .ready .room, c3 .long));
+              depth = rw each (omega (arith, round .ready .depth));
               sorted =
                   rw each
                   (sets-kept n (free n m) priorities w2 w3
-                  (λ i low high. same3 i low (inl (omega (arith, ready .size))) (inl (omega (arith, ready .size))))
-                  (ready .sorted));
-              below = λ v i. rw each (ready .nests .below v (and-left (L 0 v) _ (sym (left3 v) ∙ (rw each at i))));
+                  (λ i low high. same3 i low (inl (omega (arith, round .ready .size))) (inl (omega (arith, round .ready .size))))
+                  (round .ready .sorted));
+              below = λ v i. rw each (round .ready .nests .below v (and-left (L 0 v) _ (sym (left3 v) ∙ (rw each at i))));
               under = λ v i. few v;
               small = omega arith;
             }
           where
             few : (v : ℕ) → getD priorities v 0 ≤ 255
-            few v = accepted-priority t ok v
+            few v = accepted-priority t (round .accepted) v
 
         above-none : 256 ≤ nextAbove g T p
         unfolding regionBefore
         above-none =
-            rw (← promoted.found-above ok made shows ready agrees top won-kept left-kept closed drawn filled 0 h) (le-refl 256)
+            rw (← found-above round 0 h) (le-refl 256)
 
         pulled3 :
             Pulled g (parity p) (unsolved g T) (atRegion (unsolved g T) T p) D (λ v. getD w2 (entries n m + v) 0)
             (λ v. getD w3 (entries n m + v) 0)
         pulled3 =
             pulled-as
-            (λ v. sym (first-in w2 v) ∙ sym (left-is owners priorities offsets targets (ready .nests) v))
+            (λ v. sym (first-in w2 v) ∙ sym (left-is owners priorities offsets targets (round .ready .nests) v))
             (λ v.
-            ready .held v ∙ sym (at-region-is owners priorities offsets targets (ready .nests) v) ∙
-            ap (λ (x : ℕ). atRegion (unsolved g T) T x v) top)
+            round .ready .held v ∙ sym (at-region-is owners priorities offsets targets (round .ready .nests) v) ∙
+            ap (λ (x : ℕ). atRegion (unsolved g T) T x v) (round .top))
             (λ v. refl) (c3 .pulled)
 
         module _ {p' : ℕ} {w4 : List ℕ} (c4 : Descended priorities (length targets) s 0 p' w3 w4) where
@@ -245,10 +185,10 @@ module _ {owners priorities offsets targets : List ℕ} (ok : Accepted (tablesOf
           given4 = descend-first (rw each refl) (rw each refl)
 
           listed3 : Listed (length priorities) offsets targets w3
-          listed3 = rw each (listed-kept n offsets targets w2 w3 (c3 .long) (c3 .table) (ready .listed))
+          listed3 = rw each (listed-kept n offsets targets w2 w3 (c3 .long) (c3 .table) (round .ready .listed))
 
           edges3 : SoundEdges (length priorities) offsets targets
-          edges3 = rw each (ready .edges)
+          edges3 = rw each (round .ready .edges)
 
           ready4 : Ready n priorities offsets targets s w4
           ready4 = rw (← each) (afresh-ready priorities offsets targets given4 edges3 listed3 c4)
@@ -262,13 +202,13 @@ module _ {owners priorities offsets targets : List ℕ} (ok : Accepted (tablesOf
 
           -- the unsolved are level 0
           first-is : (v : ℕ) → ltb (T v) 256 ≡ L 0 v
-          first-is v = unsolved-is (ready .nests) v
+          first-is v = unsolved-is (round .ready .nests) v
 
           gone : (v : ℕ) → D v ≡ true → levelIn n m s w3 0 v ≡ false
           gone v d = left3 v ∙ rw d (and-false (L 0 v))
 
           D-small : (v : ℕ) → D v ≡ true → v < n
-          D-small v d = ready .nests .below v (sym (left-is owners priorities offsets targets (ready .nests) v) ∙ pulled3 .certificate .inside v d)
+          D-small v d = round .ready .nests .below v (sym (left-is owners priorities offsets targets (round .ready .nests) v) ∙ pulled3 .certificate .inside v d)
 
           -- an entry before, where v is not in the last level
           entry2 : (v : ℕ) → L (suc k) v ≡ false → entryIn n m s w2 v ≡ getD w2 (entries n m + v) 0
@@ -281,19 +221,9 @@ module _ {owners priorities offsets targets : List ℕ} (ok : Accepted (tablesOf
               region4 v ∙ ap (λ (b : Bool). cond b (getD priorities v 0) 256) (left3 v ∙ ap (λ (b : Bool). b && not (D v)) (sym (first-is v)))
 
           won4 : (b : Player) (v : ℕ) → setAt n (wonAt n m s b) w4 v ≡ setAt n (wonAt n m s b) w3 v
-          won4 b =
-              set-kept n (wonAt n m s b) w3 w4 (λ i low high. word i (first b low) (second b high))
-            where
-              word : (i : ℕ) → wonAt n m s Even ≤ i → i < depthAt n m s → getD w4 i 0 ≡ getD w3 i 0
-              word i = rw (← each) (won-words priorities offsets targets (given4 .size) (given4 .room) c4 i)
-
-              first : (b : Player) → {i : ℕ} → wonAt n m s b ≤ i → wonAt n m s Even ≤ i
-              first Even l = l
-              first Odd l = omega arith
-
-              second : (b : Player) → {i : ℕ} → i < wonAt n m s b + words n → i < depthAt n m s
-              second Even l = omega (arith, ready .size)
-              second Odd l = omega (arith, ready .size)
+          won4 =
+              won-sets-kept n m (round .ready .size) w3 w4
+              (λ i. rw (← each) (won-words priorities offsets targets (given4 .size) (given4 .room) c4 i))
 
           -- the highest priority left is the highest region
           next-is : p' ≡ highestRegion g (λ v. regionIn n m s priorities w4 v)
@@ -338,8 +268,8 @@ module _ {owners priorities offsets targets : List ℕ} (ok : Accepted (tablesOf
           unfolding gameOf
           shows-solved {many} counted =
               let (region, now, won) =
-              table-solves g total r small T agrees (pulled3 .certificate)
-              (sym (open-read g total r small T agrees) ∙ closed) above-none in
+              table-solves g (total round) r (small round) T (round .agrees) (pulled3 .certificate)
+              (not-open round) above-none in
               let same-region : (v : ℕ) → v < n → regionIn n m s priorities w4 v ≡ roundOf g r .region v =
               λ v l. region-now v l ∙ sym (region v l) in (
                 record {
@@ -355,19 +285,19 @@ module _ {owners priorities offsets targets : List ℕ} (ok : Accepted (tablesOf
                   won =
                       λ b v l.
                       won4 b v ∙ c3-won b v ∙
-                      ap (λ (x : Bool). cond (same (parity p) b) (x || D v) x) (won2 b v ∙ shows .won b v l) ∙
+                      ap (λ (x : Bool). cond (same (parity p) b) (x || D v) x) (won2 b v ∙ round .shows .won b v l) ∙
                       sym (won b v l);
                   bare =
                       λ b v l.
                       won4 b v ∙ c3-won b v ∙
-                      ap₂ (λ (x y : Bool). cond (same (parity p) b) (x || y) x) (won2 b v ∙ shows .bare b v l) (D-bare v l) ∙
+                      ap₂ (λ (x y : Bool). cond (same (parity p) b) (x || y) x) (won2 b v ∙ round .shows .bare b v l) (D-bare v l) ∙
                       either (same (parity p) b);
                   left = counted;
                 },
-                solves closed
-                    (some-way-read g total r small T agrees closed ∙ le-ltb (nextAbove g T p) 256 above-none)
-                    drawn filled
-                    (solved-entries-read g total r small T agrees (pulled3 .certificate) (λ v d out o. pulled3 .near v)
+                solves (round .closed)
+                    (some-way-read g (total round) r (small round) T (round .agrees) (round .closed) ∙ le-ltb (nextAbove g T p) 256 above-none)
+                    (round .drawn) (round .filled)
+                    (solved-entries-read g (total round) r (small round) T (round .agrees) (pulled3 .certificate) (λ v d out o. pulled3 .near v)
                     (λ v d out o.
                     entry4 v (D-small v d) ∙ rw (gone v d)
                     (pulled3 .entered v d (not-true-is-false (atRegion (unsolved g T) T p v) (λ i. out (at-is (unsolved g T) T p v i))) o))
@@ -383,16 +313,7 @@ module _ {owners priorities offsets targets : List ℕ} (ok : Accepted (tablesOf
               c3-won Odd v = c3 .won Odd v
 
               won2 : (b : Player) (v : ℕ) → setAt n (wonAt n m s b) w2 v ≡ setAt n (wonAt n m s b) w0 v
-              won2 b =
-                  set-kept n (wonAt n m s b) w0 w2 (λ i low high. won-kept i (first b low) (second b high))
-                where
-                  first : (b : Player) → {i : ℕ} → wonAt n m s b ≤ i → wonAt n m s Even ≤ i
-                  first Even l = l
-                  first Odd l = omega arith
-
-                  second : (b : Player) → {i : ℕ} → i < wonAt n m s b + words n → i < depthAt n m s
-                  second Even l = omega (arith, ready .size)
-                  second Odd l = omega (arith, ready .size)
+              won2 = won-sets-kept n m (round .ready .size) w0 w2 (round .won-kept)
 
               D-bare : (v : ℕ) → n ≤ v → D v ≡ false
               D-bare v l = not-true-is-false (D v) (λ d. let b = D-small v d in omega arith)
@@ -404,9 +325,9 @@ module _ {owners priorities offsets targets : List ℕ} (ok : Accepted (tablesOf
               -- R keeps its entries
               kept-here : (v : ℕ) → v < n → T v ≡ p → entryIn n m s w4 v ≡ entryIn n m s w2 v
               kept-here v l e =
-                  let i : heldIn n m s w2 v ≡ true = held-is v ∙ eq-eqb (T v) p e in
+                  let i : heldIn n m s w2 v ≡ true = held-is round v ∙ eq-eqb (T v) p e in
                   let d = c3 .pulled .certificate .closed .target v i in
-                  let out = not-true (L (suc k) v) (and-right (L k v) _ (sym (ready .held v) ∙ i)) in
+                  let out = not-true (L (suc k) v) (and-right (L k v) _ (sym (round .ready .held v) ∙ i)) in
                   entry4 v l ∙ rw (gone v d)
                   (c3 .pulled .kept v l (λ x no. absurd (clash i no)) ∙ sym (entry2 v out))
 
@@ -418,5 +339,5 @@ module _ {owners priorities offsets targets : List ℕ} (ok : Accepted (tablesOf
               solved-before v l more =
                   let out : L 0 v ≡ false = sym (first-is v) ∙ le-ltb (T v) 256 more in
                   let not-D = not-true-is-false (D v) (λ d. clash (first-of v d) out) in
-                  let not-last = outside-all (ready .nests) 0 (suc k) v (omega arith) (le-refl (suc k)) out in
+                  let not-last = outside-all (round .ready .nests) 0 (suc k) v (omega arith) (le-refl (suc k)) out in
                   entry4 v l ∙ rw (left3 v, out) (c3 .pulled .kept v l (λ d. absurd (clash d not-D)) ∙ sym (entry2 v not-last))

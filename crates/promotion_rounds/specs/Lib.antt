@@ -5,9 +5,11 @@ pub mod SolveAll
 -- laws: what other crates cite
 pub mod Shown
 -- lemmas: steps of the proofs here
+pub mod WonKept
 pub mod Opened
 pub mod Filled
 pub mod Above
+pub mod ClosedRound
 pub mod Promoted
 pub mod DominionShown
 pub mod RoundMade

@@ -1,37 +1,35 @@
 -- An open round: p goes down to the highest region below, and nothing else changes.
-use mathlib.Core.Bool.{Bool, true, false, _&&_, not, cond}
+use mathlib.Core.Bool.{true}
 use mathlib.Core.List.{List}
-use mathlib.Core.Logic.{_⊎_, inl, inr, ⊎-elim}
-use mathlib.Core.Path.{_≡_, refl, sym, ap, _∙_}
-use Prim.Native.Nat.{ℕ, suc, _+_, _*_, _%_, _-_, _≤_, _<_}
+use mathlib.Core.Path.{_≡_, sym, ap, _∙_}
+use Prim.Native.Nat.{ℕ, suc, _-_, _≤_, _<_}
 use native.Mathlib.Nat.{le-refl, le-antisymm}
 use native.Mathlib.Omega.{arith}
 use borrow.Author.Tests.{ltb-true, lt-ltb}
 use lib.Dec.{ltb}
 use lib.ListN.{length, getD}
-use Rattle.rules.specs.Counting.{Set, count, some, greatest}
-use Rattle.rules.specs.Game.{Player, Even, Odd, Game}
-use Rattle.rules.specs.Tables.{Tables, gameOf, words, Accepted, tablesOf}
+use Rattle.rules.specs.Counting.{Set, greatest}
+use Rattle.rules.specs.Game.{Player, Game}
+use Rattle.rules.specs.Tables.{gameOf, Accepted, tablesOf}
 use Rattle.rules.specs.Promotion.{Regions, unsolved, regionSet, isOpen, roundOf, afterRounds}
 use Rattle.basics.specs.Basics.{some-elim, and-right, count-cong}
-use Rattle.accepted.specs.Tables.{accepted-sound, accepted-priority}
-use Rattle.basics.specs.Greatest.{greatest-cong, greatest-bounds, greatest-le}
+use Rattle.accepted.specs.Tables.{accepted-sound}
+use Rattle.basics.specs.Greatest.{greatest-bounds, greatest-le}
 use Rattle.theory.specs.PromotionEntries.{RoundEntries, opened, AttractsEntries, AttractedEntries}
 use Rattle.theory.specs.PromotionTests.{unsolved-below, region-in}
 use Rattle.theory.specs.PromotionRounds.{attractedRegion, lowerVertices}
-use Rattle.theory.specs.PromotionStanding.{Standing, open-goes-down}
-use Rattle.theory.specs.PromotionTable.{openAt, open-read, table-opens, attracts-table}
+use Rattle.theory.specs.PromotionStanding.{open-goes-down}
+use Rattle.theory.specs.PromotionTable.{open-read, table-opens, attracts-table}
 use Rattle.area.specs.Area.{setAt}
-use Rattle.area.specs.SetsAt.{set-kept}
-use Rattle.highest_priority.specs.Parts.{highestOf}
 use Rattle.promotion_levels.specs.Nesting.{inside-all, region-fresh, few-levels, levels-below}
-use Rattle.promotion_levels.specs.Layout.{heldAt, wonAt, depthAt, levelsAt, levelAt, endAt, deep, depthIn, topIn, levelIn, heldIn, regionIn, entryIn, Ready}
+use Rattle.promotion_levels.specs.Layout.{heldAt, wonAt, levelsAt, depthIn, topIn, levelIn, regionIn, entryIn, Ready}
 use Rattle.promotion_levels.specs.Descending.{Descends, Descended}
 use Rattle.promotion_levels.specs.Going.{deeper, won-words}
 use Rattle.promotion_levels.specs.Lowered.{lowered-ready, lowered-regions, lowered-entries, lowered-top}
 use Rattle.promotion_region.specs.Query.{Queried}
 use Rattle.promotion_rounds.specs.Shown as shown
 use Rattle.promotion_rounds.specs.Shown.{Shows}
+use Rattle.promotion_rounds.specs.WonKept.{won-sets-kept}
 
 -- entries count below n alone
 pub attracts-as :
@@ -183,19 +181,9 @@ module _ {owners priorities offsets targets : List ℕ} (ok : Accepted (tablesOf
 
         won-kept : (b : Player) (v : ℕ) → setAt n (wonAt n m s b) w2 v ≡ setAt n (wonAt n m s b) w0 v
         won-kept b v =
-            set-kept n (wonAt n m s b) w1 w2 (λ i low high. word i (first b low) (second b high)) v ∙
-            set-kept n (wonAt n m s b) w0 w1 (λ i low high. c1 .won i (first b low) (second b high)) v
-          where
-            word : (i : ℕ) → wonAt n m s Even ≤ i → i < depthAt n m s → getD w2 i 0 ≡ getD w1 i 0
-            word i = rw (← each) (won-words priorities offsets targets (ready′ .size) (ready′ .room) c2 i)
-
-            first : (b : Player) → {i : ℕ} → wonAt n m s b ≤ i → wonAt n m s Even ≤ i
-            first Even l = l
-            first Odd l = omega arith
-
-            second : (b : Player) → {i : ℕ} → i < wonAt n m s b + words n → i < depthAt n m s
-            second Even l = omega (arith, c1 .ready .size)
-            second Odd l = omega (arith, c1 .ready .size)
+            won-sets-kept n m (c1 .ready .size) w1 w2
+            (λ i. rw (← each) (won-words priorities offsets targets (ready′ .size) (ready′ .room) c2 i)) b v ∙
+            won-sets-kept n m (c1 .ready .size) w0 w1 (c1 .won) b v
 
         -- **the work area shows the state after an open round**
         pub shows-opened :

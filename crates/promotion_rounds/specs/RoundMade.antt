@@ -51,6 +51,7 @@ use Rattle.promotion_rounds.specs.Shown.{Shows}
 use Rattle.promotion_rounds.specs.RoundPromise.{RoundReady}
 use Rattle.promotion_rounds.specs.Opened as opened
 use Rattle.promotion_rounds.specs.Filled as filled
+use Rattle.promotion_rounds.specs.ClosedRound.{ClosedRound}
 use Rattle.promotion_rounds.specs.Promoted as promoted
 use Rattle.promotion_rounds.specs.DominionShown as solved
 
@@ -460,6 +461,22 @@ module _ {owners priorities offsets targets : List ℕ} (ok : Accepted (tablesOf
                   closed : isOpen g r (regionSet g r) ≡ false
                   closed = open-told told ∙ not-said
 
+                  -- all that a promotion and a dominion begin with
+                  closed-round : ClosedRound owners priorities offsets targets s made current left w0 w2 (entryIn n m s w1)
+                  closed-round =
+                      record {
+                        accepted = ok;
+                        shows = shows;
+                        ready = ready2;
+                        agrees = agrees2;
+                        top = top2;
+                        won-kept = won2;
+                        left-kept = left2;
+                        closed = closed;
+                        drawn = entries1;
+                        filled = fills2;
+                      }
+
                   high : HighestLevel owners offsets targets (p % 2) (heldIn n m s w2) (levelIn n m s w2) (depthIn n m s w2) j
                   high =
                       subst
@@ -531,8 +548,7 @@ module _ {owners priorities offsets targets : List ℕ} (ok : Accepted (tablesOf
                             Shows owners priorities offsets targets s (roundOf g r) (getD w2 x 0) left w3 ×
                             RoundEntries g r (entryIn n m s w0) (entryIn n m s w3))
                             e
-                            (promoted.shows-promoted ok made shows ready2 agrees2 top2 won2 left2 closed entries1 fills2 (j - 1)
-                            high-one c3)
+                            (promoted.shows-promoted closed-round (j - 1) high-one c3)
 
                   -- **a dominion**: in level 0 nothing more may be drawn into R
                   whole-first : k ≤ 0 → (v : ℕ) → upTo (unsolved g T0) T0 p v ≡ levelIn n m s w2 0 v
@@ -555,7 +571,7 @@ module _ {owners priorities offsets targets : List ℕ} (ok : Accepted (tablesOf
                   round-dominion =
                       subst (λ (x : ℕ). DominionReady owners offsets targets s (parity x) k held levels w2) (sym (shows .current))
                       (subst₂ (λ (h l : ℕ). DominionReady owners offsets targets s (mover r) k h l w2) (sym held-is) (sym levels-is)
-                      (solved.dominion-ready ok made shows ready2 agrees2 top2 won2 left2 closed entries1 fills2 shut2))
+                      (solved.dominion-ready closed-round shut2))
 
                   module _ (none : j ≤ 0) {w3 : List ℕ}
                       (made3 : Dominated owners priorities offsets targets s current held levels w2 w3)
@@ -577,9 +593,7 @@ module _ {owners priorities offsets targets : List ℕ} (ok : Accepted (tablesOf
                           e high
 
                       pub round-first : Descends priorities (length targets) s held levels 0 255 w3
-                      round-first =
-                          solved.descend-first ok made shows ready2 agrees2 top2 won2 left2 closed entries1 fills2 high-none d3
-                          held-is levels-is
+                      round-first = solved.descend-first closed-round high-none d3 held-is levels-is
 
                       module _ {p' : ℕ} {w4 : List ℕ} (c4 : Descended priorities (length targets) s 0 p' w3 w4) where
                         pub solved-same :
@@ -603,9 +617,7 @@ module _ {owners priorities offsets targets : List ℕ} (ok : Accepted (tablesOf
                             RoundEntries (gameOf (tablesOf owners priorities offsets targets))
                             (afterRounds (gameOf (tablesOf owners priorities offsets targets)) made)
                             (entryIn (length owners) (length targets) s w0) (entryIn (length owners) (length targets) s w4)
-                        round-solves counted =
-                            solved.shows-solved ok made shows ready2 agrees2 top2 won2 left2 closed entries1 fills2 high-none d3 c4
-                            counted
+                        round-solves counted = solved.shows-solved closed-round high-none d3 c4 counted
 
                         pub solved-ready : Ready (length owners) priorities offsets targets s w4
                         solved-ready = round-solves refl .0 .ready
