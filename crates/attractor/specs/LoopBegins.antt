@@ -29,7 +29,7 @@ use Rattle.attractor_begin.specs.LayersBegin.{LayersBeginnable, LayersBegun, la
 use Rattle.attractor_word.specs.Going.{nowAt, takenAt, fits}
 use Rattle.attractor.specs.Running.{Running, SameAreas}
 
-module _ (owners offsets targets : List ℕ) (alpha within set s : ℕ) (work : List ℕ)
+module _ {owners offsets targets : List ℕ} {alpha within set s : ℕ} {work : List ℕ}
     (given : Attractable owners offsets targets alpha within set work) (size : s ≡ words (length owners))
     {first : ℕ} (place : first ≡ layers (length owners) (length targets))
   where
@@ -50,7 +50,7 @@ module _ (owners offsets targets : List ℕ) (alpha within set s : ℕ) (work : 
           high = omega (arith, size, place, given .placed .set-high);
         }
 
-    module _ (after : List ℕ) (begun' : LayersBegun first set s work after) where
+    module _ {after : List ℕ} (begun' : LayersBegun first set s work after) where
       begun : LayersBegun (layers n m) set (words n) work after
       begun =
           subst (λ (k : ℕ). LayersBegun (layers n m) set k work after) size

@@ -57,7 +57,7 @@ marks-at n base work high =
     last-word : room (layerAt n base work) ≡ words n
     last-word = omega (arith, layer-long n base work high)
 
-module _ (owners offsets targets : List ℕ) (alpha within set : ℕ) (before : List ℕ)
+module _ {owners offsets targets : List ℕ} {alpha within set : ℕ} {before : List ℕ}
     (given : Attractable owners offsets targets alpha within set before) where
   abbrev n : ℕ
   n = length owners
@@ -80,7 +80,7 @@ module _ (owners offsets targets : List ℕ) (alpha within set : ℕ) (before : 
   abbrev entry : ℕ → ℕ
   entry = cells n (entries n m) before
 
-  module _ (this next far looks : ℕ) (after : List ℕ)
+  module _ {this next far looks : ℕ} {after : List ℕ}
       (c : Going owners offsets targets alpha within set before this next far looks (nowAt n this after) after) where
     abbrev state : State
     state = stateAt counts n m set next after
@@ -109,13 +109,13 @@ module _ (owners offsets targets : List ℕ) (alpha within set : ℕ) (before : 
     marks-read = marks-at n this after layer-fits
 
     -- the lowest word of the layer is popped
-    module _ (s : ℕ) (size : s ≡ words n) (more : getD after (this + s) 0 ≡ 0 → ⊥) where
+    module _ {s : ℕ} (size : s ≡ words n) (more : getD after (this + s) 0 ≡ 0 → ⊥) where
       pub pop-ready : Poppable (take ((this + s + 1) - this) (drop this after))
       pop-ready =
           subst Poppable (sym (layer-part n s this after size))
           (record { layer = c .layer; some = λ z. more (ap (λ (k : ℕ). getD after (this + k) 0) size ∙ sym marks-read ∙ z) })
 
-      module _ (at word : ℕ) (ys : List ℕ) (popped' : Popped at word (take ((this + s + 1) - this) (drop this after)) ys) where
+      module _ {at word : ℕ} {ys : List ℕ} (popped' : Popped at word (take ((this + s + 1) - this) (drop this after)) ys) where
         popped : Popped at word (layerAt n this after) ys
         popped = subst (λ (xs : List ℕ). Popped at word xs ys) (layer-part n s this after size) popped'
 
@@ -209,7 +209,7 @@ module _ (owners offsets targets : List ℕ) (alpha within set : ℕ) (before : 
         take-word-ready = record { size = size; small = popped .small; from = from; stands = word-stands }
 
         -- all of them were taken
-        module _ (fin : List ℕ) (met : ℕ)
+        module _ {fin : List ℕ} {met : ℕ}
             (took : TookWord owners offsets targets alpha within set next at word far mid 0 met fin) where
           stands-then : Stands owners offsets targets alpha within set next at far from 0 met fin
           stands-then = took from word-stands

@@ -1,6 +1,7 @@
 -- `attract` meets its contract: layer by layer and word by word, in rising order, each member is taken by one of the rules'
 -- steps.
-use Prim.Native.Nat.{ℕ, _+_, _-_, _≤_, _<_}
+use Prim.Native.Nat.{ℕ, _+_, _-_, _*_, _≤_, _<_, _^_}
+use mathlib.Core.List.{List}
 use mathlib.Core.Path.{_≡_, sym, ap, _∙_}
 use native.Mathlib.Omega.{arith}
 use borrow.Author.Needs.{needs}
@@ -10,7 +11,6 @@ use Rattle.rules.specs.Tables.{words}
 use Rattle.basics.specs.Basics.{count-le}
 use Rattle.layer.specs.Laws.{unmarked-empty}
 use Rattle.attractor_look.specs.InArea.{layerAt}
-use Rattle.area.specs.Area.{layerWords}
 use Rattle.attractor_word.specs.Attracted.{Attractable}
 use Rattle.attractor.specs.LoopBegins.{begin-ready, started-same, started-given, started}
 use Rattle.attractor_word.specs.Going.{Going, nowAt, takenAt}
@@ -49,11 +49,7 @@ given :
     Attractable (a .owners .now) (a .offsets .now) (a .targets .now) (a .alpha) (a .within) (a .set) (c .begin-layers .last .0)
 given c =
     let w = sized c in
-    let g = at1 w in
-    let a = g .args in
-    started-given (a .owners .now) (a .offsets .now) (a .targets .now) (a .alpha) (a .within) (a .set) (w .set-words .result)
-    (a .work .now)
-    (g .pre) (w .set-words .ensures) (placed c .layers .ensures) _ (c .begin-layers .ensures)
+    started-given (at1 w .pre) (w .set-words .ensures) (placed c .layers .ensures) (c .begin-layers .ensures)
 
 same :
     (c : tie.After-begin-layers Inv-loop μ-loop) →
@@ -61,11 +57,20 @@ same :
     SameAreas (length (a .owners .now)) (length (a .targets .now)) (a .within) (a .set) (a .work .now) (c .begin-layers .last .0)
 same c =
     let w = sized c in
-    let g = at1 w in
-    let a = g .args in
-    started-same (a .owners .now) (a .offsets .now) (a .targets .now) (a .alpha) (a .within) (a .set) (w .set-words .result)
-    (a .work .now)
-    (g .pre) (w .set-words .ensures) (placed c .layers .ensures) _ (c .begin-layers .ensures)
+    started-same (at1 w .pre) (w .set-words .ensures) (placed c .layers .ensures) (c .begin-layers .ensures)
+
+-- the second layer's place is a number that a word holds
+second : (c : tie.After-begin-layers Inv-loop μ-loop) → placed c .layers .result + sized c .set-words .result + 1 < 2 ^ 64
+second c =
+    omega (
+      arith,
+      sized c .set-words .ensures,
+      placed c .layers .ensures,
+      given c .placed .set-low,
+      given c .placed .set-high,
+      same c .long,
+      start-of c .good,
+    )
 
 abbrev begun : tie.At-loop Inv-loop μ-loop → tie.After-begin-layers Inv-loop μ-loop
 begun c = c .before .before .before
@@ -73,20 +78,19 @@ begun c = c .before .before .before
 long : (c : tie.At-loop Inv-loop μ-loop) → length (c .loop .work) ≡ length (start-of (begun c) .args .work .now)
 long c = c .loop .inv .going .long ∙ same (begun c) .long
 
-size : (c : tie.At-loop Inv-loop μ-loop) → sized (begun c) .set-words .result ≡ words (length (start-of (begun c)
-    .args .owners .now))
+abbrev words-of : tie.At-loop Inv-loop μ-loop → ℕ
+words-of c = sized (begun c) .set-words .result
+
+size : (c : tie.At-loop Inv-loop μ-loop) → words-of c ≡ words (length (start-of (begun c) .args .owners .now))
 size c = sized (begun c) .set-words .ensures
 
--- the layer lies in the work area
-fits :
-    (c : tie.At-loop Inv-loop μ-loop) →
-    c .loop .this + layerWords (length (start-of (begun c) .args .owners .now)) ≤ length (c .loop .work)
-fits c =
-    let b = begun c in
-    let a = start-of b .args in
-    let l = c .loop in
-    layer-fits (a .owners .now) (a .offsets .now) (a .targets .now) (a .alpha) (a .within) (a .set) (b .begin-layers .last .0)
-    (given b) (l .this) (l .next) (l .far) (l .looks) (l .work) (l .inv .going)
+-- the layer, with its marks, lies in the work area
+fits : (c : tie.At-loop Inv-loop μ-loop) → c .loop .this + words-of c + 1 ≤ length (c .loop .work)
+fits c = omega (arith, size c, layer-fits (given (begun c)) (c .loop .inv .going))
+
+-- so its end is a number that a word holds, in bytes too
+ends : (c : tie.At-loop Inv-loop μ-loop) → 8 * (c .loop .this + words-of c + 1) < 2 ^ 64
+ends c = omega (arith, fits c, long c, start-of (begun c) .good)
 
 -- the loop's head of a turn
 abbrev head : tie.After-pop-word Inv-loop μ-loop → tie.At-loop Inv-loop μ-loop
@@ -96,56 +100,55 @@ head c = c .before .before .before .before
 abbrev popped : tie.After-take-word Inv-loop μ-loop → tie.After-pop-word Inv-loop μ-loop
 popped c = c .before .before .before .before
 
+-- the work area once the word's members are taken
+abbrev after : tie.After-take-word Inv-loop μ-loop → List ℕ
+after c = c .take-word .last .1 .1 .1 .1 .1 .0
+
+-- the loop's head of its turn
+abbrev turn : tie.After-take-word Inv-loop μ-loop → tie.At-loop Inv-loop μ-loop
+turn c = head (popped c)
+
+-- what holds then, that more are taken, and few entries met
 going :
     (c : tie.After-take-word Inv-loop μ-loop) →
-    let P = popped c in
-    let b = begun (head P) in
+    let b = begun (turn c) in
     let a = start-of b .args in
-    let l = head P .loop in
+    let l = turn c .loop in
     Going (a .owners .now) (a .offsets .now) (a .targets .now) (a .alpha) (a .within) (a .set) (b .begin-layers .last .0)
-    (l .this) (l .next) (l .far) (l .looks + c .take-word .result)
-    (nowAt (length (a .owners .now)) (l .this) (c .take-word .last .1 .1 .1 .1 .1 .0)) (c .take-word .last .1 .1 .1 .1 .1 .0)
+    (l .this) (l .next) (l .far) (l .looks + c .take-word .result) (nowAt (length (a .owners .now)) (l .this) (after c)) (after c)
 going c =
     let P = popped c in
-    let b = begun (head P) in
-    let a = start-of b .args in
-    let l = head P .loop in
-    going-word (a .owners .now) (a .offsets .now) (a .targets .now) (a .alpha) (a .within) (a .set)
-    (b .begin-layers .last .0) (given b) (l .this) (l .next) (l .far) (l .looks) (l .work) (l .inv .going)
-    (sized b .set-words .result) (size (head P)) (P .before .before .if1 .taken) (P .pop-word .result .at)
-    (P .pop-word .result .word) (P .pop-word .last .0) (P .pop-word .ensures) (c .take-word .last .1 .1 .1 .1 .1 .0)
-    (c .take-word .result) (c .take-word .ensures)
+    going-word (given (begun (turn c))) (turn c .loop .inv .going) (size (turn c)) (P .before .before .if1 .taken)
+    (P .pop-word .ensures) (c .take-word .ensures)
 
-grows :
-    (c : tie.After-take-word Inv-loop μ-loop) →
-    let P = popped c in
-    let a = start-of (begun (head P)) .args in
-    let l = head P .loop in
-    let n = length (a .owners .now) in
-    count n (takenAt n (a .set) (l .this) (l .next) (l .work)) < count n (takenAt n (a .set) (l .this) (l .next)
-    (c .take-word .last .1 .1 .1 .1 .1 .0))
+-- how many are taken, by the work area
+abbrev taken : tie.At-loop Inv-loop μ-loop → List ℕ → ℕ
+taken c work =
+    let a = start-of (begun c) .args in
+    count (length (a .owners .now)) (takenAt (length (a .owners .now)) (a .set) (c .loop .this) (c .loop .next) work)
+
+-- never more than there are vertices
+most : (c : tie.At-loop Inv-loop μ-loop) (work : List ℕ) → taken c work ≤ length (start-of (begun c) .args .owners .now)
+most c work = count-le _ _
+
+grows : (c : tie.After-take-word Inv-loop μ-loop) → taken (turn c) (turn c .loop .work) < taken (turn c) (after c)
 grows c =
     let P = popped c in
-    let b = begun (head P) in
-    let a = start-of b .args in
-    let l = head P .loop in
-    word-grows (a .owners .now) (a .offsets .now) (a .targets .now) (a .alpha) (a .within) (a .set)
-    (b .begin-layers .last .0) (given b) (l .this) (l .next) (l .far) (l .looks) (l .work) (l .inv .going)
-    (sized b .set-words .result) (size (head P)) (P .before .before .if1 .taken) (P .pop-word .result .at)
-    (P .pop-word .result .word) (P .pop-word .last .0) (P .pop-word .ensures) (c .take-word .last .1 .1 .1 .1 .1 .0)
-    (c .take-word .result) (c .take-word .ensures)
+    word-grows (given (begun (turn c))) (turn c .loop .inv .going) (size (turn c)) (P .before .before .if1 .taken)
+    (P .pop-word .ensures) (c .take-word .ensures)
 
-few : (c : tie.After-take-word Inv-loop μ-loop) → head (popped c) .loop .looks + c .take-word .result ≤ 67125248
+few : (c : tie.After-take-word Inv-loop μ-loop) → turn c .loop .looks + c .take-word .result ≤ 67125248
 few c =
     let P = popped c in
-    let b = begun (head P) in
-    let a = start-of b .args in
-    let l = head P .loop in
-    word-looks-few (a .owners .now) (a .offsets .now) (a .targets .now) (a .alpha) (a .within) (a .set)
-    (b .begin-layers .last .0) (given b) (l .this) (l .next) (l .far) (l .looks) (l .work) (l .inv .going)
-    (sized b .set-words .result) (size (head P)) (P .before .before .if1 .taken) (P .pop-word .result .at)
-    (P .pop-word .result .word) (P .pop-word .last .0) (P .pop-word .ensures) (c .take-word .last .1 .1 .1 .1 .1 .0)
-    (c .take-word .result) (c .take-word .ensures)
+    word-looks-few (given (begun (turn c))) (turn c .loop .inv .going) (size (turn c)) (P .before .before .if1 .taken)
+    (P .pop-word .ensures) (c .take-word .ensures)
+
+-- the layer's marks then, by the size of a set
+marked :
+    (c : tie.After-take-word Inv-loop μ-loop) →
+    getD (after c) (turn c .loop .this + words (length (start-of (begun (turn c)) .args .owners .now))) 0 ≡
+    getD (after c) (turn c .loop .this + words-of (turn c)) 0
+marked c = ap (λ (k : ℕ). getD (after c) (turn c .loop .this + k) 0) (sym (size (turn c)))
 
 set-words-requires : tie.Need-set-words-requires Inv-loop μ-loop
 set-words-requires c κs = search needs
@@ -157,226 +160,98 @@ begin-layers-requires : tie.Need-begin-layers-requires Inv-loop μ-loop
 begin-layers-requires c κs =
     let l = c .before in
     let w = l .before in
-    let g = at1 w in
-    let a = g .args in
-    begin-ready (a .owners .now) (a .offsets .now) (a .targets .now) (a .alpha) (a .within) (a .set) (w .set-words .result)
-    (a .work .now)
-    (g .pre) (w .set-words .ensures) (l .layers .ensures)
+    begin-ready (at1 w .pre) (w .set-words .ensures) (l .layers .ensures)
 
 add-next : tie.Need-add-next Inv-loop μ-loop
-add-next c =
-    let b = c .before .before in
-    omega (
-      arith,
-      sized b .set-words .ensures,
-      placed b .layers .ensures,
-      given b .placed .set-low,
-      given b .placed .set-high,
-      same b .long,
-      start-of b .good,
-    )
+add-next c = omega (arith, second (c .before .before))
 
 add-next-2 : tie.Need-add-next-2 Inv-loop μ-loop
-add-next-2 c =
-    let b = c .before .before in
-    omega (
-      arith,
-      sized b .set-words .ensures,
-      placed b .layers .ensures,
-      given b .placed .set-low,
-      given b .placed .set-high,
-      same b .long,
-      start-of b .good,
-    )
+add-next-2 c = omega (arith, second (c .before .before))
 
 loop-holds : tie.Need-loop-holds Inv-loop μ-loop
 loop-holds c =
     let b = c .before .before in
     let w = sized b in
-    let g = at1 w in
-    let a = g .args in
-    started (a .owners .now) (a .offsets .now) (a .targets .now) (a .alpha) (a .within) (a .set) (w .set-words .result)
-    (a .work .now)
-    (g .pre) (w .set-words .ensures) (placed b .layers .ensures) _ (b .begin-layers .ensures)
+    started (at1 w .pre) (w .set-words .ensures) (placed b .layers .ensures) (b .begin-layers .ensures)
 
 add-if1 : tie.Need-add-if1 Inv-loop μ-loop
-add-if1 c = omega (arith, fits (c), size (c), long (c), start-of (begun (c)) .good)
+add-if1 c = omega (arith, ends c)
 
 mul-if1 : tie.Need-mul-if1 Inv-loop μ-loop
-mul-if1 c = omega (arith, fits (c), size (c), long (c), start-of (begun (c)) .good)
+mul-if1 c = omega (arith, ends c)
 
 slice-read-if1 : tie.Need-slice-read-if1 Inv-loop μ-loop
-slice-read-if1 c = omega (arith, fits (c .before), size (c .before), long (c .before), start-of (begun (c .before)) .good)
+slice-read-if1 c = omega (arith, fits (c .before))
 
 add-pop-word : tie.Need-add-pop-word Inv-loop μ-loop
-add-pop-word c = omega (
-  arith,
-  fits (c .before .before),
-  size (c .before .before),
-  long (c .before .before),
-  start-of (begun
-      (c .before .before)) .good,
-)
+add-pop-word c = omega (arith, ends (c .before .before))
 
 add-pop-word-2 : tie.Need-add-pop-word-2 Inv-loop μ-loop
-add-pop-word-2 c = omega (
-  arith,
-  fits (c .before .before),
-  size (c .before .before),
-  long (c .before .before),
-  start-of (begun
-      (c .before .before)) .good,
-)
+add-pop-word-2 c = omega (arith, ends (c .before .before))
 
 mul-pop-word : tie.Need-mul-pop-word Inv-loop μ-loop
-mul-pop-word c = omega (
-  arith,
-  fits (c .before .before),
-  size (c .before .before),
-  long (c .before .before),
-  start-of (begun
-      (c .before .before)) .good,
-)
+mul-pop-word c = omega (arith, ends (c .before .before))
 
 sub-pop-word : tie.Need-sub-pop-word Inv-loop μ-loop
-sub-pop-word c = omega (
-  arith,
-  fits (c .before .before),
-  size (c .before .before),
-  long (c .before .before),
-  start-of (begun
-      (c .before .before)) .good,
-)
+sub-pop-word c = search needs
 
 part-pop-word-start : tie.Need-part-pop-word-start Inv-loop μ-loop
-part-pop-word-start c = omega (
-  arith,
-  fits (c .before .before),
-  size (c .before .before),
-  long (c .before .before),
-  start-of (begun
-      (c .before .before)) .good,
-)
+part-pop-word-start c = search needs
 
 part-pop-word-end : tie.Need-part-pop-word-end Inv-loop μ-loop
-part-pop-word-end c = omega (
-  arith,
-  fits (c .before .before),
-  size (c .before .before),
-  long (c .before .before),
-  start-of (begun
-      (c .before .before)) .good,
-)
+part-pop-word-end c = omega (arith, fits (c .before .before))
 
 pop-word-requires : tie.Need-pop-word-requires Inv-loop μ-loop
 pop-word-requires c κs =
-    let d = c .before .before .before in
-    let b = begun d in
-    let a = start-of b .args in
-    let l = d .loop in
-    pop-ready (a .owners .now) (a .offsets .now) (a .targets .now) (a .alpha) (a .within) (a .set)
-    (b .begin-layers .last .0) (given b) (l .this) (l .next) (l .far) (l .looks) (l .work) (l .inv .going)
-    (sized b .set-words .result) (size d) (c .before .if1 .taken)
+    let d = c .before .before .before in pop-ready (given (begun d)) (d .loop .inv .going) (size d) (c .before .if1 .taken)
 
 take-word-requires : tie.Need-take-word-requires Inv-loop μ-loop
 take-word-requires c κs =
     let P = c .before .before .before in
-    let b = begun (head P) in
-    let a = start-of b .args in
-    let l = head P .loop in
-    take-word-ready (a .owners .now) (a .offsets .now) (a .targets .now) (a .alpha) (a .within) (a .set)
-    (b .begin-layers .last .0) (given b) (l .this) (l .next) (l .far) (l .looks) (l .work) (l .inv .going)
-    (sized b .set-words .result) (size (head P)) (P .before .before .if1 .taken) (P .pop-word .result .at)
-    (P .pop-word .result .word) (P .pop-word .last .0) (P .pop-word .ensures)
+    take-word-ready (given (begun (head P))) (head P .loop .inv .going) (size (head P)) (P .before .before .if1 .taken)
+    (P .pop-word .ensures)
 
 add-looks : tie.Need-add-looks Inv-loop μ-loop
 add-looks c = omega (arith, few (c .before .before))
 
 add-if2 : tie.Need-add-if2 Inv-loop μ-loop
-add-if2 c =
-    let e = c .before .before in
-    let d = head (popped e) in
-    omega (arith, fits d, size d, long d, going e .long, d .loop .inv .going .long, start-of (begun d) .good)
+add-if2 c = omega (arith, ends (turn (c .before .before)))
 
 mul-if2 : tie.Need-mul-if2 Inv-loop μ-loop
-mul-if2 c =
-    let e = c .before .before in
-    let d = head (popped e) in
-    omega (arith, fits d, size d, long d, going e .long, d .loop .inv .going .long, start-of (begun d) .good)
+mul-if2 c = omega (arith, ends (turn (c .before .before)))
 
 slice-read-if2 : tie.Need-slice-read-if2 Inv-loop μ-loop
 slice-read-if2 c =
     let e = c .before .before .before in
-    let d = head (popped e) in
-    omega (arith, fits d, size d, long d, going e .long, d .loop .inv .going .long, start-of (begun d) .good)
+    omega (arith, fits (turn e), going e .long, turn e .loop .inv .going .long)
 
 add-far : tie.Need-add-far Inv-loop μ-loop
 add-far c =
-    let e = c .before .before .before .before in
-    let d = head (popped e) in
-    let a = start-of (begun d) .args in
-    omega (
-      arith,
-      d .loop .inv .deep,
-      count-le (length (a .owners .now)) (takenAt (length (a .owners .now)) (a .set) (d .loop .this)
-          (d .loop .next) (d .loop .work)),
-      given (begun d) .edges .few-vertices,
-    )
+    let d = turn (c .before .before .before .before) in
+    omega (arith, d .loop .inv .deep, most d (d .loop .work), given (begun d) .edges .few-vertices)
 
 loop-less : tie.Need-loop-less Inv-loop μ-loop
 loop-less c =
     let e = c .before .before .before .before in
-    let P = popped e in
-    let b = begun (head P) in
-    let a = start-of b .args in
-    let l = head P .loop in
-    let n = length (a .owners .now) in
-    let m = length (a .targets .now) in
     let same-count =
-    ap (count n)
-    (turned (a .owners .now) (a .offsets .now) (a .targets .now) (a .alpha) (a .within) (a .set) (b .begin-layers .last .0)
-    (given b) (l .this) (l .next) (l .far)
-    _ (e .take-word .last .1 .1 .1 .1 .1 .0) (going e)
-    (ap (λ (k : ℕ). getD (e .take-word .last .1 .1 .1 .1 .1 .0) (l .this + k) 0) (sym (size (head P))) ∙ c .if2 .taken)) in
-    omega (arith, grows e, count-le n (takenAt n (a .set) (l .this) (l .next) (e .take-word .last .1 .1 .1 .1 .1 .0)))
+    ap (count (length (start-of (begun (turn e)) .args .owners .now)))
+    (turned (given (begun (turn e))) (going e) (marked e ∙ c .if2 .taken)) in
+    omega (arith, grows e, most (turn e) (after e))
 
 loop-again : tie.Need-loop-again Inv-loop μ-loop
 loop-again c =
     let e = c .before .before .before .before in
-    let P = popped e in
-    let b = begun (head P) in
-    let a = start-of b .args in
-    let l = head P .loop in
-    running-turn (a .owners .now) (a .offsets .now) (a .targets .now) (a .alpha) (a .within) (a .set) (b .begin-layers .last .0)
-    (given b) (l .this) (l .next)
-    (l .far) _ (e .take-word .last .1 .1 .1 .1 .1 .0) (going e) (omega (arith, grows e, l .inv .deep))
-    (ap (λ (k : ℕ). getD (e .take-word .last .1 .1 .1 .1 .1 .0) (l .this + k) 0) (sym (size (head P))) ∙ c .if2 .taken)
+    running-turn (given (begun (turn e))) (going e) (omega (arith, grows e, turn e .loop .inv .deep))
+    (marked e ∙ c .if2 .taken)
 
 loop-less-2 : tie.Need-loop-less-2 Inv-loop μ-loop
-loop-less-2 c =
-    let e = c .before .before .before .before in
-    let P = popped e in
-    let b = begun (head P) in
-    let a = start-of b .args in
-    let l = head P .loop in
-    omega (
-      arith,
-      grows e,
-      count-le (length (a .owners .now)) (takenAt (length (a .owners .now))
-          (a .set) (l .this) (l .next) (e .take-word .last .1 .1 .1 .1 .1 .0)),
-    )
+loop-less-2 c = let e = c .before .before .before .before in omega (arith, grows e, most (turn e) (after e))
 
 loop-again-2 : tie.Need-loop-again-2 Inv-loop μ-loop
 loop-again-2 c =
     let e = c .before .before .before .before in
-    let P = popped e in
-    let b = begun (head P) in
-    let a = start-of b .args in
-    let l = head P .loop in
-    running-on (a .owners .now) (a .offsets .now) (a .targets .now) (a .alpha) (a .within) (a .set) (b .begin-layers .last .0)
-    (given b) (l .this) (l .next)
-    (l .far) _ (e .take-word .last .1 .1 .1 .1 .1 .0) (going e) (omega (arith, grows e, l .inv .deep))
-    (λ z. c .if2 .left (ap (λ (k : ℕ). getD (e .take-word .last .1 .1 .1 .1 .1 .0) (l .this + k) 0) (size (head P)) ∙ z))
+    running-on (given (begun (turn e))) (going e) (omega (arith, grows e, turn e .loop .inv .deep))
+    (λ z. c .if2 .left (sym (marked e) ∙ z))
 
 same-length : tie.Need-same-length Inv-loop μ-loop
 same-length c = long (c .before .before)
@@ -385,18 +260,13 @@ returns : tie.Need-returns Inv-loop μ-loop
 returns c priorities ok =
     let d = c .before .before in
     let b = begun d in
-    let a = start-of b .args in
     let l = d .loop in
     let none =
-    marks-read (a .owners .now) (a .offsets .now) (a .targets .now) (a .alpha) (a .within) (a .set)
-    (b .begin-layers .last .0) (given b) (l .this) (l .next) (l .far) (l .looks) (l .work) (l .inv .going) ∙
-    ap (λ (k : ℕ). getD (l .work) (l .this + k) 0) (sym (size d)) ∙
-    c .if1 .left in
+    marks-read (given b) (l .inv .going) ∙ ap (λ (k : ℕ). getD (l .work) (l .this + k) 0) (sym (size d)) ∙ c .if1 .left in
     attracted-moved (same b)
-    (running-all (a .owners .now) (a .offsets .now) (a .targets .now) (a .alpha) (a .within) (a .set)
-    (b .begin-layers .last .0) (given b) (l .this) (l .next) (l .far) (l .looks) (l .work) (l .inv .going)
-    (unmarked-empty (layerAt (length (a .owners .now)) (l .this) (l .work)) (l .inv .going .layer) none) (l .inv .last none)
-    priorities ok)
+    (running-all (given b) (l .inv .going)
+    (unmarked-empty (layerAt (length (start-of b .args .owners .now)) (l .this) (l .work)) (l .inv .going .layer) none)
+    (l .inv .last none) priorities ok)
 
 pub attract-spec : {M : Type 1} → statement M
 attract-spec =
