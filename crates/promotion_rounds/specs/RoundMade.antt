@@ -107,6 +107,16 @@ pub record RoundBegins (owners priorities offsets targets : List ℕ) (s current
       let T = regionIn (length owners) (length targets) s priorities work in
       EntriesInside g (unsolved g T) T current (entryIn (length owners) (length targets) s work)
 
+-- R is drawn in and not open, its missing entries are given, and the highest level that it may go to is found
+pub record RoundEscapes (owners priorities offsets targets : List ℕ) (s current alpha held depth levels k base below heads : ℕ)
+    (w0 w1 w2 : List ℕ) (j : ℕ) : Type 0 where
+  pub begins : RoundBegins owners priorities offsets targets s current alpha held depth levels k base below heads w0
+  pub queried : Queried owners priorities offsets targets s current w0 w1
+  pub filled : FilledAll owners offsets targets alpha heads held (entries (length owners) (length targets)) w1 w2
+  pub shut : isOpenIn owners offsets targets alpha heads held below w1 ≡ false
+  pub found :
+      HighestLevel owners offsets targets alpha (setAt (length owners) held w2) (levelFrom (length owners) s levels w2) k j
+
 module _ {owners priorities offsets targets : List ℕ} {s current left rounds : ℕ} {work : List ℕ}
     (q : RoundReady owners priorities offsets targets s current left rounds work)
     {held depth levels : ℕ}
@@ -233,6 +243,10 @@ module _ {owners priorities offsets targets : List ℕ} (ok : Accepted (tablesOf
     abbrev p : ℕ
     p = r .current
 
+    -- the regions before
+    abbrev T0 : ℕ → ℕ
+    T0 = regionIn n m s priorities w0
+
     each : length priorities ≡ length owners
     each = accepted-sound (tablesOf owners priorities offsets targets) ok .priority-each
 
@@ -300,10 +314,6 @@ module _ {owners priorities offsets targets : List ℕ} (ok : Accepted (tablesOf
 
           entries1 : AttractedEntries g r (entryIn n m s w0) (entryIn n m s w1)
           entries1 = attracts-table g r (regionIn n m s priorities w0) (shown.agrees0 ok made shows) (c1 .attracts)
-
-          -- the regions before
-          abbrev T0 : ℕ → ℕ
-          T0 = regionIn n m s priorities w0
 
           -- R's heads
           head-is : (v : ℕ) → setAt n heads w1 v ≡ (heldIn n m s w1 v && eqb (getD priorities v 0) p)
@@ -453,171 +463,175 @@ module _ {owners priorities offsets targets : List ℕ} (ok : Accepted (tablesOf
                         (λ j v l i. ready2 .nests .inside j v (omega arith) i);
                   }
 
-              module _ {said : Bool} (told : said ≡ openSaid) (not-said : said ≡ false) {j : ℕ}
-                  (found :
-                  HighestLevel owners offsets targets alpha (setAt (length owners) held w2)
-                  (levelFrom (length owners) s levels w2) k j)
-                where
-                  closed : isOpen g r (regionSet g r) ≡ false
-                  closed = open-told told ∙ not-said
+    module _ {alpha held depth levels k base below heads : ℕ} {w1 w2 : List ℕ} {j : ℕ}
+        (esc : RoundEscapes owners priorities offsets targets s current alpha held depth levels k base below heads w0 w1 w2 j)
+      where
+        abbrev at : RoundBegins owners priorities offsets targets s current alpha held depth levels k base below heads w0
+        at = esc .begins
 
-                  -- all that a promotion and a dominion begin with
-                  closed-round : ClosedRound owners priorities offsets targets s made current left w0 w2 (entryIn n m s w1)
-                  closed-round =
-                      record {
-                        accepted = ok;
-                        shows = shows;
-                        ready = ready2;
-                        agrees = agrees2;
-                        top = top2;
-                        won-kept = won2;
-                        left-kept = left2;
-                        closed = closed;
-                        drawn = entries1;
-                        filled = fills2;
-                      }
+        closed : isOpen g r (regionSet g r) ≡ false
+        closed = open-told at (esc .queried) refl ∙ esc .shut
 
-                  high : HighestLevel owners offsets targets (p % 2) (heldIn n m s w2) (levelIn n m s w2) (depthIn n m s w2) j
-                  high =
-                      subst
-                      (λ (x : ℕ). HighestLevel owners offsets targets x (heldIn n m s w2) (levelIn n m s w2) (depthIn n m s w2) j)
-                      alpha-is
-                      (subst (λ (x : ℕ). HighestLevel owners offsets targets alpha (heldIn n m s w2) (levelIn n m s w2) x j)
-                      k2-is
-                      (subst₂
-                      (λ (h l : ℕ). HighestLevel owners offsets targets alpha (setAt n h w2) (levelFrom n s l w2) k j)
-                      held-is levels-is found))
+        kept-all : (length w2 ≡ length w0) × ((i : ℕ) → endAt n m s ≤ i → getD w2 i 0 ≡ getD w0 i 0)
+        kept-all = same-all at (esc .queried) (esc .filled)
 
-                  -- **a promotion**
-                  module _ (some : 0 < j) where
-                    down : j - 1 < depthIn n m s w2
-                    down = let most = high .top in omega arith
+        -- all that a promotion and a dominion begin with
+        closed-round : ClosedRound owners priorities offsets targets s made current left w0 w2 (entryIn n m s w1)
+        closed-round =
+            record {
+              accepted = ok;
+              shows = shows;
+              ready = ready2 at (esc .queried) (esc .filled);
+              agrees = agrees2 at (esc .queried) (esc .filled);
+              top = top2 at (esc .queried) (esc .filled);
+              won-kept = won2 at (esc .queried) (esc .filled);
+              left-kept = left2 at (esc .queried) (esc .filled);
+              closed = closed;
+              drawn = entries1 at (esc .queried);
+              filled = fills2 at (esc .queried) (esc .filled);
+            }
 
-                    high-one :
-                        HighestLevel owners offsets targets (p % 2) (heldIn n m s w2) (levelIn n m s w2) (depthIn n m s w2)
-                        (suc (j - 1))
-                    high-one =
-                        let e : j ≡ suc (j - 1) = omega arith in
-                        subst
-                        (λ (x : ℕ).
-                        HighestLevel owners offsets targets (p % 2) (heldIn n m s w2) (levelIn n m s w2) (depthIn n m s w2) x)
-                        e high
+        high : HighestLevel owners offsets targets (p % 2) (heldIn n m s w2) (levelIn n m s w2) (depthIn n m s w2) j
+        high =
+            subst
+            (λ (x : ℕ). HighestLevel owners offsets targets x (heldIn n m s w2) (levelIn n m s w2) (depthIn n m s w2) j)
+            (alpha-is at)
+            (subst (λ (x : ℕ). HighestLevel owners offsets targets alpha (heldIn n m s w2) (levelIn n m s w2) x j)
+            (k2-is at (esc .queried) (esc .filled))
+            (subst₂
+            (λ (h l : ℕ). HighestLevel owners offsets targets alpha (setAt n h w2) (levelFrom n s l w2) k j)
+            (at .held-is) (at .levels-is) (esc .found)))
 
-                    pub top-fits : depth + j < levels
-                    top-fits = omega (arith, at .depth-is, levels-is, down, ready2 .depth)
+        -- **a promotion**
+        module _ (some : 0 < j) where
+          down : j - 1 < depthIn n m s w2
+          down = let most = high .top in omega arith
 
-                    module _ {level : ℕ} (level-is : level ≡ levels + (j - 1) * s) where
-                      level-at : level ≡ levelAt n m s (j - 1)
-                      level-at = omega (arith, level-is, levels-is)
+          high-one :
+              HighestLevel owners offsets targets (p % 2) (heldIn n m s w2) (levelIn n m s w2) (depthIn n m s w2)
+              (suc (j - 1))
+          high-one =
+              let is : j ≡ suc (j - 1) = omega arith in
+              subst
+              (λ (x : ℕ).
+              HighestLevel owners offsets targets (p % 2) (heldIn n m s w2) (levelIn n m s w2) (depthIn n m s w2) x)
+              is high
 
-                      pub round-promotable : Promotable s held depth level w2
-                      round-promotable =
-                          subst₂ (λ (h l : ℕ). Promotable s h depth l w2) (sym held-is) (sym level-at)
-                          (subst (λ (d : ℕ). Promotable s (heldAt n m s) d (levelAt n m s (j - 1)) w2) (sym (at .depth-is))
-                          (promote-ready ready2 (j - 1) down))
+          pub top-fits : depth + j < levels
+          top-fits = omega (arith, at .depth-is, at .levels-is, down, closed-round .ready .depth)
 
-                      module _ {w3 : List ℕ} (made3 : PromotedTo (length owners) s held depth level (j - 1) w2 w3) where
-                        c3 : PromotedTo n s (heldAt n m s) (depthAt n m s) (levelAt n m s (j - 1)) (j - 1) w2 w3
-                        c3 =
-                            subst₂ (λ (h l : ℕ). PromotedTo n s h (depthAt n m s) l (j - 1) w2 w3) held-is level-at
-                            (subst (λ (d : ℕ). PromotedTo n s held d level (j - 1) w2 w3) (at .depth-is) made3)
+          module _ {level : ℕ} (level-is : level ≡ levels + (j - 1) * s) where
+            level-at : level ≡ levelAt n m s (j - 1)
+            level-at = omega (arith, level-is, at .levels-is)
 
-                        pub promoted-same :
-                            (length w3 ≡ length w0) ×
-                            ((i : ℕ) → endAt (length owners) (length targets) s ≤ i → getD w3 i 0 ≡ getD w0 i 0)
-                        promoted-same = (
-                          c3 .long ∙ same-all .0,
-                          λ i l.
-                              let most = level-high n m s (suc (j - 1)) (omega (arith, down, ready2 .depth)) in
-                              let next = next-level n m s (j - 1) in
-                              c3 .rest i (λ e. omega arith) (inr (omega arith)) (inr (omega (arith, most, next))) ∙ same-all .1 i l,
-                        )
+            pub round-promotable : Promotable s held depth level w2
+            round-promotable =
+                subst₂ (λ (h l : ℕ). Promotable s h depth l w2) (sym (at .held-is)) (sym level-at)
+                (subst (λ (d : ℕ). Promotable s (heldAt n m s) d (levelAt n m s (j - 1)) w2) (sym (at .depth-is))
+                (promote-ready (closed-round .ready) (j - 1) down))
 
-                        pub round-promotes :
-                            Shows owners priorities offsets targets s
-                            (roundOf (gameOf (tablesOf owners priorities offsets targets))
-                            (afterRounds (gameOf (tablesOf owners priorities offsets targets)) made))
-                            (getD w2 (depth + j) 0) left w3 ×
-                            RoundEntries (gameOf (tablesOf owners priorities offsets targets))
-                            (afterRounds (gameOf (tablesOf owners priorities offsets targets)) made)
-                            (entryIn (length owners) (length targets) s w0) (entryIn (length owners) (length targets) s w3)
-                        round-promotes =
-                            let e : topsAt n m s + (j - 1) ≡ depth + j = omega (arith, at .depth-is) in
-                            subst
-                            (λ (x : ℕ).
-                            Shows owners priorities offsets targets s (roundOf g r) (getD w2 x 0) left w3 ×
-                            RoundEntries g r (entryIn n m s w0) (entryIn n m s w3))
-                            e
-                            (promoted.shows-promoted closed-round (j - 1) high-one c3)
+            module _ {w3 : List ℕ} (made3 : PromotedTo (length owners) s held depth level (j - 1) w2 w3) where
+              c3 : PromotedTo n s (heldAt n m s) (depthAt n m s) (levelAt n m s (j - 1)) (j - 1) w2 w3
+              c3 =
+                  subst₂ (λ (h l : ℕ). PromotedTo n s h (depthAt n m s) l (j - 1) w2 w3) (at .held-is) level-at
+                  (subst (λ (d : ℕ). PromotedTo n s held d level (j - 1) w2 w3) (at .depth-is) made3)
 
-                  -- **a dominion**: in level 0 nothing more may be drawn into R
-                  whole-first : k ≤ 0 → (v : ℕ) → upTo (unsolved g T0) T0 p v ≡ levelIn n m s w2 0 v
-                  whole-first none v =
-                      let at0 : depthIn n m s w0 ≡ 0 = omega (arith, k-is) in
-                      ap (λ (x : ℕ). upTo (unsolved g T0) T0 x v) (sym (shows .current) ∙ shows .top) ∙
-                      upTo-is owners priorities offsets targets (shows .ready .nests) v ∙
-                      ap (λ (j : ℕ). levelIn n m s w0 j v) at0 ∙
-                      sym (left2 v)
+              pub promoted-same :
+                  (length w3 ≡ length w0) ×
+                  ((i : ℕ) → endAt (length owners) (length targets) s ≤ i → getD w3 i 0 ≡ getD w0 i 0)
+              promoted-same = (
+                c3 .long ∙ kept-all .0,
+                λ i l.
+                    let most = level-high n m s (suc (j - 1)) (omega (arith, down, closed-round .ready .depth)) in
+                    let next = next-level n m s (j - 1) in
+                    c3 .rest i (λ e. omega arith) (inr (omega arith)) (inr (omega (arith, most, next))) ∙ kept-all .1 i l,
+              )
 
-                  held2 : (v : ℕ) → heldIn n m s w1 v ≡ heldIn n m s w2 v
-                  held2 v = sym (set-kept n (heldAt n m s) w1 w2 (λ i low high. same2 i (omega arith)) v)
+              pub round-promotes :
+                  Shows owners priorities offsets targets s
+                  (roundOf (gameOf (tablesOf owners priorities offsets targets))
+                  (afterRounds (gameOf (tablesOf owners priorities offsets targets)) made))
+                  (getD w2 (depth + j) 0) left w3 ×
+                  RoundEntries (gameOf (tablesOf owners priorities offsets targets))
+                  (afterRounds (gameOf (tablesOf owners priorities offsets targets)) made)
+                  (entryIn (length owners) (length targets) s w0) (entryIn (length owners) (length targets) s w3)
+              round-promotes =
+                  let is : topsAt n m s + (j - 1) ≡ depth + j = omega (arith, at .depth-is) in
+                  subst
+                  (λ (x : ℕ).
+                  Shows owners priorities offsets targets s (roundOf g r) (getD w2 x 0) left w3 ×
+                  RoundEntries g r (entryIn n m s w0) (entryIn n m s w3))
+                  is
+                  (promoted.shows-promoted closed-round (j - 1) high-one c3)
 
-                  shut2 : k ≤ 0 → Closed g (mover r) (levelIn n m s w2 0) (heldIn n m s w2) (heldIn n m s w2)
-                  shut2 none =
-                      subst₂ (λ (V' R : Set). Closed g (mover r) V' R R) (fun-ext (whole-first none)) (fun-ext held2)
-                      (record { target = λ v i. i; attracted = c1 .attracts .certificate .closed .attracted })
+        -- **a dominion**: in level 0 nothing more may be drawn into R
+        whole-first : k ≤ 0 → (v : ℕ) → upTo (unsolved g T0) T0 p v ≡ levelIn n m s w2 0 v
+        whole-first none v =
+            let at0 : depthIn n m s w0 ≡ 0 = omega (arith, at .k-is) in
+            ap (λ (x : ℕ). upTo (unsolved g T0) T0 x v) (sym (shows .current) ∙ shows .top) ∙
+            upTo-is owners priorities offsets targets (shows .ready .nests) v ∙
+            ap (λ (j : ℕ). levelIn n m s w0 j v) at0 ∙
+            sym (closed-round .left-kept v)
 
-                  pub round-dominion : DominionReady owners offsets targets s (parity current) k held levels w2
-                  round-dominion =
-                      subst (λ (x : ℕ). DominionReady owners offsets targets s (parity x) k held levels w2) (sym (shows .current))
-                      (subst₂ (λ (h l : ℕ). DominionReady owners offsets targets s (mover r) k h l w2) (sym held-is) (sym levels-is)
-                      (solved.dominion-ready closed-round shut2))
+        held2 : (v : ℕ) → heldIn n m s w1 v ≡ heldIn n m s w2 v
+        held2 v = sym (set-kept n (heldAt n m s) w1 w2 (λ i low high. same2 at (esc .queried) (esc .filled) i (omega arith)) v)
 
-                  module _ (none : j ≤ 0) {w3 : List ℕ}
-                      (made3 : Dominated owners priorities offsets targets s current held levels w2 w3)
-                    where
-                      d3 : Dominated owners priorities offsets targets s p (heldAt n m s) (levelsAt n m s) w2 w3
-                      d3 =
-                          subst (λ (x : ℕ). Dominated owners priorities offsets targets s x (heldAt n m s) (levelsAt n m s) w2 w3)
-                          (shows .current)
-                          (subst₂ (λ (h l : ℕ). Dominated owners priorities offsets targets s current h l w2 w3) held-is levels-is
-                          made3)
+        shut2 : k ≤ 0 → Closed g (mover r) (levelIn n m s w2 0) (heldIn n m s w2) (heldIn n m s w2)
+        shut2 none =
+            subst₂ (λ (V' R : Set). Closed g (mover r) V' R R) (fun-ext (whole-first none)) (fun-ext held2)
+            (record { target = λ v i. i; attracted = c1 at (esc .queried) .attracts .certificate .closed .attracted })
 
-                      high-none :
-                          HighestLevel owners offsets targets (p % 2) (heldIn n m s w2) (levelIn n m s w2) (depthIn n m s w2) 0
-                      high-none =
-                          let e : j ≡ 0 = omega arith in
-                          subst
-                          (λ (x : ℕ).
-                          HighestLevel owners offsets targets (p % 2) (heldIn n m s w2) (levelIn n m s w2) (depthIn n m s w2) x)
-                          e high
+        pub round-dominion : DominionReady owners offsets targets s (parity current) k held levels w2
+        round-dominion =
+            subst (λ (x : ℕ). DominionReady owners offsets targets s (parity x) k held levels w2) (sym (shows .current))
+            (subst₂ (λ (h l : ℕ). DominionReady owners offsets targets s (mover r) k h l w2) (sym (at .held-is)) (sym (at .levels-is))
+            (solved.dominion-ready closed-round shut2))
 
-                      pub round-first : Descends priorities (length targets) s held levels 0 255 w3
-                      round-first = solved.descend-first closed-round high-none d3 held-is levels-is
+        module _ (none : j ≤ 0) {w3 : List ℕ}
+            (made3 : Dominated owners priorities offsets targets s current held levels w2 w3)
+          where
+            d3 : Dominated owners priorities offsets targets s p (heldAt n m s) (levelsAt n m s) w2 w3
+            d3 =
+                subst (λ (x : ℕ). Dominated owners priorities offsets targets s x (heldAt n m s) (levelsAt n m s) w2 w3)
+                (shows .current)
+                (subst₂ (λ (h l : ℕ). Dominated owners priorities offsets targets s current h l w2 w3) (at .held-is) (at .levels-is)
+                made3)
 
-                      module _ {p' : ℕ} {w4 : List ℕ} (c4 : Descended priorities (length targets) s 0 p' w3 w4) where
-                        pub solved-same :
-                            (length w4 ≡ length w0) ×
-                            ((i : ℕ) → endAt (length owners) (length targets) s ≤ i → getD w4 i 0 ≡ getD w0 i 0)
-                        solved-same = (
-                          c4 .long ∙ d3 .long ∙ same-all .0,
-                          λ i l.
-                              let most = level-high n m s 0 (omega (arith, ready2 .depth)) in
-                              descended-rest (round-first .depth) c4 i (rw each l) ∙
-                              d3 .rest i (omega arith) (inr (omega arith)) (inr (omega (arith, most))) ∙
-                              same-all .1 i l,
-                        )
+            high-none :
+                HighestLevel owners offsets targets (p % 2) (heldIn n m s w2) (levelIn n m s w2) (depthIn n m s w2) 0
+            high-none =
+                let is : j ≡ 0 = omega arith in
+                subst
+                (λ (x : ℕ).
+                HighestLevel owners offsets targets (p % 2) (heldIn n m s w2) (levelIn n m s w2) (depthIn n m s w2) x)
+                is high
 
-                        pub round-solves :
-                            {many : ℕ} →
-                            many ≡ count (length owners) (levelIn (length owners) (length targets) s w4 0) →
-                            Shows owners priorities offsets targets s
-                            (roundOf (gameOf (tablesOf owners priorities offsets targets))
-                            (afterRounds (gameOf (tablesOf owners priorities offsets targets)) made)) p' many w4 ×
-                            RoundEntries (gameOf (tablesOf owners priorities offsets targets))
-                            (afterRounds (gameOf (tablesOf owners priorities offsets targets)) made)
-                            (entryIn (length owners) (length targets) s w0) (entryIn (length owners) (length targets) s w4)
-                        round-solves counted = solved.shows-solved closed-round high-none d3 c4 counted
+            pub round-first : Descends priorities (length targets) s held levels 0 255 w3
+            round-first = solved.descend-first closed-round high-none d3 (at .held-is) (at .levels-is)
 
-                        pub solved-ready : Ready (length owners) priorities offsets targets s w4
-                        solved-ready = round-solves refl .0 .ready
+            module _ {p' : ℕ} {w4 : List ℕ} (c4 : Descended priorities (length targets) s 0 p' w3 w4) where
+              pub solved-same :
+                  (length w4 ≡ length w0) ×
+                  ((i : ℕ) → endAt (length owners) (length targets) s ≤ i → getD w4 i 0 ≡ getD w0 i 0)
+              solved-same = (
+                c4 .long ∙ d3 .long ∙ kept-all .0,
+                λ i l.
+                    let most = level-high n m s 0 (omega (arith, closed-round .ready .depth)) in
+                    descended-rest (round-first .depth) c4 i (rw each l) ∙
+                    d3 .rest i (omega arith) (inr (omega arith)) (inr (omega (arith, most))) ∙
+                    kept-all .1 i l,
+              )
+
+              pub round-solves :
+                  {many : ℕ} →
+                  many ≡ count (length owners) (levelIn (length owners) (length targets) s w4 0) →
+                  Shows owners priorities offsets targets s
+                  (roundOf (gameOf (tablesOf owners priorities offsets targets))
+                  (afterRounds (gameOf (tablesOf owners priorities offsets targets)) made)) p' many w4 ×
+                  RoundEntries (gameOf (tablesOf owners priorities offsets targets))
+                  (afterRounds (gameOf (tablesOf owners priorities offsets targets)) made)
+                  (entryIn (length owners) (length targets) s w0) (entryIn (length owners) (length targets) s w4)
+              round-solves counted = solved.shows-solved closed-round high-none d3 c4 counted
+
+              pub solved-ready : Ready (length owners) priorities offsets targets s w4
+              solved-ready = round-solves refl .0 .ready

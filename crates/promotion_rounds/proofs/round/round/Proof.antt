@@ -1,13 +1,15 @@
 -- `round` meets its contract: each call finds what it asks for, and the three ways out are the three kinds of round.
-use mathlib.Core.Path.{_≡_, refl, _∙_}
+use mathlib.Core.Path.{_≡_, refl, sym, _∙_}
+use mathlib.Core.List.{List}
 use Prim.Native.Nat.{ℕ, _+_, _-_, _*_, _≤_, _<_, _^_}
 use native.Mathlib.Omega.{arith}
 use lib.ListN.{length, getD}
 use Rattle.area.specs.Area.{entries}
-use Rattle.promotion_levels.specs.Layout.{endAt, Ready}
+use Rattle.promotion_levels.specs.Layout.{levelsAt, endAt, Ready}
 use Rattle.promotion_region.specs.Query.{Queried}
 use Rattle.promotion_moves.specs.Filling.{FilledAll}
-use Rattle.promotion_rounds.specs.RoundMade.{RoundBegins, level-fits, level-few, begins-by, round-places, round-depth, round-query}
+use Rattle.promotion_moves.specs.Dominion.{Dominated}
+use Rattle.promotion_rounds.specs.RoundMade.{RoundBegins, RoundEscapes, level-fits, level-few, begins-by, round-places, round-depth, round-query}
 use Rattle.promotion_rounds.specs.RoundMade.{round-openable, round-descend, opened-same, round-opens, round-fill}
 use Rattle.promotion_rounds.specs.RoundMade.{filled-long, round-escapable, top-fits, round-promotable, promoted-same}
 use Rattle.promotion_rounds.specs.RoundMade.{round-promotes, round-dominion, round-first, solved-same, round-solves}
@@ -86,14 +88,41 @@ filled b = b .before .before .before .before
 abbrev solved : tie.After-descend2 → tie.After-solve-dominion
 solved t = t .before .before .before .before
 
+-- from where the query was made, and from where the escape is known: where the function begins
+abbrev query-start : tie.After-query → tie.Start
+query-start q = begun (placed q)
+
+abbrev query-of : tie.After-best-escape → tie.After-query
+query-of b = asked (told (filled b))
+
+abbrev levels-at-escape : tie.After-best-escape → tie.After-levels-at
+levels-at-escape b = levelled (placed (query-of b))
+
+abbrev escape-start : tie.After-best-escape → tie.Start
+escape-start b = query-start (query-of b)
+
+-- the same from where the first level has begun again
+abbrev escaped : tie.After-descend2 → tie.After-best-escape
+escaped t = solved t .before .before .before
+
+abbrev origin : tie.After-descend2 → tie.Start
+origin t = escape-start (escaped t)
+
+-- the work area once R is drawn in, and once its entries are given
+abbrev drawn : tie.After-query → List ℕ
+drawn q = q .query .last .1 .1 .1 .1 .1 .0
+
+abbrev given : tie.After-assign-missing-strategies → List ℕ
+given f = f .assign-missing-strategies .last .1 .1 .1 .1 .1 .0
+
 -- what the query did
 queried :
     (q : tie.After-query) →
-    let a = begun (placed q) .args in
+    let a = query-start q .args in
     Queried (a .owners .now) (a .priorities .now) (a .offsets .now) (a .targets .now) (a .s) (a .state .current .0) (a .work .now)
-    (q .query .last .1 .1 .1 .1 .1 .0)
+    (drawn q)
 queried q =
-    let g = begun (placed q) in q .query .ensures (g .args .priorities .now) (g .pre .accepted) (g .pre .shows .ready)
+    let g = query-start q in q .query .ensures (g .args .priorities .now) (g .pre .accepted) (g .pre .shows .ready)
 
 held-at-requires : tie.Need-held-at-requires
 held-at-requires c κs =
@@ -165,9 +194,8 @@ query-requires c κs =
 is-open-requires : tie.Need-is-open-requires
 is-open-requires c κs =
     let q = c .before .before .before in
-    let l = placed q in
-    let g = begun l in
-    round-openable (g .pre .accepted) (g .pre .made) (g .pre .shows) (at l) (queried q)
+    let g = query-start q in
+    round-openable (g .pre .accepted) (g .pre .made) (g .pre .shows) (at (placed q)) (queried q)
 
 add-descend : tie.Need-add-descend
 add-descend c =
@@ -180,12 +208,10 @@ one-less-requires c κs = search needs
 descend-requires : tie.Need-descend-requires
 descend-requires c κs =
     let i = c .before .before in
-    let o = i .before in
-    let q = asked o in
-    let l = placed q in
-    let g = begun l in
-    round-descend (g .pre .accepted) (g .pre .made) (g .pre .shows) (at l) (queried q) (o .is-open .ensures) (i .if1 .taken)
-    (c .one-less .ensures)
+    let q = asked (i .before) in
+    let g = query-start q in
+    round-descend (g .pre .accepted) (g .pre .made) (g .pre .shows) (at (placed q)) (queried q) (i .before .is-open .ensures)
+    (i .if1 .taken) (c .one-less .ensures)
 
 same-length : tie.Need-same-length
 same-length c = search needs
@@ -194,19 +220,18 @@ returns : tie.Need-returns
 returns c =
     let d = c .before .before in
     let i = d .before .before .before in
-    let o = i .before in
-    let q = asked o in
-    let l = placed q in
-    let g = begun l in
+    let q = asked (i .before) in
+    let g = query-start q in
     let same =
-    opened-same (g .pre .accepted) (g .pre .made) (g .pre .shows) (at l) (queried q) (o .is-open .ensures) (i .if1 .taken)
-    (d .descend .ensures) in
+    opened-same (g .pre .accepted) (g .pre .made) (g .pre .shows) (at (placed q)) (queried q) (i .before .is-open .ensures)
+    (i .if1 .taken) (d .descend .ensures) in
     record {
       long = same .0;
       counted = refl;
       shown =
           λ k sh.
-          round-opens (g .pre .accepted) k sh (at l) (queried q) (o .is-open .ensures) (i .if1 .taken) (d .descend .ensures);
+          round-opens (g .pre .accepted) k sh (at (placed q)) (queried q) (i .before .is-open .ensures) (i .if1 .taken)
+          (d .descend .ensures);
       rest = same .1;
     }
 
@@ -216,9 +241,8 @@ entries-requires c κs = search needs
 assign-missing-strategies-requires : tie.Need-assign-missing-strategies-requires
 assign-missing-strategies-requires c κs =
     let q = asked (c .before .before .before) in
-    let l = placed q in
-    let g = begun l in
-    rw (c .before .entries .ensures) (round-fill (g .pre .accepted) (g .pre .made) (g .pre .shows) (at l) (queried q))
+    let g = query-start q in
+    rw (c .before .entries .ensures) (round-fill (g .pre .accepted) (g .pre .made) (g .pre .shows) (at (placed q)) (queried q))
 
 -- the missing entries are given
 filling :
@@ -229,58 +253,67 @@ filling :
     FilledAll (a .owners .now) (a .offsets .now) (a .targets .now) (l .index .result)
     (heads l) (levelled l .before .before .held-at .result)
     (entries (length (a .owners .now)) (length (a .targets .now)))
-    (q .query .last .1 .1 .1 .1 .1 .0) (f .assign-missing-strategies .last .1 .1 .1 .1 .1 .0)
+    (drawn q) (given f)
 filling f = rw (f .before .before .entries .ensures) at (f .assign-missing-strategies .ensures)
 
 best-escape-requires : tie.Need-best-escape-requires
 best-escape-requires c κs =
     let f = c .before .before .before in
     let q = asked (told f) in
-    let l = placed q in
-    let g = begun l in
-    round-escapable (g .pre .accepted) (g .pre .made) (g .pre .shows) (at l) (queried q) (filling f)
+    let g = query-start q in
+    round-escapable (g .pre .accepted) (g .pre .made) (g .pre .shows) (at (placed q)) (queried q) (filling f)
 
 -- the entries are filled: the work area is as long as it was
 long2 :
     (f : tie.After-assign-missing-strategies) →
-    length (f .assign-missing-strategies .last .1 .1 .1 .1 .1 .0) ≡
-    length (begun (placed (asked (told f))) .args .work .now)
+    length (given f) ≡ length (query-start (asked (told f)) .args .work .now)
 long2 f =
     let q = asked (told f) in
-    let l = placed q in
-    let g = begun l in
-    filled-long (g .pre .accepted) (g .pre .made) (g .pre .shows) (at l) (queried q) (filling f)
+    let g = query-start q in
+    filled-long (g .pre .accepted) (g .pre .made) (g .pre .shows) (at (placed q)) (queried q) (filling f)
+
+-- R is not open, its entries are given, and the escape is known
+escape :
+    (b : tie.After-best-escape) →
+    let i = placed (query-of b) in
+    let l = levelled i in
+    let a = begun i .args in
+    RoundEscapes (a .owners .now) (a .priorities .now) (a .offsets .now) (a .targets .now) (a .s) (a .state .current .0)
+    (i .index .result) (l .before .before .held-at .result) (l .before .depth-at .result) (l .levels-at .result) (current l)
+    (base-of i .level-at .result) (i .before .before .before .before .level-at2 .result) (heads i) (a .work .now)
+    (drawn (query-of b)) (given (filled b)) (b .best-escape .result)
+escape b =
+    record {
+      begins = at (placed (query-of b));
+      queried = queried (query-of b);
+      filled = filling (filled b);
+      shut = sym (told (filled b) .is-open .ensures) ∙ filled b .before .before .before .if1 .left;
+      found = b .best-escape .ensures;
+    }
 
 -- there is a region to promote to: its priority stands before the levels, and `promote` may run
 fits :
     (c : tie.Then2) →
-    let l = levelled (placed (asked (told (filled (c .before))))) in
+    let l = levels-at-escape (c .before) in
     l .before .depth-at .result + c .before .best-escape .result < l .levels-at .result
 fits c =
-    let b = c .before in
-    let f = filled b in
-    let o = told f in
-    let q = asked o in
-    let l = placed q in
-    let g = begun l in
-    top-fits (g .pre .accepted) (g .pre .made) (g .pre .shows) (at l) (queried q) (filling f)
-    (o .is-open .ensures) (f .before .before .before .if1 .left) (b .best-escape .ensures) (c .if2 .taken)
+    let g = escape-start (c .before) in
+    top-fits (g .pre .accepted) (g .pre .made) (g .pre .shows) (escape (c .before)) (c .if2 .taken)
 
 add-level-at-3 : tie.Need-add-level-at-3
 add-level-at-3 c =
-    let l = levelled (placed (asked (told (filled (c .before))))) in
+    let l = levels-at-escape (c .before) in
     omega (arith, fits c, stands l 0 (omega arith), start-of l .good)
 
 mul-level-at : tie.Need-mul-level-at
 mul-level-at c =
-    let l = levelled (placed (asked (told (filled (c .before))))) in
+    let l = levels-at-escape (c .before) in
     omega (arith, fits c, stands l 0 (omega arith), start-of l .good)
 
 slice-read-level-at : tie.Need-slice-read-level-at
 slice-read-level-at c =
-    let f = filled (c .before .before) in
-    let l = levelled (placed (asked (told f))) in
-    omega (arith, fits (c .before), stands l 0 (omega arith), long2 f)
+    let b = c .before .before in
+    omega (arith, fits (c .before), stands (levels-at-escape b) 0 (omega arith), long2 (filled b))
 
 sub-level-at : tie.Need-sub-level-at
 sub-level-at c = search needs
@@ -288,7 +321,7 @@ sub-level-at c = search needs
 level-at-requires-4 : tie.Need-level-at-requires-4
 level-at-requires-4 c κs =
     let b = c .before .before .before in
-    let l = levelled (placed (asked (told (filled b)))) in
+    let l = levels-at-escape b in
     let g = start-of l in
     let j = b .best-escape .result - 1 in
     let small : l .levels-at .result + j * g .args .s < 2 ^ 64 =
@@ -301,15 +334,8 @@ sub-promote c = search needs
 promote-requires : tie.Need-promote-requires
 promote-requires c κs =
     let i = c .before .before .before in
-    let b = i .before in
-    let f = filled b in
-    let o = told f in
-    let q = asked o in
-    let l = placed q in
-    let g = begun l in
-    round-promotable (g .pre .accepted) (g .pre .made) (g .pre .shows) (at l) (queried q) (filling f)
-    (o .is-open .ensures) (f .before .before .before .if1 .left) (b .best-escape .ensures) (i .if2 .taken)
-    (c .level-at4 .ensures)
+    let g = escape-start (i .before) in
+    round-promotable (g .pre .accepted) (g .pre .made) (g .pre .shows) (escape (i .before)) (i .if2 .taken) (c .level-at4 .ensures)
 
 same-length-2 : tie.Need-same-length-2
 same-length-2 c = search needs
@@ -319,73 +345,51 @@ returns-2 c =
     let e = c .before .before in
     let is = e .before .level-at4 .ensures in
     let i = e .before .before .before .before in
-    let b = i .before in
-    let f = filled b in
-    let o = told f in
-    let q = asked o in
-    let l = placed q in
-    let g = begun l in
+    let g = escape-start (i .before) in
     let done = e .promote .ensures (length (g .args .owners .now)) (g .pre .shows .ready .size) in
     let same =
-    promoted-same (g .pre .accepted) (g .pre .made) (g .pre .shows) (at l) (queried q) (filling f)
-    (o .is-open .ensures) (f .before .before .before .if1 .left) (b .best-escape .ensures) (i .if2 .taken) is done in
+    promoted-same (g .pre .accepted) (g .pre .made) (g .pre .shows) (escape (i .before)) (i .if2 .taken) is done in
     record {
       long = same .0;
       counted = refl;
-      shown =
-          λ k sh.
-          round-promotes (g .pre .accepted) k sh (at l) (queried q) (filling f)
-          (o .is-open .ensures) (f .before .before .before .if1 .left) (b .best-escape .ensures) (i .if2 .taken) is done;
+      shown = λ k sh. round-promotes (g .pre .accepted) k sh (escape (i .before)) (i .if2 .taken) is done;
       rest = same .1;
     }
 
 solve-dominion-requires : tie.Need-solve-dominion-requires
 solve-dominion-requires c κs =
     let b = c .before .before in
-    let f = filled b in
-    let o = told f in
-    let q = asked o in
-    let l = placed q in
-    let g = begun l in
-    round-dominion (g .pre .accepted) (g .pre .made) (g .pre .shows) (at l) (queried q) (filling f)
-    (o .is-open .ensures) (f .before .before .before .if1 .left) (b .best-escape .ensures)
+    let g = escape-start b in
+    round-dominion (g .pre .accepted) (g .pre .made) (g .pre .shows) (escape b)
+
+-- R with what it attracts is solved
+dominated :
+    (e : tie.After-solve-dominion) →
+    let b = e .before .before .before in
+    let l = levels-at-escape b in
+    let a = escape-start b .args in
+    Dominated (a .owners .now) (a .priorities .now) (a .offsets .now) (a .targets .now) (a .s) (a .state .current .0)
+    (l .before .before .held-at .result) (l .levels-at .result) (given (filled b)) (e .solve-dominion .last .1 .1 .1 .1 .1 .0)
+dominated e =
+    let g = escape-start (e .before .before .before) in e .solve-dominion .ensures (g .args .priorities .now) (g .pre .accepted)
 
 descend-requires-2 : tie.Need-descend-requires-2
 descend-requires-2 c κs =
     let e = c .before .before .before in
     let i = e .before .before in
-    let b = i .before in
-    let f = filled b in
-    let o = told f in
-    let q = asked o in
-    let l = placed q in
-    let g = begun l in
-    round-first (g .pre .accepted) (g .pre .made) (g .pre .shows) (at l) (queried q) (filling f)
-    (o .is-open .ensures) (f .before .before .before .if1 .left) (b .best-escape .ensures) (i .if2 .left)
-    (e .solve-dominion .ensures (g .args .priorities .now) (g .pre .accepted))
+    let g = escape-start (i .before) in
+    round-first (g .pre .accepted) (g .pre .made) (g .pre .shows) (escape (i .before)) (i .if2 .left) (dominated e)
 
--- where the function began, from where the first level has begun again
-abbrev origin : tie.After-descend2 → tie.Start
-origin t = begun (placed (asked (told (filled (solved t .before .before .before)))))
-
--- what the work area is then
+-- what the work area is where the first level has begun again
 ready4 :
     (t : tie.After-descend2) →
     let a = origin t .args in
     Ready (length (a .owners .now)) (a .priorities .now) (a .offsets .now) (a .targets .now) (a .s)
     (t .descend2 .last .1 .1 .1 .0)
 ready4 t =
-    let e = solved t in
-    let i = e .before .before in
-    let b = i .before in
-    let f = filled b in
-    let o = told f in
-    let q = asked o in
-    let l = placed q in
-    let g = begun l in
-    solved-ready (g .pre .accepted) (g .pre .made) (g .pre .shows) (at l) (queried q) (filling f)
-    (o .is-open .ensures) (f .before .before .before .if1 .left) (b .best-escape .ensures) (i .if2 .left)
-    (e .solve-dominion .ensures (g .args .priorities .now) (g .pre .accepted)) (t .descend2 .ensures)
+    let g = origin t in
+    solved-ready (g .pre .accepted) (g .pre .made) (g .pre .shows) (escape (escaped t)) (solved t .before .before .if2 .left)
+    (dominated (solved t)) (t .descend2 .ensures)
 
 same4 :
     (t : tie.After-descend2) →
@@ -394,31 +398,27 @@ same4 :
     ((i : ℕ) → endAt (length (a .owners .now)) (length (a .targets .now)) (a .s) ≤ i →
     getD (t .descend2 .last .1 .1 .1 .0) i 0 ≡ getD (a .work .now) i 0)
 same4 t =
-    let e = solved t in
-    let i = e .before .before in
-    let b = i .before in
-    let f = filled b in
-    let o = told f in
-    let q = asked o in
-    let l = placed q in
-    let g = begun l in
-    solved-same (g .pre .accepted) (g .pre .made) (g .pre .shows) (at l) (queried q) (filling f)
-    (o .is-open .ensures) (f .before .before .before .if1 .left) (b .best-escape .ensures) (i .if2 .left)
-    (e .solve-dominion .ensures (g .args .priorities .now) (g .pre .accepted)) (t .descend2 .ensures)
+    let g = origin t in
+    solved-same (g .pre .accepted) (g .pre .made) (g .pre .shows) (escape (escaped t)) (solved t .before .before .if2 .left)
+    (dominated (solved t)) (t .descend2 .ensures)
+
+levels4 :
+    (t : tie.After-descend2) →
+    let a = origin t .args in
+    levels-at-escape (escaped t) .levels-at .result ≡ levelsAt (length (a .owners .now)) (length (a .targets .now)) (a .s)
+levels4 t = escape (escaped t) .begins .levels-is
+
+-- the first level has room
+room4 :
+    (t : tie.After-descend2) →
+    levels-at-escape (escaped t) .levels-at .result + origin t .args .s ≤ length (t .descend2 .last .1 .1 .1 .0)
+room4 t = first-room (ready4 t) (levels4 t)
 
 add-size : tie.Need-add-size
-add-size c =
-    let t = c .before .before in
-    let l = placed (asked (told (filled (solved t .before .before .before)))) in
-    let room = first-room (ready4 t) (at l .levels-is) in
-    omega (arith, room, same4 t .0, origin t .good)
+add-size c = let t = c .before .before in omega (arith, room4 t, same4 t .0, origin t .good)
 
 mul-size : tie.Need-mul-size
-mul-size c =
-    let t = c .before .before in
-    let l = placed (asked (told (filled (solved t .before .before .before)))) in
-    let room = first-room (ready4 t) (at l .levels-is) in
-    omega (arith, room, same4 t .0, origin t .good)
+mul-size c = let t = c .before .before in omega (arith, room4 t, same4 t .0, origin t .good)
 
 sub-size : tie.Need-sub-size
 sub-size c = search needs
@@ -427,16 +427,10 @@ part-size-start : tie.Need-part-size-start
 part-size-start c = search needs
 
 part-size-end : tie.Need-part-size-end
-part-size-end c =
-    let t = c .before .before .before in
-    let l = placed (asked (told (filled (solved t .before .before .before)))) in
-    first-room (ready4 t) (at l .levels-is)
+part-size-end c = room4 (c .before .before .before)
 
 size-requires : tie.Need-size-requires
-size-requires c κs =
-    let t = c .before .before .before .before in
-    let l = placed (asked (told (filled (solved t .before .before .before)))) in
-    left-few (ready4 t) (at l .levels-is)
+size-requires c κs = let t = c .before .before .before .before in left-few (ready4 t) (levels4 t)
 
 same-length-3 : tie.Need-same-length-3
 same-length-3 c = same4 (c .before .before .before .before .before) .0
@@ -444,23 +438,13 @@ same-length-3 c = same4 (c .before .before .before .before .before) .0
 returns-3 : tie.Need-returns-3
 returns-3 c =
     let t = c .before .before .before .before .before in
-    let e = solved t in
-    let i = e .before .before in
-    let b = i .before in
-    let f = filled b in
-    let o = told f in
-    let q = asked o in
-    let l = placed q in
-    let g = begun l in
     record {
       long = same4 t .0;
       counted = refl;
       shown =
           λ k sh.
-          round-solves (g .pre .accepted) k sh (at l) (queried q) (filling f)
-          (o .is-open .ensures) (f .before .before .before .if1 .left) (b .best-escape .ensures) (i .if2 .left)
-          (e .solve-dominion .ensures (g .args .priorities .now) (g .pre .accepted)) (t .descend2 .ensures)
-          (left-counted (ready4 t) (at l .levels-is) (c .size .ensures));
+          round-solves (origin t .pre .accepted) k sh (escape (escaped t)) (solved t .before .before .if2 .left)
+          (dominated (solved t)) (t .descend2 .ensures) (left-counted (ready4 t) (levels4 t) (c .size .ensures));
       rest = same4 t .1;
     }
 
