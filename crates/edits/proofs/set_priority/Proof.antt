@@ -1,18 +1,15 @@
 -- `set_priority` meets its contract: the record's checks, its own, then one priority and the kept numbers.
 use mathlib.Core.List.{List}
-use mathlib.Core.Path.{_≡_, refl, ap, _∙_}
+use mathlib.Core.Path.{_≡_, ap, _∙_}
 use Prim.Native.Nat.{ℕ, _<_}
 use native.Mathlib.Omega.{arith}
 use lib.ListN.{set, getD}
-use Rattle.rules.specs.Outcome.{Verdict, none, answered}
-use Rattle.rules.specs.Record.{Record, Edit, setPriority, recordOf, recordChecks, ownChecks, changed}
-use Rattle.parity_game.specs.Said.{said}
-use Rattle.parity_game.proofs.Matched.{went-on, stopped, refusal-not-zero}
+use Rattle.rules.specs.Outcome.{none}
+use Rattle.rules.specs.Record.{Record, Edit, setPriority, recordOf, recordChecks}
 use Rattle.theory.specs.Edits.{Roomy, passing}
-use Rattle.record.specs.Laws.{numbered-record}
-use Rattle.edits.specs.Laws.{ownAsks, numbered-own, own-none, asks-priority}
-use Rattle.edits.specs.Laws.{refused-record, refused-own, edit-made, movable, recounted}
+use Rattle.edits.specs.Laws.{asks-priority, movable, recounted}
 use Rattle.kept_numbers.specs.Steps.{Movable}
+use Rattle.edits.proofs.Checked.{OwnAsked, record-passes, record-refuses, own-passes, own-refuses, own-makes}
 use borrow.Author.Needs.{needs}
 use Rattle.edits.proofs.set_priority.Statement.{statement}
 use Rattle.edits.proofs.set_priority.Tie as tie
@@ -31,8 +28,9 @@ lent c =
 abbrev asked : tie.Start → Edit
 asked c = setPriority (c .args .vertex) (c .args .priority)
 
-abbrev own : tie.Start → Verdict
-own c = ownAsks (c .args .n) (c .args .vertex) (c .args .priority) 256 42
+-- what it asks of its own
+own-asked : (c : tie.Start) → OwnAsked (asked c) (lent c) (c .args .n) (c .args .vertex) (c .args .priority) 256 42
+own-asked c = record { asks = asks-priority (c .args .vertex) (c .args .priority) (lent c); numbered = omega arith }
 
 abbrev start1 : tie.Else1 → tie.Start
 start1 c = c .before .before .before .before .before .before .before .before .before .before
@@ -44,19 +42,12 @@ start2 c = start1 (c .before .before .before)
 checked : (c : tie.Else1) → recordChecks (lent (start1 c)) ≡ none
 checked c =
     let called = c .before .before .check-record in
-    let r = lent (start1 c) in
-    went-on (called .result) (recordChecks r) (c .if1 .left) (c .before .number .ensures) (numbered-record r) (called .ensures)
-
-own-passes : (c : tie.Else2) → own (start2 c) ≡ none
-own-passes c =
-    let called = c .before .before .check-own in
-    let at = start2 c in
-    went-on (called .result) (own at) (c .if2 .left) (c .before .number2 .ensures)
-    (numbered-own (at .args .n) (at .args .vertex) (at .args .priority) 256 42 (omega arith))
-    (called .ensures)
+    record-passes (lent (start1 c)) (called .result) (c .before .number .ensures) (called .ensures) (c .if1 .left)
 
 there : (c : tie.Else2) → let at = start2 c in (at .args .vertex < (at .args .n)) × (at .args .priority < 256)
-there c = let at = start2 c in own-none (at .args .n) (at .args .vertex) (at .args .priority) 256 42 (own-passes c)
+there c =
+    let called = c .before .before .check-own in
+    own-passes (own-asked (start2 c)) (called .result) (c .before .number2 .ensures) (called .ensures) (c .if2 .left)
 
 room : (c : tie.Else2) → Roomy (lent (start2 c))
 room c = passing (lent (start2 c)) (checked (c .before .before .before)) .room
@@ -86,11 +77,7 @@ returns : tie.Need-returns
 returns c =
     let called = c .before .before .check-record in
     let at = c .before .before .before .before .before .before .before .before .before .before in
-    let r = lent at in
-    refused-record (asked at) r (said (called .result))
-    (stopped (called .result) (recordChecks r) (ownChecks (asked at) r) (answered 0) (c .if1 .taken) (c .before .number .ensures)
-    (called .ensures))
-    (refusal-not-zero (called .result) (c .if1 .taken) (c .before .number .ensures))
+    record-refuses (lent at) (called .result) (c .before .number .ensures) (called .ensures) (asked at) (c .if1 .taken)
 
 check-own-requires : tie.Need-check-own-requires
 check-own-requires c κs = search needs
@@ -107,11 +94,9 @@ same-length-4 c = search needs
 returns-2 : tie.Need-returns-2
 returns-2 c =
     let called = c .before .before .check-own in
-    let at = c .before .before .before .before .before .before .before .before .before .before .before .before .before in
-    refused-own (asked at) (lent at) (said (called .result)) (own at) (checked (c .before .before .before))
-    (asks-priority (at .args .vertex) (at .args .priority) (lent at))
-    (called .ensures)
-    (refusal-not-zero (called .result) (c .if2 .taken) (c .before .number2 .ensures))
+    let passed = c .before .before .before in
+    own-refuses (own-asked (start1 passed)) (called .result) (c .before .number2 .ensures) (called .ensures) (checked passed)
+    (c .if2 .taken)
 
 mul-recount : tie.Need-mul-recount
 mul-recount c = record { fits = omega (arith, there (c .before) .0, room (c .before) .few-vertices) }
@@ -147,15 +132,8 @@ returns-3 c =
     let counted = c .before .before .recount in
     let args = at .args in
     let ok = checked (past .before .before .before) in
-    edit-made (asked at) (lent at)
-    (recordOf (args .n) (args .m) (args .owners .now) (set (args .priorities .now) (args .vertex) (args .priority))
-    (args .offsets .now)
-    (args .targets .now)
-    (counted .last .0))
-    (own at)
-    ok
-    (asks-priority (args .vertex) (args .priority) (lent at))
-    (own-passes past)
+    let called = past .before .before .check-own in
+    own-makes (own-asked at) (called .result) (past .before .number2 .ensures) (called .ensures) ok (past .if2 .left)
     (ap
     (λ (ks : List ℕ).
     recordOf (args .n) (args .m) (args .owners .now) (set (args .priorities .now) (args .vertex) (args .priority))

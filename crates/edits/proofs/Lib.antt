@@ -1,0 +1,2 @@
+-- What the proofs of the three edits use.
+pub mod Checked
