@@ -3,7 +3,7 @@
 use mathlib.Core.Bool.{Bool, true, false, _&&_, not, cond, and-false}
 use mathlib.Core.List.{List}
 use mathlib.Core.Logic.{_⊎_, inl, inr, ⊎-elim}
-use mathlib.Core.Path.{_≡_, refl, sym, ap, ap₂, subst, _∙_}
+use mathlib.Core.Path.{_≡_, refl, sym, ap, ap₂, _∙_}
 use Prim.Native.Nat.{ℕ, suc, _+_, _≤_, _<_}
 use native.Mathlib.Nat.{le-refl}
 use native.Mathlib.Omega.{arith}
@@ -24,13 +24,12 @@ use Rattle.area.specs.Area.{entries, free, setAt, wordsAt}
 use Rattle.area.specs.SetsAt.{set-kept}
 use Rattle.attractor.specs.Attracted.{Nested, Attractable, Attracted, listed-kept}
 use Rattle.priority_sets.specs.Sorting.{SetsOf, PriorityPlaceable, setOfPriority, set-room}
-use Rattle.priority_sets.specs.Meeting.{Meets, Met, met-set}
 use Rattle.promotion_levels.specs.Nesting.{regionOf, Nesting, inside-all, falls-all}
 use Rattle.promotion_levels.specs.Nesting.{drawn-nests, drawn-region, drawn-proper}
 use Rattle.promotion_levels.specs.Layout.{heldAt, wonAt, depthAt, topsAt, levelsAt, levelAt, endAt, depthIn, topIn, levelIn, heldIn, regionIn, entryIn, Ready}
 use Rattle.promotion_levels.specs.Places.{next-level, level-apart, level-kept, sets-kept, upTo-is, at-region-is}
 use Rattle.promotion_levels.specs.Pulled.{Pulled, pulled-as, attract-pulled}
-use Rattle.promotion_levels.specs.Without.{WithoutAt}
+use Rattle.set_difference.specs.Without.{WithoutAt, CommonAt}
 
 -- what `query` asks for: the tables are accepted with some priorities, p is the current level's, and its set stands at `base`
 pub record QueryReady (owners offsets targets : List ℕ) (s p held base : ℕ) (work : List ℕ) : Type 0 where
@@ -202,14 +201,14 @@ module _ (owners priorities : List ℕ) {offsets targets : List ℕ} (ok : Accep
       level1 : (j v : ℕ) → levelIn n m s w1 j v ≡ L j v
       level1 j = level-kept n m s j w0 w1 (λ i low high. same1 i (omega arith) (inr (omega arith)))
 
-      module _ {wl w2 : List ℕ} (lost : WithoutAt n Y X H w1 wl) (c2 : Met Z H O s wl w2) where
+      module _ {wl w2 : List ℕ} (lost : WithoutAt n Y X H w1 wl) (c2 : CommonAt n Z H O wl w2) where
         long2 : length w2 ≡ length w0
         long2 = c2 .long ∙ lost .long ∙ c1 .long
 
         -- words that neither R, nor the level after, nor the heads are
         same2 : (i : ℕ) → (i < Y) ⊎ (Z + s ≤ i) → getD w2 i 0 ≡ getD w1 i 0
         same2 i (inl l) = c2 .rest i (inl (omega (arith, y-is, z-is))) ∙ lost .rest i (inl l)
-        same2 i (inr l) = c2 .rest i (inr l) ∙ lost .rest i (inr (omega (arith, size, y-is, z-is)))
+        same2 i (inr l) = c2 .rest i (inr (omega (arith, size))) ∙ lost .rest i (inr (omega (arith, size, y-is, z-is)))
 
         low2 : (i : ℕ) → free n m ≤ i → (i < H) ⊎ (H + s ≤ i) → i < Y → getD w2 i 0 ≡ getD w0 i 0
         low2 i low o l = same2 i (inl l) ∙ same1 i low o
@@ -338,7 +337,7 @@ module _ (owners priorities : List ℕ) {offsets targets : List ℕ} (ok : Accep
 
         heads2 : (v : ℕ) → setAt n Z w2 v ≡ (R v && eqb (getD priorities v 0) p)
         heads2 v =
-            met-set n (subst (λ (j : ℕ). Met Z H O j wl w2) size c2) v ∙
+            c2 .made v ∙
             ap₂ (λ (x y : Bool). x && y)
             (sym (set-kept n H wl w2 (λ i low high. c2 .rest i (inl (omega (arith, size, y-is, z-is)))) v))
             (sym (set-kept n O wl w2 (λ i low high. c2 .rest i (inl (omega (arith, size, o-low, z-is)))) v) ∙ sorted2 p v p-small) ∙
@@ -404,7 +403,7 @@ module _ {owners offsets targets : List ℕ} {s p held base : ℕ} {w0 : List �
         rw (q .base-is, q .held-is)
         (attract-ready owners (q .priorities) (q .accepted) (q .ready) room-behind side)
 
-    -- the places of `without`
+    -- the places of `without` and `meet`
     pub given-fits : (base + s + s + s ≤ length w0) × (held + s ≤ base)
     given-fits =
         let high = z-high owners (q .priorities) (q .accepted) (q .ready) room-behind in
@@ -421,18 +420,13 @@ module _ {owners offsets targets : List ℕ} {s p held base : ℕ} {w0 : List �
           small = rw (q .current) (p-small owners (q .priorities) (q .accepted) (q .ready) room-behind);
         }
 
-    pub given-meets :
-        {of : ℕ} {work : List ℕ} → of ≡ setOfPriority (words (length owners)) (free (length owners) (length targets)) p →
-        length work ≡ length w0 → Meets (base + s + s) held of s work
-    given-meets {of} is long =
+    -- the set of priority p stands below R
+    pub given-low : {of : ℕ} → of ≡ setOfPriority (words (length owners)) (free (length owners) (length targets)) p → of + s ≤ held
+    given-low {of} is =
         let low = o-low owners (q .priorities) (q .accepted) (q .ready) room-behind in
         let at : of ≡ setOfPriority (words n′) (free n′ m′) (topIn n′ m′ s w0 (depthIn n′ m′ s w0)) =
         is ∙ ap (setOfPriority (words n′) (free n′ m′)) (q .current) in
-        record {
-          one-below = omega (arith, given-fits .1);
-          other-below = omega (arith, given-fits .1, q .held-is);
-          high = omega (arith, given-fits .0);
-        }
+        omega (arith, q .held-is)
 
     module _ (priorities : List ℕ) (ok : Accepted (tablesOf owners priorities offsets targets))
         (ready : Ready (length owners) priorities offsets targets s w0) {w1 w2 w3 : List ℕ} {a : Player} {looks of : ℕ}
@@ -442,10 +436,11 @@ module _ {owners offsets targets : List ℕ} {s p held base : ℕ} {w0 : List �
             Attracted (tablesOf owners priorities offsets targets) a base held w0 w1 looks →
             ((n : ℕ) → s ≡ words n → WithoutAt n (base + s) base held w1 w2) →
             of ≡ setOfPriority (words (length owners)) (free (length owners) (length targets)) p →
-            Met (base + s + s) held of s w2 w3 →
+            ((n : ℕ) → s ≡ words n → CommonAt n (base + s + s) held of w2 w3) →
             Queried owners priorities offsets targets s p w0 w3
         given-queried own c1 c2 is c3 =
             let drawn = rw (own, q .current, q .base-is, q .held-is) at c1 in
             let made = rw (q .base-is, q .held-is, ← y-is owners priorities ok ready room-behind) at (c2 (length owners) (ready .size)) in
-            let met = rw (q .base-is, q .held-is, is, q .current, ← z-is owners priorities ok ready room-behind) at c3 in
+            let both = c3 (length owners) (ready .size) in
+            let met = rw (q .base-is, q .held-is, is, q .current, ← z-is owners priorities ok ready room-behind) at both in
             rw (q .current) (queried owners priorities ok ready room-behind drawn made met)

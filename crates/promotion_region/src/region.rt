@@ -31,7 +31,7 @@ pub fn query(
 {
     let alpha = Player::from_priority(p).index();
     attractor::attract(owners, offsets, targets, alpha, work, base, held);
-    promotion_levels::without(s, work, base + s, base, held);
+    set_difference::without(s, work, base + s, base, held);
     let of = priority_sets::set_at(owners.len(), targets.len(), s, p.0);
-    priority_sets::meet(work, base + s + s, held, of, s);
+    set_difference::meet(s, work, base + s + s, held, of);
 }

@@ -1,3 +1,3 @@
--- What the pass over the words asks for and leaves.
+-- What the passes over the words ask for and leave: one law for both.
 -- contracts: what the functions ask for and leave
 pub mod Without

@@ -1,5 +1,5 @@
-// One set without another, made in one pass at a third place. All three are parts of one slice, of `s` words each: the
-// solvers keep all their sets in one work area.
+// A third set made of two in one pass: the one without the other, or what both have. All three are parts of one slice,
+// of `s` words each: the solvers keep all their sets in one work area.
 mod difference;
 
 pub use difference::meet;

@@ -3,7 +3,7 @@ use mathlib.Core.Logic.{inr}
 use native.Mathlib.Omega.{arith}
 use mathlib.Core.Path.{_∙_}
 use lib.ListN.{length}
-use Rattle.promotion_region.specs.Query.{given-attract, given-fits, given-place, given-meets, given-queried}
+use Rattle.promotion_region.specs.Query.{given-attract, given-fits, given-place, given-low, given-queried}
 use borrow.Author.Needs.{needs}
 use Rattle.promotion_region.proofs.region.query.Statement.{statement}
 use Rattle.promotion_region.proofs.region.query.Tie as tie
@@ -63,9 +63,14 @@ meet-requires c κs =
     let drawn = drawn-of lost in
     let g = start-of drawn in
     let q = g .pre in
-    given-meets q (c .before .set-at .ensures)
-    (lost .without .ensures (length (g .args .owners .now)) (q .ready .size) .long ∙
-    drawn .attract .ensures (q .priorities) (q .accepted) .long)
+    let fits = given-fits q in
+    let low = given-low q (c .before .set-at .ensures) in
+    let long =
+    lost .without .ensures (length (g .args .owners .now)) (q .ready .size) .long ∙
+    drawn .attract .ensures (q .priorities) (q .accepted) .long in (
+      record { into-fits = omega arith; from-fits = omega arith; apart = inr (omega arith) },
+      record { into-fits = omega arith; from-fits = omega arith; apart = inr (omega arith) },
+    )
 
 same-length : tie.Need-same-length
 same-length c = search needs
