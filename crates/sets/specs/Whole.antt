@@ -3,11 +3,13 @@ use mathlib.Core.Bool.{true, false, not, cond}
 use mathlib.Core.List.{List}
 use mathlib.Core.Logic.{_⊎_, inl, inr}
 use mathlib.Core.Path.{_≡_, refl, sym, ap, ap₂, _∙_}
-use Prim.Native.Nat.{ℕ, zero, suc, _+_, _*_, _/_, _%_, _^_, _<_}
+use Prim.Native.Nat.{ℕ, zero, suc, _+_, _*_, _/_, _%_, _^_, _≤_, _<_}
 use native.Mathlib.Nat.{mod-one}
 use native.Mathlib.Numerals.{add-one}
+use native.Mathlib.Decide.{ℕ-discrete}
 use native.Mathlib.Omega.{arith}
-use borrow.Author.Tests.{eqb-true, eqb-false, eq-eqb}
+use borrow.Author.Tests.{eqb-true, eqb-false, eq-eqb, ne-eqb}
+use lib.Bits.{bitOr, or-add-and, and-le-l, and-le-r}
 use lib.Count.{ones, ones-step}
 use lib.Dec.{eqb, lit<}
 use lib.ListN.{length, getD}
@@ -50,6 +52,45 @@ not-empty xs i l small h = go (bool-cases (some (64 * length xs) (setOf xs)))
         zeros k m =
             let clear = eqb-false (bit xs (64 * i + k)) 1 (some-false (64 * length xs) (setOf xs) e (64 * i + k) (omega arith)) in
             omega (arith, clear, bit-at xs i k m, bit-lt xs (64 * i + k), digit-zero k)
+
+-- words whose | is 0 are 0
+pub or-none : (a b : ℕ) → bitOr a b ≡ 0 → (a ≡ 0) × (b ≡ 0)
+or-none a b e = (omega (arith, or-add-and a b, and-le-r a b, e), omega (arith, or-add-and a b, and-le-l a b, e))
+
+-- the | of the first i words: 0 where they are all 0, and else one is not
+pub record AnyOf (xs : List ℕ) (i any : ℕ) : Type 0 where
+  pub none : any ≡ 0 → (k : ℕ) → k < i → getD xs k 0 ≡ 0
+  pub some : (any ≡ 0 → ⊥) → (k : ℕ) × (k < i) × (getD xs k 0 < 2 ^ 64) × (getD xs k 0 ≡ 0 → ⊥)
+
+pub any-none : {xs : List ℕ} → AnyOf xs 0 0
+any-none = record { none = λ e k l. absurd (omega arith); some = λ d. absurd (d refl) }
+
+pub any-more : {xs : List ℕ} {i any : ℕ} → getD xs i 0 < 2 ^ 64 → AnyOf xs i any → AnyOf xs (i + 1) (bitOr any (getD xs i 0))
+any-more {xs} {i} {any} small a =
+    record {
+      none = λ e k l. let (old, new) = or-none any (getD xs i 0) e in zero-at old new k l (ℕ-discrete k i);
+      some = λ d. found d (ℕ-discrete any 0);
+    }
+  where
+    zero-at : any ≡ 0 → getD xs i 0 ≡ 0 → (k : ℕ) → k < i + 1 → Dec (k ≡ i) → getD xs k 0 ≡ 0
+    zero-at old new k l (yes e) = ap (λ (j : ℕ). getD xs j 0) e ∙ new
+    zero-at old new k l (no d) = a .none old k (omega (arith, d))
+
+    found :
+        (bitOr any (getD xs i 0) ≡ 0 → ⊥) → Dec (any ≡ 0) →
+        (k : ℕ) × (k < i + 1) × (getD xs k 0 < 2 ^ 64) × (getD xs k 0 ≡ 0 → ⊥)
+    found d (yes e) = (i, omega arith, small, λ z. d (ap₂ bitOr e z))
+    found d (no e) = let (k, l, fits, some) = a .some e in (k, omega arith, fits, some)
+
+-- so it tells whether no bit is set
+pub any-tells :
+    {xs : List ℕ} {i any : ℕ} → AnyOf xs i any → i ≤ length xs → length xs ≤ i →
+    eqb any 0 ≡ not (some (64 * length xs) (setOf xs))
+any-tells {xs} {i} {any} a most all = go (ℕ-discrete any 0)
+  where
+    go : Dec (any ≡ 0) → eqb any 0 ≡ not (some (64 * length xs) (setOf xs))
+    go (yes e) = eq-eqb any 0 e ∙ empty xs (λ k l. a .none e k (omega arith))
+    go (no d) = let (k, l, fits, some-bit) = a .some d in ne-eqb any 0 d ∙ not-empty xs k (omega arith) fits some-bit
 
 -- all words are equal
 pub alike : (xs ys : List ℕ) → ((i : ℕ) → i < length xs → getD xs i 0 ≡ getD ys i 0)

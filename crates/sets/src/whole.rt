@@ -7,15 +7,15 @@ ghost use Rattle.rules.specs.Counting.{some};
 ghost use Rattle.rules.specs.Words.{setOf};
 ghost use Rattle.sets.specs.Size.{size};
 
+// A pass that is not left early: the compiler makes vector code of it.
 pub fn is_empty(set: &[u64]) -> bool
     ensures { λ r. ⌜ r ≡ not (some (64 * length (now (set .entry))) (setOf (now (set .entry)))) ⌝ }
 {
+    let mut any: u64 = 0;
     for i in 0..set.len() {
-        if set[i] != 0 {
-            return false;
-        }
+        any |= set[i];
     }
-    true
+    any == 0
 }
 
 // The number of members, by the ones of each word.

@@ -7,13 +7,14 @@ use native.Mathlib.Decide.{ℕ-discrete}
 use native.Mathlib.Nat.{add-zero}
 use native.Mathlib.Numerals.{add-one}
 use native.Mathlib.Omega.{arith}
-use lib.Bits.{bitAnd, bitOr, and-step, and-self, and-le-l, and-le-r, or-add-and}
+use lib.Bits.{bitAnd, bitOr, and-step, and-self}
 use lib.Count.{trailingZeros, under}
 use lib.Dec.{eqb}
 use lib.ListN.{length, getD, drop, length-take, length-drop, drop-of-length-le, List·getD-eq-default}
 use lib.Seq.{drop-cons, getD-take, getD-drop}
 use Rattle.rules.specs.Words.{digit}
 use Rattle.sets.specs.Digits.{digit-low, digit-up, digit-zero}
+use Rattle.sets.specs.Whole.{or-none}
 use Rattle.walk.specs.Walk.{wordsFrom, ofWord, ofWords, members, left}
 
 -- the digits of the half, one place lower
@@ -82,10 +83,6 @@ ofWord-lowest base w (suc d) h n = go (ofWord-lowest (suc base) (w / 2) d) (ℕ-
         low-odd base w d odd
         ∙ ap₂ _∷_ (sym (add-zero base) ∙ ap (λ (x : ℕ). base + under x (trailingZeros d (w / 2))) (sym odd))
         (ap (λ (x : ℕ). ofWord (suc base) x 0 d) (sym (and-self (w / 2))) ∙ others (w / 2) (omega arith))
-
--- words whose | is 0 are 0
-or-none : (a b : ℕ) → bitOr a b ≡ 0 → (a ≡ 0) × (b ≡ 0)
-or-none a b e = (omega (arith, or-add-and a b, and-le-r a b, e), omega (arith, or-add-and a b, and-le-l a b, e))
 
 -- a walk begins before the first word's bits
 pub left-start : (xs : List ℕ) → left xs (record { at = 0; word = getD xs 0 0 }) ≡ members xs

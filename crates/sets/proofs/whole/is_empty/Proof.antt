@@ -1,34 +1,25 @@
--- `is_empty`: each word passed is 0. A word that is not 0 has a bit set.
-use Prim.Native.Nat.{ℕ, _≤_, _<_, _-_}
-use native.Mathlib.Nat.{lt-of-lt-of-le}
-use mathlib.Core.Path.{_≡_}
-use borrow.Author.Count.{below-more}
+-- `is_empty`: the | of all words is 0 where no bit is set. A word that is not 0 has a bit set.
+use Prim.Native.Nat.{_≤_, _-_}
+use native.Mathlib.Omega.{arith}
 use borrow.Author.Needs.{needs}
-use lib.ListN.{getD}
-use Rattle.sets.specs.Whole.{empty, not-empty}
+use Rattle.sets.specs.Whole.{AnyOf, any-none, any-more, any-tells}
 use Rattle.sets.proofs.whole.is_empty.Statement.{statement}
 use Rattle.sets.proofs.whole.is_empty.Tie as tie
 
 abbrev Inv-loop : tie.InvT-loop
-Inv-loop set i₀ i-end i = (i ≤ i-end) × ((k : ℕ) → k < i → getD set k 0 ≡ 0)
+Inv-loop set any₀ i₀ i-end any i = (i ≤ i-end) × AnyOf set i any
 
 abbrev μ-loop : tie.MeasureT-loop
-μ-loop set i₀ i-end i = i-end - i
+μ-loop set any₀ i₀ i-end any i = i-end - i
 
 loop-holds : tie.Need-loop-holds Inv-loop μ-loop
-loop-holds c = search needs
+loop-holds c = (omega arith, any-none)
 
-mul-if1 : tie.Need-mul-if1 Inv-loop μ-loop
-mul-if1 c = search needs
+mul-any : tie.Need-mul-any Inv-loop μ-loop
+mul-any c = search needs
 
-shared-slice-read-if1 : tie.Need-shared-slice-read-if1 Inv-loop μ-loop
-shared-slice-read-if1 c = search needs
-
-returns : tie.Need-returns Inv-loop μ-loop
-returns c =
-    let xs = c .before .before .before .before .args .set .now in
-    let i = c .before .before .before .loop .i in
-    not-empty xs i (c .before .before .loop-test .taken) (c .before .shared-slice-known .given i .fits) (c .if1 .taken)
+shared-slice-read-any : tie.Need-shared-slice-read-any Inv-loop μ-loop
+shared-slice-read-any c = search needs
 
 add-i : tie.Need-add-i Inv-loop μ-loop
 add-i c = search needs
@@ -37,23 +28,14 @@ loop-less : tie.Need-loop-less Inv-loop μ-loop
 loop-less c = search needs
 
 loop-again : tie.Need-loop-again Inv-loop μ-loop
-loop-again c = (search needs, below-more _ _ (c .before .before .before .loop .inv .1) (c .if1 .left))
+loop-again c = (omega (arith, c .before .loop-test .taken), any-more (c .shared-slice-known .given (c .before .before .loop .i) .fits) (c .before .before .loop .inv .1))
 
-returns-2 : tie.Need-returns-2 Inv-loop μ-loop
-returns-2 c =
-    empty (c .before .before .args .set .now) (λ k l. c .before .loop .inv .1 k (lt-of-lt-of-le l (c .loop-test .left)))
+returns : tie.Need-returns Inv-loop μ-loop
+returns c =
+    let d = c .before .loop .inv in
+    any-tells (d .1) (d .0) (c .loop-test .left)
 
 pub is-empty-spec : {M : Type 1} → statement M
 is-empty-spec =
     tie.close
-    (tie.spec
-    Inv-loop
-    μ-loop
-    loop-holds
-    mul-if1
-    shared-slice-read-if1
-    returns
-    add-i
-    loop-less
-    loop-again
-    returns-2)
+    (tie.spec Inv-loop μ-loop loop-holds mul-any shared-slice-read-any add-i loop-less loop-again returns)
