@@ -224,6 +224,12 @@ module _ {owners offsets targets : List ℕ} {alpha : ℕ} {R : Set} {L : ℕ �
   pub highest-start : HighestSoFar owners offsets targets alpha R L k 0
   highest-start = record { top = omega arith; reached = inl refl }
 
+  -- no level below k is higher
+  pub highest-full :
+      {r : ℕ} → HighestSoFar owners offsets targets alpha R L k r → r ≡ k → HighestLevel owners offsets targets alpha R L k r
+  highest-full c all =
+      record { top = c .top; reached = c .reached; most = λ u member other w m out j less here. omega arith }
+
   -- one vertex of the opponent's more
   pub highest-further :
       {v best r : ℕ} →

@@ -54,7 +54,7 @@ fn best_of(
 }
 
 // One more than the highest level below k that a target, outside level k, of an opponent's vertex of R lies in; 0 if
-// there is none.
+// there is none. Where k is reached there is no higher one, and R is not gone through further: in level 0 not at all.
 pub fn best_escape(
     owners: &[u8],
     offsets: &[u16],
@@ -75,6 +75,9 @@ pub fn best_escape(
     let mut highest = 0;
     let mut walk = Members::new(work, held, s);
     loop {
+        if highest == k {
+            return highest;
+        }
         let next = walk.next(work, held, s);
         let Next::Member(index, rest) = next else {
             return highest;

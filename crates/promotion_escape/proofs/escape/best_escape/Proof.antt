@@ -9,7 +9,7 @@ use Rattle.area.specs.Area.{wordsAt, setAt}
 use Rattle.area.specs.Walked.{Passed, passes, passed-weaker, Reached, walked-none, walked-few, walked-all, walked-next}
 use Rattle.promotion_escape.specs.Escapes.{escape-walkable, levelFrom, levels-same, looks-ready}
 use Rattle.promotion_escape.specs.Highest.{NoneFrom, HighestSoFar, HighestOf}
-use Rattle.promotion_escape.specs.Highest.{outside-later, highest-start, highest-further, highest-done}
+use Rattle.promotion_escape.specs.Highest.{outside-later, highest-start, highest-full, highest-further, highest-done}
 use borrow.Author.Needs.{needs}
 use Rattle.promotion_escape.proofs.escape.best_escape.Statement.{statement}
 use Rattle.promotion_escape.proofs.escape.best_escape.Tie as tie
@@ -30,7 +30,7 @@ abbrev start-of : tie.At-loop Inv-loop μ-loop → tie.Start Inv-loop μ-loop
 start-of c = c .before .before .before .before .before .before
 
 abbrev turn : tie.After-next2 Inv-loop μ-loop → tie.At-loop Inv-loop μ-loop
-turn c = c .before .before .before
+turn c = c .before .before .before .before
 
 abbrev first : tie.After-next2 Inv-loop μ-loop → tie.Start Inv-loop μ-loop
 first c = start-of (turn c)
@@ -56,7 +56,8 @@ loop-holds c =
     (highest-start, walked-none (escape-walkable (g .pre .escapes)) tt (c .new .ensures))
 
 next-requires : tie.Need-next-requires Inv-loop μ-loop
-next-requires c κs = walked-few (escape-walkable (start-of c .pre .escapes)) (c .loop .inv .1)
+next-requires c κs =
+    let d = c .before in walked-few (escape-walkable (start-of d .pre .escapes)) (d .loop .inv .1)
 
 enum-known-next : tie.Need-enum-known-next Inv-loop μ-loop
 enum-known-next c = search needs
@@ -65,14 +66,17 @@ enum-told : tie.Need-enum-told Inv-loop μ-loop
 enum-told c = search needs
 
 returns : tie.Need-returns Inv-loop μ-loop
-returns c =
-    let d = c .before .before .before in
+returns c = highest-full (c .before .loop .inv .0) (c .if1 .taken)
+
+returns-2 : tie.Need-returns-2 Inv-loop μ-loop
+returns-2 c =
+    let d = c .before .before .before .before in
     let g = start-of d in
     highest-done (g .pre .nested) (d .loop .inv .0)
     (walked-all (escape-walkable (g .pre .escapes)) (d .loop .inv .1) (c .before .before .next .ensures) (c .enum-told .given .1) .inside)
 
-shared-slice-read-if1 : tie.Need-shared-slice-read-if1 Inv-loop μ-loop
-shared-slice-read-if1 c = reached (c .before .before) .small
+shared-slice-read-if2 : tie.Need-shared-slice-read-if2 Inv-loop μ-loop
+shared-slice-read-if2 c = reached (c .before .before) .small
 
 best-of-requires : tie.Need-best-of-requires Inv-loop μ-loop
 best-of-requires c κs =
@@ -93,7 +97,7 @@ loop-again c =
     let Of : (ℕ → Set) → Type 0 = λ L. HighestOf (a .offsets .now) (a .targets .now) L (a .k) (vertex d) best r in
     let here = subst Of same (c .best-of .ensures) in
     let L = levelFrom (length (a .owners .now)) (a .s) (a .levels) (a .work .now) in (
-      highest-further (turn d .loop .inv .0) (reached d .member) (c .before .if1 .taken) here,
+      highest-further (turn d .loop .inv .0) (reached d .member) (c .before .if2 .taken) here,
       walked-next (escape-walkable (g .pre .escapes))
           (passed-weaker {Q = NoneFrom (a .owners .now) (a .offsets .now) (a .targets .now) (a .alpha) L (a .k) r}
           (λ u none other w m out. outside-later (g .pre .nested) best r w (here .up) (here .top) (none other w m out))
@@ -107,7 +111,7 @@ loop-less-2 c = reached (c .before .before .before) .shorter
 loop-again-2 : tie.Need-loop-again-2 Inv-loop μ-loop
 loop-again-2 c =
     let d = c .before .before .before in
-    (turn d .loop .inv .0, reached d .more (passes (λ other w m out. absurd (other (c .if1 .left)))))
+    (turn d .loop .inv .0, reached d .more (passes (λ other w m out. absurd (other (c .if2 .left)))))
 
 pub best-escape-spec : {M : Type 1} → statement M
 best-escape-spec =
@@ -117,11 +121,12 @@ best-escape-spec =
     μ-loop
     new-requires
     loop-holds
+    returns
     next-requires
     enum-known-next
     enum-told
-    returns
-    shared-slice-read-if1
+    returns-2
+    shared-slice-read-if2
     best-of-requires
     loop-less
     loop-again
