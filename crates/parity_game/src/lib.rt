@@ -44,7 +44,6 @@ pub use limits::MOST_VERTICES;
 pub use limits::NO_DISTANCE;
 pub use limits::NO_ENTRY;
 pub use limits::PRIORITIES;
-pub use limits::TOP;
 pub use player::Player;
 pub use player::Priority;
 pub use player::VertexIndex;

@@ -6,8 +6,6 @@ pub const MOST_EDGES: usize = 16384;
 // As a table of priorities has it, and as a plain number.
 pub const HIGHEST_PRIORITY: u16 = 255;
 
-pub const TOP: usize = 255;
-
 // How many priorities there are, 0 among them.
 pub const PRIORITIES: usize = 256;
 

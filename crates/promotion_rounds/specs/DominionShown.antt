@@ -19,7 +19,7 @@ use Rattle.basics.specs.Basics.{clash, not-true-is-false, and-left, and-right}
 use Rattle.theory.specs.PromotionEntries.{mover, RoundEntries}
 use Rattle.theory.specs.PromotionTable.{nextAbove, some-way-read}
 use Rattle.area.specs.Area.{setAt}
-use Rattle.promotion_levels.specs.Layout.{heldAt, wonAt, depthAt, levelsAt, levelAt, depthIn, levelIn, heldIn, regionIn, entryIn, Ready}
+use Rattle.promotion_levels.specs.Layout.{heldAt, wonAt, depthAt, levelsAt, levelAt, depthIn, levelIn, heldIn, regionIn, entryIn, Ready, topIn}
 use Rattle.promotion_escape.specs.Highest.{HighestLevel}
 use Rattle.promotion_escape.specs.ByRegions.{regionBefore}
 use Rattle.promotion_rounds.specs.Shown.{Shows}
@@ -29,7 +29,7 @@ use Rattle.basics.specs.Greatest.{greatest-bounds, greatest-le, greatest-cong}
 use Rattle.theory.specs.PromotionBasics.{atRegion, at-is}
 use Rattle.theory.specs.PromotionEntries.{solves}
 use Rattle.theory.specs.PromotionTable.{table-solves, solved-entries-read}
-use Rattle.accepted.specs.Tables.{accepted-sound, accepted-priority}
+use Rattle.accepted.specs.Tables.{accepted-sound}
 use Rattle.area.specs.Area.{entries, free}
 use Rattle.promotion_levels.specs.Nesting.{outside-all, unsolved-is}
 use Rattle.promotion_levels.specs.Places.{level-high}
@@ -139,7 +139,7 @@ module _ {owners priorities offsets targets : List ℕ} {s made current left : �
         pub descend-first :
             {held levels : ℕ} → held ≡ heldAt (length owners) (length targets) s →
             levels ≡ levelsAt (length owners) (length targets) s →
-            Descends priorities (length targets) s held levels 0 255 w3
+            Descends priorities (length targets) s held levels 0 (topIn (length owners) (length targets) s w2 0) w3
         unfolding gameOf
         descend-first held-place levels-place =
             record {
@@ -156,12 +156,10 @@ module _ {owners priorities offsets targets : List ℕ} {s made current left : �
                   (λ i low high. same3 i low (inl (omega (arith, round .ready .size))) (inl (omega (arith, round .ready .size))))
                   (round .ready .sorted));
               below = λ v i. rw each (round .ready .nests .below v (and-left (L 0 v) _ (sym (left3 v) ∙ (rw each at i))));
-              under = λ v i. few v;
-              small = omega arith;
+              under =
+                  λ v i. round .ready .nests .most 0 v (omega arith) (and-left (L 0 v) _ (sym (left3 v) ∙ (rw each at i)));
+              small = round .ready .nests .small;
             }
-          where
-            few : (v : ℕ) → getD priorities v 0 ≤ 255
-            few v = accepted-priority t (round .accepted) v
 
         above-none : 256 ≤ nextAbove g T p
         unfolding regionBefore
@@ -182,7 +180,23 @@ module _ {owners priorities offsets targets : List ℕ} {s made current left : �
         module _ {p' : ℕ} {w4 : List ℕ} (c4 : Descended priorities (length targets) s 0 p' w3 w4) where
           given4 :
               Descends priorities m s (heldAt (length priorities) m s) (levelsAt (length priorities) m s) 0 255 w3
-          given4 = descend-first (rw each refl) (rw each refl)
+          given4 =
+              let d =
+              descend-first {held = heldAt (length priorities) m s} {levels = levelsAt (length priorities) m s} (rw each refl)
+              (rw each refl) in
+              record {
+                size = d .size;
+                few = d .few;
+                few-edges = d .few-edges;
+                held-is = d .held-is;
+                levels-is = d .levels-is;
+                room = d .room;
+                depth = d .depth;
+                sorted = d .sorted;
+                below = d .below;
+                under = λ v i. let low = d .under v i in omega (arith, d .small);
+                small = omega arith;
+              }
 
           listed3 : Listed (length priorities) offsets targets w3
           listed3 = rw each (listed-kept n offsets targets w2 w3 (c3 .long) (c3 .table) (round .ready .listed))

@@ -606,8 +606,12 @@ module _ {owners priorities offsets targets : List ℕ} (ok : Accepted (tablesOf
                 HighestLevel owners offsets targets (p % 2) (heldIn n m s w2) (levelIn n m s w2) (depthIn n m s w2) x)
                 is high
 
-            pub round-first : Descends priorities (length targets) s held levels 0 255 w3
-            round-first = solved.descend-first closed-round high-none d3 (at .held-is) (at .levels-is)
+            pub round-first :
+                {bound : ℕ} → bound ≡ topIn (length owners) (length targets) s w2 0 →
+                Descends priorities (length targets) s held levels 0 bound w3
+            round-first read =
+                subst (λ (b : ℕ). Descends priorities m s held levels 0 b w3) (sym read)
+                (solved.descend-first closed-round high-none d3 (at .held-is) (at .levels-is))
 
             module _ {p' : ℕ} {w4 : List ℕ} (c4 : Descended priorities (length targets) s 0 p' w3 w4) where
               pub solved-same :
@@ -617,7 +621,7 @@ module _ {owners priorities offsets targets : List ℕ} (ok : Accepted (tablesOf
                 c4 .long ∙ d3 .long ∙ kept-all .0,
                 λ i l.
                     let most = level-high n m s 0 (omega (arith, closed-round .ready .depth)) in
-                    descended-rest (round-first .depth) c4 i (rw each l) ∙
+                    descended-rest (round-first refl .depth) c4 i (rw each l) ∙
                     d3 .rest i (omega arith) (inr (omega arith)) (inr (omega (arith, most))) ∙
                     kept-all .1 i l,
               )

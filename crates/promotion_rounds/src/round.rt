@@ -3,7 +3,6 @@ use area::Area;
 use highest_priority::one_less;
 use parity_game::Player;
 use parity_game::Priority;
-use parity_game::TOP;
 use promotion_escape::best_escape;
 use promotion_levels::depth_at;
 use promotion_levels::descend;
@@ -68,8 +67,9 @@ pub fn round(
         after.current = higher;
         return after;
     }
+    let highest = Priority(work[depth + 1] as usize);
     solve_dominion(owners, offsets, targets, p, s, work, held, levels, k);
-    after.current = descend(priorities, m, s, work, held, levels, 0, Priority(TOP));
+    after.current = descend(priorities, m, s, work, held, levels, 0, highest);
     after.unsolved = sets::size(&work[levels..levels + s]);
     after
 }

@@ -1,11 +1,11 @@
 -- `round` meets its contract: each call finds what it asks for, and the three ways out are the three kinds of round.
-use mathlib.Core.Path.{_≡_, refl, sym, _∙_}
+use mathlib.Core.Path.{_≡_, refl, sym, _∙_, ap}
 use mathlib.Core.List.{List}
 use Prim.Native.Nat.{ℕ, _+_, _-_, _*_, _≤_, _<_, _^_}
 use native.Mathlib.Omega.{arith}
 use lib.ListN.{length, getD}
 use Rattle.area.specs.Area.{entries}
-use Rattle.promotion_levels.specs.Layout.{levelsAt, endAt, Ready}
+use Rattle.promotion_levels.specs.Layout.{topsAt, levelsAt, endAt, Ready}
 use Rattle.promotion_region.specs.Query.{Queried}
 use Rattle.promotion_moves.specs.Filling.{FilledAll}
 use Rattle.promotion_moves.specs.Dominion.{Dominated}
@@ -103,7 +103,7 @@ escape-start b = query-start (query-of b)
 
 -- the same from where the first level has begun again
 abbrev escaped : tie.After-descend2 → tie.After-best-escape
-escaped t = solved t .before .before .before
+escaped t = solved t .before .before .before .before
 
 abbrev origin : tie.After-descend2 → tie.Start
 origin t = escape-start (escaped t)
@@ -356,29 +356,50 @@ returns-2 c =
       rest = same .1;
     }
 
+-- the priority of level 0 stands before the levels
+first-fits : (c : tie.Else2) → let l = levels-at-escape (c .before) in
+    l .before .depth-at .result + 1 < length (start-of l .args .work .now)
+first-fits c =
+    let l = levels-at-escape (c .before) in
+    omega (arith, stands l 0 (omega arith), l .levels-at .ensures)
+
+add-size : tie.Need-add-size
+add-size c = let l = levels-at-escape (c .before) in omega (arith, first-fits c, start-of l .good)
+
+mul-size : tie.Need-mul-size
+mul-size c = let l = levels-at-escape (c .before) in omega (arith, first-fits c, start-of l .good)
+
+slice-read-size : tie.Need-slice-read-size
+slice-read-size c = let b = c .before .before in omega (arith, first-fits (c .before), long2 (filled b))
+
 solve-dominion-requires : tie.Need-solve-dominion-requires
 solve-dominion-requires c κs =
-    let b = c .before .before in
+    let b = c .before .before .before in
     let g = escape-start b in
     round-dominion (g .pre .accepted) (g .pre .made) (g .pre .shows) (escape b)
 
 -- R with what it attracts is solved
 dominated :
     (e : tie.After-solve-dominion) →
-    let b = e .before .before .before in
+    let b = e .before .before .before .before in
     let l = levels-at-escape b in
     let a = escape-start b .args in
     Dominated (a .owners .now) (a .priorities .now) (a .offsets .now) (a .targets .now) (a .s) (a .state .current .0)
     (l .before .before .held-at .result) (l .levels-at .result) (given (filled b)) (e .solve-dominion .last .1 .1 .1 .1 .1 .0)
 dominated e =
-    let g = escape-start (e .before .before .before) in e .solve-dominion .ensures (g .args .priorities .now) (g .pre .accepted)
+    let g = escape-start (e .before .before .before .before) in e .solve-dominion .ensures (g .args .priorities .now) (g .pre .accepted)
 
 descend-requires-2 : tie.Need-descend-requires-2
 descend-requires-2 c κs =
     let e = c .before .before .before in
-    let i = e .before .before in
-    let g = escape-start (i .before) in
-    round-first (g .pre .accepted) (g .pre .made) (g .pre .shows) (escape (i .before)) (i .if2 .left) (dominated e)
+    let i = e .before .before .before in
+    let b = i .before in
+    let g = escape-start b in
+    let place : levels-at-escape b .before .depth-at .result + 1
+    ≡ topsAt (length (g .args .owners .now)) (length (g .args .targets .now)) (g .args .s) + 0 =
+    omega (arith, escape b .begins .depth-is) in
+    round-first (g .pre .accepted) (g .pre .made) (g .pre .shows) (escape b) (i .if2 .left) (dominated e)
+    (ap (λ (x : ℕ). getD (given (filled b)) x 0) place)
 
 -- what the work area is where the first level has begun again
 ready4 :
@@ -388,7 +409,7 @@ ready4 :
     (t .descend2 .last .1 .1 .1 .0)
 ready4 t =
     let g = origin t in
-    solved-ready (g .pre .accepted) (g .pre .made) (g .pre .shows) (escape (escaped t)) (solved t .before .before .if2 .left)
+    solved-ready (g .pre .accepted) (g .pre .made) (g .pre .shows) (escape (escaped t)) (solved t .before .before .before .if2 .left)
     (dominated (solved t)) (t .descend2 .ensures)
 
 same4 :
@@ -399,7 +420,7 @@ same4 :
     getD (t .descend2 .last .1 .1 .1 .0) i 0 ≡ getD (a .work .now) i 0)
 same4 t =
     let g = origin t in
-    solved-same (g .pre .accepted) (g .pre .made) (g .pre .shows) (escape (escaped t)) (solved t .before .before .if2 .left)
+    solved-same (g .pre .accepted) (g .pre .made) (g .pre .shows) (escape (escaped t)) (solved t .before .before .before .if2 .left)
     (dominated (solved t)) (t .descend2 .ensures)
 
 levels4 :
@@ -414,11 +435,11 @@ room4 :
     levels-at-escape (escaped t) .levels-at .result + origin t .args .s ≤ length (t .descend2 .last .1 .1 .1 .0)
 room4 t = first-room (ready4 t) (levels4 t)
 
-add-size : tie.Need-add-size
-add-size c = let t = c .before .before in omega (arith, room4 t, same4 t .0, origin t .good)
+add-size-2 : tie.Need-add-size-2
+add-size-2 c = let t = c .before .before in omega (arith, room4 t, same4 t .0, origin t .good)
 
-mul-size : tie.Need-mul-size
-mul-size c = let t = c .before .before in omega (arith, room4 t, same4 t .0, origin t .good)
+mul-size-2 : tie.Need-mul-size-2
+mul-size-2 c = let t = c .before .before in omega (arith, room4 t, same4 t .0, origin t .good)
 
 sub-size : tie.Need-sub-size
 sub-size c = search needs
@@ -443,7 +464,7 @@ returns-3 c =
       counted = refl;
       shown =
           λ k sh.
-          round-solves (origin t .pre .accepted) k sh (escape (escaped t)) (solved t .before .before .if2 .left)
+          round-solves (origin t .pre .accepted) k sh (escape (escaped t)) (solved t .before .before .before .if2 .left)
           (dominated (solved t)) (t .descend2 .ensures) (left-counted (ready4 t) (levels4 t) (c .size .ensures));
       rest = same4 t .1;
     }
@@ -484,10 +505,13 @@ round-spec =
     promote-requires
     same-length-2
     returns-2
-    solve-dominion-requires
-    descend-requires-2
     add-size
     mul-size
+    slice-read-size
+    solve-dominion-requires
+    descend-requires-2
+    add-size-2
+    mul-size-2
     sub-size
     part-size-start
     part-size-end
