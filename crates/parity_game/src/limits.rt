@@ -3,7 +3,7 @@ pub const MOST_VERTICES: usize = 4096;
 
 pub const MOST_EDGES: usize = 16384;
 
-// As a table of priorities has it, and as a plain number.
+// As a table of priorities has it.
 pub const HIGHEST_PRIORITY: u16 = 255;
 
 // How many priorities there are, 0 among them.
