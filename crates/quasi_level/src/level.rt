@@ -1,5 +1,5 @@
-// The pieces of a pass, over the sets of its level: V at `base`, then what is drawn. The solver below stands at the next
-// level, and leaves what it found in the place of its V. `s` is the words of a set.
+// The pieces of a pass, over the sets of its level: V at `base`, then what is drawn. The solver below stands at the
+// next level, and leaves what it found in the place of its V. `s` is the words of a set.
 use crate::passes::Passes;
 use crate::passes::Sharp;
 use crate::places::next_level;
