@@ -222,7 +222,9 @@ module _ {owners priorities offsets targets : List ℕ} {s made current left : �
           gone v d = left3 v ∙ rw d (and-false (L 0 v))
 
           D-small : (v : ℕ) → D v ≡ true → v < n
-          D-small v d = round .ready .nests .below v (sym (left-is owners priorities offsets targets (round .ready .nests) v) ∙ pulled3 .certificate .inside v d)
+          D-small v d =
+              round .ready .nests .below v
+              (sym (left-is owners priorities offsets targets (round .ready .nests) v) ∙ pulled3 .certificate .inside v d)
 
           -- an entry before, where v is not in the last level
           entry2 : (v : ℕ) → L (suc k) v ≡ false → entryIn n m s w2 v ≡ getD w2 (entries n m + v) 0

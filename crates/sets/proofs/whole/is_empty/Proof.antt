@@ -28,7 +28,9 @@ loop-less : tie.Need-loop-less Inv-loop μ-loop
 loop-less c = search needs
 
 loop-again : tie.Need-loop-again Inv-loop μ-loop
-loop-again c = (omega (arith, c .before .loop-test .taken), any-more (c .shared-slice-known .given (c .before .before .loop .i) .fits) (c .before .before .loop .inv .1))
+loop-again c =
+    let l = c .before .before .loop in
+    (omega (arith, c .before .loop-test .taken), any-more (c .shared-slice-known .given (l .i) .fits) (l .inv .1))
 
 returns : tie.Need-returns Inv-loop μ-loop
 returns c =
