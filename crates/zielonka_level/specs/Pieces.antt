@@ -51,6 +51,6 @@ pub record Levels (n m s base : ℕ) (work : List ℕ) : Type 0 where
   pub high : base + 2 * s ≤ length work
 
 -- what a player won at the next level stands in the attractor's place, and whether it is nothing is told
-pub record Told (c : Player) (n m s base : ℕ) (before after : List ℕ) (r : Bool) : Type 0 where
+pub record LostTold (c : Player) (n m s base : ℕ) (before after : List ℕ) (r : Bool) : Type 0 where
   pub part : PartWon c n (drawnPlace n m) (base + words n) (oddPlace n m) before after
   pub none : r ≡ not (some (64 * s) (setAt n (drawnPlace n m) after))

@@ -34,7 +34,7 @@ use Rattle.zielonka_level.specs.Level.{nextLevel, oddPlace, drawnPlace, 
 use Rattle.zielonka_level.specs.Level.{entriesOf, Called, Stays}
 use Rattle.zielonka_level.specs.Steps.{CutBy, AllAt, LostBy, Unmoved, stays-on, sorted-kept, level-stays, cut-over}
 use Rattle.highest_priority.specs.Extending.{Extends, Extended}
-use Rattle.zielonka_level.specs.Pieces.{PartWon, Gave, Levels, Told, CallReady, Cuttable}
+use Rattle.zielonka_level.specs.Pieces.{PartWon, Gave, Levels, LostTold, CallReady, Cuttable}
 
 -- ---- what stays
 
@@ -362,7 +362,7 @@ pub told-made :
     a ≡ c →
     PartWon a n place (base + s) odd x y →
     (let lent = take ((place + s) - place) (drop place y) in r ≡ not (some (64 * length lent) (setOf lent))) →
-    Told c n m s base x y r
+    LostTold c n m s base x y r
 told-made {n} {m} {s} {base} {odd} {place} {x} {y} c a given at there whose part told =
     let size = given .places .size in
     let above = given .above in

@@ -13,7 +13,7 @@ ghost use Rattle.rules.specs.Tables.{words, tablesOf};
 ghost use Rattle.parity_game.specs.Said.{is};
 ghost use Rattle.sets.specs.After.{Parts};
 ghost use Rattle.zielonka_level.specs.Steps.{AllAt};
-ghost use Rattle.zielonka_level.specs.Pieces.{PartWon, Gave, Levels, Told, CallReady, Sorted};
+ghost use Rattle.zielonka_level.specs.Pieces.{PartWon, Gave, Levels, LostTold, CallReady, Sorted};
 
 // The player who does not have p's parity.
 pub fn opponent_of(p: Priority) -> Player
@@ -59,7 +59,7 @@ pub fn lost_nothing(
 ) -> bool
     requires { ⌜ Levels n m s base (now work) ⌝ }
     ensures { λ r.
-        ⌜ Told (opponent (parity (p .0))) n m s base (now (work .entry)) (now (work .exit)) r ⌝ }
+        ⌜ LostTold (opponent (parity (p .0))) n m s base (now (work .entry)) (now (work .exit)) r ⌝ }
 {
     let odd = odd_at(n, m, s);
     let drawn = drawn_at(n, m, s);

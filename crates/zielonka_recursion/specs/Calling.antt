@@ -29,7 +29,7 @@ use Rattle.zielonka_level.specs.Level.{nextLevel, drawnPlace, onLevel, drawnAt,
 use Rattle.zielonka_level.specs.Steps.{CutBy, AllAt, LostBy, Unmoved, stays-on, stays-next, level-stays, lost-stays, lost-cut}
 use Rattle.zielonka_level.specs.Steps.{nested-called, first-less, cut-less}
 use Rattle.zielonka_level.specs.Steps.{done-all, done-some, over-nested, over-second}
-use Rattle.zielonka_level.specs.Pieces.{Levels, Told, CallReady, Sorted, Cuttable}
+use Rattle.zielonka_level.specs.Pieces.{Levels, LostTold, CallReady, Sorted, Cuttable}
 use Rattle.zielonka_level.specs.PiecesHold.{drawn-only, ready-stays, ready-places}
 
 -- there is room for the level above a call on a set that has a member
@@ -180,14 +180,14 @@ abbrev pub lostThere : Tables → ℕ → ℕ → List ℕ → List ℕ → Set
 lostThere t base p w₁ w₂ = wonOf t (onLevel t (nextLevel (words (vertices t)) base) w₁) w₂ (opponent (parity p))
 
 -- it stands in the attractor's place
-pub record Collected (t : Tables) (s base p calls budget made : ℕ) (w₀ w₁ w₂ w₃ : List ℕ) : Type 0 where
+pub record LostCollected (t : Tables) (s base p calls budget made : ℕ) (w₀ w₁ w₂ w₃ : List ℕ) : Type 0 where
   pub came : Came t s base p calls budget made w₀ w₁ w₂
   pub still : Unmoved t base w₂ w₃
   pub lost : (v : ℕ) → drawnAt t w₃ v ≡ lostThere t base p w₁ w₂ v
 
 -- after the second cut
 pub record Lost (t : Tables) (s base p calls budget made : ℕ) (w₀ w₁ w₂ w₃ w₄ : List ℕ) : Type 0 where
-  pub told : Collected t s base p calls budget made w₀ w₁ w₂ w₃
+  pub told : LostCollected t s base p calls budget made w₀ w₁ w₂ w₃
   pub vertex : ℕ
   pub lost : lostThere t base p w₁ w₂ vertex ≡ true
   pub by : LostBy t (opponent (parity p)) base (onLevel t base w₀) (lostThere t base p w₁ w₂) w₃ w₄
@@ -253,8 +253,8 @@ module _ {t : Tables} {s base p calls budget made : ℕ} {w₀ w₁ w₂ : List 
   -- what the opponent won stands in the attractor's place
   pub came-told :
       {r : Bool} {w₃ : List ℕ} →
-      Told (opponent (parity p)) (vertices t) (edgesIn t) s base w₂ w₃ r →
-      Collected t s base p calls budget made w₀ w₁ w₂ w₃
+      LostTold (opponent (parity p)) (vertices t) (edgesIn t) s base w₂ w₃ r →
+      LostCollected t s base p calls budget made w₀ w₁ w₂ w₃
   came-told {w₃} told =
       record {
         came = c;
@@ -270,7 +270,7 @@ module _ {t : Tables} {s base p calls budget made : ℕ} {w₀ w₁ w₂ : List 
       nested = rw sized at (begun-called (c .begun) .called)
 
 module _ {t : Tables} {s base p calls budget made : ℕ} {w₀ w₁ w₂ w₃ : List ℕ}
-    (d : Collected t s base p calls budget made w₀ w₁ w₂ w₃)
+    (d : LostCollected t s base p calls budget made w₀ w₁ w₂ w₃)
   where
     abbrev c : Came t s base p calls budget made w₀ w₁ w₂
     c = d .came

@@ -15,7 +15,7 @@ use Rattle.zielonka_recursion.specs.Calling.{level-fits, highest-given, 
 use Rattle.zielonka_recursion.specs.Calling.{member-ready, member-top, ready-sorted}
 use Rattle.zielonka_recursion.specs.Calling.{FirstCut, begun-less, begun-called, begun-came, begun-over}
 use Rattle.zielonka_recursion.specs.Calling.{Came, came-levels, came-told}
-use Rattle.zielonka_recursion.specs.Calling.{Collected, told-ready, told-sorted, told-all, told-cuttable, told-lost}
+use Rattle.zielonka_recursion.specs.Calling.{LostCollected, told-ready, told-sorted, told-all, told-cuttable, told-lost}
 use Rattle.zielonka_recursion.specs.Calling.{Lost, lost-less, lost-called, lost-over, lost-done}
 use borrow.Author.Needs.{needs}
 use borrow.Fn.Kinds.{In, Out}
@@ -190,7 +190,7 @@ module _ (t : ℕ) where
       let e = before-told c in
       let d = first-cut c in
       let a = start d .args in
-      Collected (tables (start d)) (wide d) (a .base) (top d) (a .calls) (a .cap) (made e)
+      LostCollected (tables (start d)) (wide d) (a .base) (top d) (a .calls) (a .cap) (made e)
       (work₀ d) (work₁ d) (work₂ (after-first e)) (work₃ c)
   told c = came-told (came (before-told c)) (c .lost-nothing .ensures)
 
