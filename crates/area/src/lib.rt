@@ -2,7 +2,7 @@
 // stand at a base, and the walk over the members of such a set. A function for each region says where it begins;
 // nobody else adds this up.
 ghost use mathlib.Core.Path.{_≡_};
-ghost use Prim.Native.Nat.{_<_, _^_};
+ghost use Prim.Native.Nat.{_+_, _<_, _^_};
 ghost use Rattle.rules.specs.Tables.{words};
 ghost use Rattle.area.specs.Area.{counters, distances, entries, layers, metAt, free};
 
@@ -52,7 +52,7 @@ impl Area {
         requires { ⌜ (self .s ≡ words (self .n)) × (metAt (self .n) (self .m) < 2 ^ 64) ⌝ }
         ensures { λ r. ⌜ r ≡ metAt (self .n) (self .m) ⌝ }
     {
-        self.layers() + 2 * (self.s + 1)
+        behind_layer(behind_layer(self.layers(), self.s), self.s)
     }
 
     // The words behind, where sets may stand, and whatever a solver keeps.
@@ -60,6 +60,30 @@ impl Area {
         requires { ⌜ (self .s ≡ words (self .n)) × (free (self .n) (self .m) < 2 ^ 64) ⌝ }
         ensures { λ r. ⌜ r ≡ free (self .n) (self .m) ⌝ }
     {
-        self.met() + self.s
+        next_set(self.met(), self.s)
     }
+}
+
+// What stands behind the set at `base`: the next set, where sets stand one behind another.
+pub fn next_set(base: usize, s: usize) -> usize
+    requires { ⌜ base + s < 2 ^ 64 ⌝ }
+    ensures { λ r. ⌜ r ≡ base + s ⌝ }
+{
+    base + s
+}
+
+// The word of the layer at `base` that says which of its words are not 0.
+pub fn marks_at(base: usize, s: usize) -> usize
+    requires { ⌜ base + s < 2 ^ 64 ⌝ }
+    ensures { λ r. ⌜ r ≡ base + s ⌝ }
+{
+    base + s
+}
+
+// What stands behind the layer at `base`.
+pub fn behind_layer(base: usize, s: usize) -> usize
+    requires { ⌜ base + s + 1 < 2 ^ 64 ⌝ }
+    ensures { λ r. ⌜ r ≡ base + s + 1 ⌝ }
+{
+    marks_at(base, s) + 1
 }

@@ -6,4 +6,5 @@ pub use places::depth_at;
 pub use places::held_at;
 pub use places::level_at;
 pub use places::levels_at;
+pub use places::priority_at;
 pub use places::won_at;

@@ -34,6 +34,14 @@ pub fn depth_at(held: usize, s: usize) -> usize
     held + 3 * s
 }
 
+// The priority of level k stands behind the number of the current level, which is at `depth`.
+pub fn priority_at(depth: usize, k: usize) -> usize
+    requires { ⌜ depth + 1 + k < 2 ^ 64 ⌝ }
+    ensures { λ r. ⌜ r ≡ depth + 1 + k ⌝ }
+{
+    depth + 1 + k
+}
+
 // The levels stand behind the number of the current one, which is at `depth`, and behind their priorities: one for each
 // different priority, and two more.
 pub fn levels_at(n: usize, depth: usize) -> usize

@@ -22,6 +22,10 @@ hits n m = labels n m + n
 abbrev pub pairs : ℕ → ℕ → ℕ
 pairs n m = hits n m + n
 
--- the words behind, where sets may stand
+-- the words behind
 abbrev pub behind : ℕ → ℕ → ℕ
 behind n m = pairs n m + n
+
+-- behind one row more, and past the regions of the attractor: sets that it works on
+abbrev pub setsBehind : ℕ → ℕ → ℕ
+setsBehind n m = behind n m + n + 2
