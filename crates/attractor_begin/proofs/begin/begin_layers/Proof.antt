@@ -14,17 +14,11 @@ Inv-loop work₀ first set s second met marks₀ i₀ work marks i = Beginning f
 abbrev μ-loop : tie.MeasureT-loop
 μ-loop work₀ first set s second met marks₀ i₀ work marks i = s - i
 
-add-second : tie.Need-add-second Inv-loop μ-loop
-add-second c = search needs
+behind-layer-requires : tie.Need-behind-layer-requires Inv-loop μ-loop
+behind-layer-requires c κs = search needs
 
-add-second-2 : tie.Need-add-second-2 Inv-loop μ-loop
-add-second-2 c = search needs
-
-add-met : tie.Need-add-met Inv-loop μ-loop
-add-met c = search needs
-
-add-met-2 : tie.Need-add-met-2 Inv-loop μ-loop
-add-met-2 c = search needs
+behind-layer-requires-2 : tie.Need-behind-layer-requires-2 Inv-loop μ-loop
+behind-layer-requires-2 c κs = search needs
 
 loop-holds : tie.Need-loop-holds Inv-loop μ-loop
 loop-holds c = beginning-none
@@ -77,15 +71,18 @@ loop-less c = search needs
 loop-again : tie.Need-loop-again Inv-loop μ-loop
 loop-again c =
     let d = c .before .before in
-    let g = d .before .before in
+    let p = d .before .before in
+    let given = p .before .before .before .pre in
     let l = d .before .loop in
+    let second = p .before .behind-layer .ensures in
+    let met = p .behind-layer2 .ensures in
     ⊎-elim
-    (λ y. rw (y .1) (more-some (g .pre) (l .inv) (d .loop-test .taken) (y .0 .taken)))
-    (λ y. rw (y .1) (more-none (g .pre) (l .inv) (d .loop-test .taken) (y .0 .left)))
+    (λ y. rw (y .1, met, second) (more-some given (l .inv) (d .loop-test .taken) (y .0 .taken)))
+    (λ y. rw (y .1, met, second) (more-none given (l .inv) (d .loop-test .taken) (y .0 .left)))
     (c .if1 .came)
 
-add-work-4 : tie.Need-add-work-4 Inv-loop μ-loop
-add-work-4 c = search needs
+marks-at-requires : tie.Need-marks-at-requires Inv-loop μ-loop
+marks-at-requires c κs = search needs
 
 mul-work-4 : tie.Need-mul-work-4 Inv-loop μ-loop
 mul-work-4 c = search needs
@@ -93,8 +90,8 @@ mul-work-4 c = search needs
 slice-write-work-4 : tie.Need-slice-write-work-4 Inv-loop μ-loop
 slice-write-work-4 c = search needs
 
-add-work-5 : tie.Need-add-work-5 Inv-loop μ-loop
-add-work-5 c = search needs
+marks-at-requires-2 : tie.Need-marks-at-requires-2 Inv-loop μ-loop
+marks-at-requires-2 c κs = search needs
 
 mul-work-5 : tie.Need-mul-work-5 Inv-loop μ-loop
 mul-work-5 c = search needs
@@ -106,7 +103,12 @@ same-length : tie.Need-same-length Inv-loop μ-loop
 same-length c = search needs
 
 returns : tie.Need-returns Inv-loop μ-loop
-returns c = layers-begun (c .before .before .pre) (c .before .loop .inv) (c .loop-test .left)
+returns c =
+    let m = c .before in
+    let e = m .before in
+    let p = e .before .before in
+    rw (c .marks-at2 .ensures, m .marks-at .ensures, p .before .behind-layer .ensures)
+    (layers-begun (p .before .before .before .pre) (e .before .loop .inv) (e .loop-test .left))
 
 pub begin-layers-spec : {M : Type 1} → statement M
 begin-layers-spec =
@@ -114,10 +116,8 @@ begin-layers-spec =
     (tie.spec
     Inv-loop
     μ-loop
-    add-second
-    add-second-2
-    add-met
-    add-met-2
+    behind-layer-requires
+    behind-layer-requires-2
     loop-holds
     add-word
     mul-word
@@ -135,10 +135,10 @@ begin-layers-spec =
     add-i
     loop-less
     loop-again
-    add-work-4
+    marks-at-requires
     mul-work-4
     slice-write-work-4
-    add-work-5
+    marks-at-requires-2
     mul-work-5
     slice-write-work-5
     same-length
