@@ -255,11 +255,11 @@ module _ (first : ℕ → ℕ) (n m base next : ℕ) (work : List ℕ) (room : S
 -- a layer that was lent, with s words and one more
 
 -- the part that is lent
-pub layer-part : (n s base : ℕ) (work : List ℕ) → s ≡ words n → take ((base + s + 1) - base) (drop base work)
+pub layer-part : (n base : ℕ) {end : ℕ} (work : List ℕ) → end ≡ base + layerWords n → take (end - base) (drop base work)
     ≡ layerAt n base work
-layer-part n s base work size = ap (λ (k : ℕ). take k (drop base work)) cancels
+layer-part n base {end} work ends = ap (λ (k : ℕ). take k (drop base work)) cancels
   where
-    cancels : (base + s + 1) - base ≡ layerWords n
+    cancels : end - base ≡ layerWords n
     cancels = omega arith
 
 pub layer-long : (n base : ℕ) (work : List ℕ) → base + layerWords n ≤ length work → length (layerAt n base work) ≡ layerWords n
@@ -272,6 +272,8 @@ module _ (n m base next : ℕ) (work : List ℕ) (room : SetRoom n m base next w
     (place : row ≡ distances n m)
     (small : v < n)
     (new : Put v 1 (take ((base + s) - base) (drop base work)) ys)
+    {end : ℕ}
+    (behind : end ≡ next + s + 1)
   where
     abbrev wider : List ℕ
     wider = back base s work ys
@@ -298,10 +300,14 @@ module _ (n m base next : ℕ) (work : List ℕ) (room : SetRoom n m base next w
         changes-layer stored-changes n next (inr (omega (arith, room .next-low))) ∙
         changes-layer wider-changes n next (inl (omega (arith, room .next-high, room .low)))
 
+    -- the part that is lent is that layer
+    lent-is : take (end - next) (drop next stored) ≡ layerAt n next work
+    lent-is = layer-part n next stored (omega arith) ∙ stored-layer
+
     -- as `add` asks
-    pub add-ready : Layer (layerAt n next work) → Addable v (take ((next + s + 1) - next) (drop next stored))
+    pub add-ready : Layer (layerAt n next work) → Addable v (take (end - next) (drop next stored))
     add-ready layer =
-        subst (Addable v) (sym (layer-part n s next stored size ∙ stored-layer))
+        subst (Addable v) (sym lent-is)
         (record {
           layer = layer;
           small = omega (
@@ -311,14 +317,14 @@ module _ (n m base next : ℕ) (work : List ℕ) (room : SetRoom n m base next w
           );
         })
 
-    module _ (zs : List ℕ) (added' : Added v (take ((next + s + 1) - next) (drop next stored)) zs) where
+    module _ (zs : List ℕ) (added' : Added v (take (end - next) (drop next stored)) zs) where
       abbrev joining : List ℕ
-      joining = take next stored ++ (zs ++ drop ((next + s + 1) - next) (drop next stored))
+      joining = take next stored ++ (zs ++ drop (end - next) (drop next stored))
 
       added : Added v (layerAt n next work) zs
-      added = subst (λ (xs : List ℕ). Added v xs zs) (layer-part n s next stored size ∙ stored-layer) added'
+      added = subst (λ (xs : List ℕ). Added v xs zs) lent-is added'
 
-      one-more : (next + s + 1) - next ≡ (next + layerWords n) - next
+      one-more : end - next ≡ (next + layerWords n) - next
       one-more = omega arith
 
       is-back : joining ≡ back next (layerWords n) stored zs

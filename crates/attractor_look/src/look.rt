@@ -1,5 +1,6 @@
 // One look, and how a vertex comes in.
 use area::Area;
+use area::behind_layer;
 use attractor_counters::counters::count_down;
 use layer::marked::add;
 ghost use Prim.Native.Nat.{ℕ};
@@ -18,7 +19,7 @@ fn join(n: usize, m: usize, s: usize, work: &mut [u64], set: usize, next: usize,
     let distances = Area { n, m, s }.distances();
     sets::insert(&mut work[set..set + s], v);
     work[distances + v] = far;
-    add(&mut work[next..next + s + 1], v);
+    add(&mut work[next..behind_layer(next, s)], v);
 }
 
 // One look, at an entry v of w; who comes in is so far.

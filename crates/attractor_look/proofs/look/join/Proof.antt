@@ -12,8 +12,8 @@ use Rattle.attractor_look.proofs.look.join.Tie as tie
 abbrev start-of : tie.After-distances → tie.Start
 start-of c = c .before .before
 
-abbrev placed : tie.After-slice-known2 → tie.After-distances
-placed c = c .before .before .before .before
+abbrev placed : tie.After-behind-layer → tie.After-distances
+placed c = c .before .before .before .before .before
 
 distances-requires : tie.Need-distances-requires
 distances-requires c κs = search needs
@@ -48,11 +48,8 @@ mul-work c = search needs
 slice-write-work : tie.Need-slice-write-work
 slice-write-work c = search needs
 
-add-add : tie.Need-add-add
-add-add c = search needs
-
-add-add-2 : tie.Need-add-add-2
-add-add-2 c = search needs
+behind-layer-requires : tie.Need-behind-layer-requires
+behind-layer-requires c κs = search needs
 
 mul-add : tie.Need-mul-add
 mul-add c = search needs
@@ -67,7 +64,7 @@ part-add-end : tie.Need-part-add-end
 part-add-end c =
     let g = start-of (placed c) in
     let a = g .args in
-    let i = c .before .before .insert in
+    let i = c .before .before .before .insert in
     omega (
       arith,
       g .pre .size,
@@ -75,34 +72,39 @@ part-add-end c =
       g .pre .room .low,
       g .pre .room .high,
       stored-long (a .n) (a .m) (a .set) (a .next) (a .work .now) (g .pre .room) (a .s) (a .v) (a .far) (i .last .0)
-          (g .pre .size) (placed c .distances .ensures) (g .pre .small) (i .ensures),
+          (g .pre .size) (placed c .distances .ensures) (g .pre .small) (i .ensures) (c .behind-layer .ensures),
     )
 
 add-requires : tie.Need-add-requires
 add-requires c κs =
     let g = start-of (placed (c .before)) in
     let a = g .args in
-    let i = c .before .before .before .insert in
+    let i = c .before .before .before .before .insert in
     add-ready (a .n) (a .m) (a .set) (a .next) (a .work .now) (g .pre .room) (a .s) (a .v) (a .far) (i .last .0)
-    (g .pre .size) (placed (c .before) .distances .ensures) (g .pre .small) (i .ensures) (g .pre .layer)
+    (g .pre .size) (placed (c .before) .distances .ensures) (g .pre .small) (i .ensures)
+    (c .before .behind-layer .ensures) (g .pre .layer)
 
 same-length : tie.Need-same-length
 same-length c =
     let d = c .before .before in
-    let g = start-of (placed (d .before .before)) in
+    let b = d .before .before in
+    let g = start-of (placed b) in
     let a = g .args in
-    let i = d .before .before .before .before .insert in
+    let i = b .before .before .before .insert in
     state-joined (a .n) (a .m) (a .set) (a .next) (a .work .now) (g .pre .room) (a .s) (a .v) (a .far) (i .last .0)
-    (g .pre .size) (placed (d .before .before) .distances .ensures) (g .pre .small) (i .ensures) (d .add .last .0) (d .add .ensures) (λ u. 0) .kept .long
+    (g .pre .size) (placed b .distances .ensures) (g .pre .small) (i .ensures) (b .behind-layer .ensures)
+    (d .add .last .0) (d .add .ensures) (λ u. 0) .kept .long
 
 returns : tie.Need-returns
 returns c =
     let d = c .before .before in
-    let g = start-of (placed (d .before .before)) in
+    let b = d .before .before in
+    let g = start-of (placed b) in
     let a = g .args in
-    let i = d .before .before .before .before .insert in
+    let i = b .before .before .before .insert in
     state-joined (a .n) (a .m) (a .set) (a .next) (a .work .now) (g .pre .room) (a .s) (a .v) (a .far) (i .last .0)
-    (g .pre .size) (placed (d .before .before) .distances .ensures) (g .pre .small) (i .ensures) (d .add .last .0) (d .add .ensures)
+    (g .pre .size) (placed b .distances .ensures) (g .pre .small) (i .ensures) (b .behind-layer .ensures)
+    (d .add .last .0) (d .add .ensures)
 
 pub join-spec : {M : Type 1} → statement M
 join-spec =
@@ -118,8 +120,7 @@ join-spec =
     add-work
     mul-work
     slice-write-work
-    add-add
-    add-add-2
+    behind-layer-requires
     mul-add
     sub-add
     part-add-start
