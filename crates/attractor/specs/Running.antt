@@ -105,22 +105,24 @@ module _ {owners offsets targets : List ℕ} {alpha within set : ℕ} {before : 
     pub layer-fits : this + layerWords n ≤ length after
     layer-fits = omega (arith, high-this, c .long, given .placed .within-low, given .placed .within-high)
 
-    pub marks-read : marks (layerAt n this after) ≡ getD after (this + words n) 0
-    marks-read = marks-at n this after layer-fits
+    pub marks-read : {s place : ℕ} → s ≡ words n → place ≡ this + s → marks (layerAt n this after) ≡ getD after place 0
+    marks-read {s} {place} size at = marks-at n this after layer-fits ∙ ap (λ (k : ℕ). getD after k 0) (omega arith)
 
     -- the lowest word of the layer is popped
-    module _ {s : ℕ} (size : s ≡ words n) (more : getD after (this + s) 0 ≡ 0 → ⊥) where
-      pub pop-ready : Poppable (take ((this + s + 1) - this) (drop this after))
-      pop-ready =
-          subst Poppable (sym (layer-part n s this after size))
-          (record { layer = c .layer; some = λ z. more (ap (λ (k : ℕ). getD after (this + k) 0) size ∙ sym marks-read ∙ z) })
+    module _ {s : ℕ} (size : s ≡ words n) (more : marks (layerAt n this after) ≡ 0 → ⊥) {end : ℕ}
+        (behind : end ≡ this + s + 1) where
+      lent-is : take (end - this) (drop this after) ≡ layerAt n this after
+      lent-is = layer-part n this after (omega arith)
 
-      module _ {at word : ℕ} {ys : List ℕ} (popped' : Popped at word (take ((this + s + 1) - this) (drop this after)) ys) where
+      pub pop-ready : Poppable (take (end - this) (drop this after))
+      pop-ready = subst Poppable (sym lent-is) (record { layer = c .layer; some = more })
+
+      module _ {at word : ℕ} {ys : List ℕ} (popped' : Popped at word (take (end - this) (drop this after)) ys) where
         popped : Popped at word (layerAt n this after) ys
-        popped = subst (λ (xs : List ℕ). Popped at word xs ys) (layer-part n s this after size) popped'
+        popped = subst (λ (xs : List ℕ). Popped at word xs ys) lent-is popped'
 
         abbrev pub mid : List ℕ
-        mid = take this after ++ (ys ++ drop ((this + s + 1) - this) (drop this after))
+        mid = take this after ++ (ys ++ drop (end - this) (drop this after))
 
         ys-long : length ys ≡ layerWords n
         ys-long = popped .long ∙ layer-long n this after layer-fits
@@ -128,7 +130,7 @@ module _ {owners offsets targets : List ℕ} {alpha within set : ℕ} {before : 
         is-back : mid ≡ back this (layerWords n) after ys
         is-back = ap (λ (k : ℕ). take this after ++ (ys ++ drop k (drop this after))) one-more
           where
-            one-more : (this + s + 1) - this ≡ (this + layerWords n) - this
+            one-more : end - this ≡ (this + layerWords n) - this
             one-more = omega arith
 
         mid-changes : Changes this (layerWords n) after mid
@@ -229,10 +231,10 @@ module _ {owners offsets targets : List ℕ} {alpha within set : ℕ} {before : 
               omega (arith, going-word .few, count-le n (takenAt n set this next fin), given .edges .few-vertices)
 
     -- the layer is done: nothing is left in it, and turning to the next takes none
-    layer-done : getD after (this + words n) 0 ≡ 0 → (u : ℕ) → now u ≡ false
-    layer-done z = unmarked-empty (layerAt n this after) (c .layer) (marks-read ∙ z)
+    layer-done : marks (layerAt n this after) ≡ 0 → (u : ℕ) → now u ≡ false
+    layer-done = unmarked-empty (layerAt n this after) (c .layer)
 
-    pub turned : getD after (this + words n) 0 ≡ 0 → takenAt n set next this after ≡ taken
+    pub turned : marks (layerAt n this after) ≡ 0 → takenAt n set next this after ≡ taken
     turned z =
         fun-ext
         (λ u.
@@ -242,12 +244,12 @@ module _ {owners offsets targets : List ℕ} {alpha within set : ℕ} {before : 
 
     -- the layer has members still, or it is done and the next one is taken
     module _ (deeper : far ≤ count n taken) where
-      pub running-on : (getD after (this + words n) 0 ≡ 0 → ⊥) →
+      pub running-on : (marks (layerAt n this after) ≡ 0 → ⊥) →
           Running owners offsets targets alpha within set before this next far looks after
       running-on more =
-          record { going = c; deep = omega arith; last = λ z. absurd (more (sym marks-read ∙ z)) }
+          record { going = c; deep = omega arith; last = λ z. absurd (more z) }
 
-      pub running-turn : getD after (this + words n) 0 ≡ 0 → Running owners offsets targets alpha within set before next this
+      pub running-turn : marks (layerAt n this after) ≡ 0 → Running owners offsets targets alpha within set before next this
           (far + 1) looks after
       unfolding gameOf
       running-turn z =

@@ -1,6 +1,8 @@
 // The whole attractor: the set at `set` grows from the target to the attractor in the set at `within`. Gives the
 // looks.
 use area::Area;
+use area::behind_layer;
+use area::marks_at;
 use attractor_begin::begin_layers;
 use attractor_word::take_word;
 use layer::marked::pop_word;
@@ -32,11 +34,11 @@ pub fn attract(
     let first = Area { n, m, s }.layers();
     begin_layers(work, first, set, s);
     let mut this = first;
-    let mut next = first + s + 1;
+    let mut next = behind_layer(first, s);
     let mut far: u64 = 1;
     let mut looks: u64 = 0;
-    while work[this + s] != 0 {
-        let popped = pop_word(&mut work[this..this + s + 1]);
+    while work[marks_at(this, s)] != 0 {
+        let popped = pop_word(&mut work[this..behind_layer(this, s)]);
         looks += take_word(
             owners,
             offsets,
@@ -51,7 +53,7 @@ pub fn attract(
             popped.word,
             far,
         );
-        if work[this + s] == 0 {
+        if work[marks_at(this, s)] == 0 {
             let done = this;
             this = next;
             next = done;

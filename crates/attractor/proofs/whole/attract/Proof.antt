@@ -9,6 +9,7 @@ use lib.ListN.{length, getD}
 use Rattle.rules.specs.Counting.{count}
 use Rattle.rules.specs.Tables.{words}
 use Rattle.basics.specs.Basics.{count-le}
+use Rattle.layer.specs.Layer.{marks}
 use Rattle.layer.specs.Laws.{unmarked-empty}
 use Rattle.attractor_look.specs.InArea.{layerAt}
 use Rattle.attractor_word.specs.Attracted.{Attractable}
@@ -73,7 +74,7 @@ second c =
     )
 
 abbrev begun : tie.At-loop Inv-loop μ-loop → tie.After-begin-layers Inv-loop μ-loop
-begun c = c .before .before .before
+begun c = c .before .before .before .before
 
 long : (c : tie.At-loop Inv-loop μ-loop) → length (c .loop .work) ≡ length (start-of (begun c) .args .work .now)
 long c = c .loop .inv .going .long ∙ same (begun c) .long
@@ -93,12 +94,32 @@ ends : (c : tie.At-loop Inv-loop μ-loop) → 8 * (c .loop .this + words-of c + 
 ends c = omega (arith, fits c, long c, start-of (begun c) .good)
 
 -- the loop's head of a turn
-abbrev head : tie.After-pop-word Inv-loop μ-loop → tie.At-loop Inv-loop μ-loop
-head c = c .before .before .before .before
+abbrev head : tie.Then1 Inv-loop μ-loop → tie.At-loop Inv-loop μ-loop
+head c = c .before .before .before
 
--- the turn of a word
+-- the layer's marks, as they were read
+read :
+    (c : tie.After-marks-at Inv-loop μ-loop) →
+    let d = c .before in
+    marks (layerAt (length (start-of (begun d) .args .owners .now)) (d .loop .this) (d .loop .work)) ≡
+    getD (d .loop .work) (c .marks-at .result) 0
+read c =
+    let d = c .before in marks-read (given (begun d)) (d .loop .inv .going) (size d) (c .marks-at .ensures)
+
+-- they are not 0 where a word is popped
+some :
+    (c : tie.Then1 Inv-loop μ-loop) →
+    let d = head c in
+    marks (layerAt (length (start-of (begun d) .args .owners .now)) (d .loop .this) (d .loop .work)) ≡ 0 →
+    ⊥
+some c z = c .if1 .taken (sym (read (c .before .before)) ∙ z)
+
+-- the turn of a word, and the layer that was lent for it
 abbrev popped : tie.After-take-word Inv-loop μ-loop → tie.After-pop-word Inv-loop μ-loop
 popped c = c .before .before .before .before
+
+abbrev lent : tie.After-pop-word Inv-loop μ-loop → tie.After-behind-layer2 Inv-loop μ-loop
+lent c = c .before .before
 
 -- the work area once the word's members are taken
 abbrev after : tie.After-take-word Inv-loop μ-loop → List ℕ
@@ -106,7 +127,7 @@ after c = c .take-word .last .1 .1 .1 .1 .1 .0
 
 -- the loop's head of its turn
 abbrev turn : tie.After-take-word Inv-loop μ-loop → tie.At-loop Inv-loop μ-loop
-turn c = head (popped c)
+turn c = head (lent (popped c) .before)
 
 -- what holds then, that more are taken, and few entries met
 going :
@@ -118,8 +139,8 @@ going :
     (l .this) (l .next) (l .far) (l .looks + c .take-word .result) (nowAt (length (a .owners .now)) (l .this) (after c)) (after c)
 going c =
     let P = popped c in
-    going-word (given (begun (turn c))) (turn c .loop .inv .going) (size (turn c)) (P .before .before .if1 .taken)
-    (P .pop-word .ensures) (c .take-word .ensures)
+    going-word (given (begun (turn c))) (turn c .loop .inv .going) (size (turn c)) (some (lent P .before))
+    (lent P .behind-layer2 .ensures) (P .pop-word .ensures) (c .take-word .ensures)
 
 -- how many are taken, by the work area
 abbrev taken : tie.At-loop Inv-loop μ-loop → List ℕ → ℕ
@@ -134,21 +155,26 @@ most c work = count-le _ _
 grows : (c : tie.After-take-word Inv-loop μ-loop) → taken (turn c) (turn c .loop .work) < taken (turn c) (after c)
 grows c =
     let P = popped c in
-    word-grows (given (begun (turn c))) (turn c .loop .inv .going) (size (turn c)) (P .before .before .if1 .taken)
-    (P .pop-word .ensures) (c .take-word .ensures)
+    word-grows (given (begun (turn c))) (turn c .loop .inv .going) (size (turn c)) (some (lent P .before))
+    (lent P .behind-layer2 .ensures) (P .pop-word .ensures) (c .take-word .ensures)
 
 few : (c : tie.After-take-word Inv-loop μ-loop) → turn c .loop .looks + c .take-word .result ≤ 67125248
 few c =
     let P = popped c in
-    word-looks-few (given (begun (turn c))) (turn c .loop .inv .going) (size (turn c)) (P .before .before .if1 .taken)
-    (P .pop-word .ensures) (c .take-word .ensures)
+    word-looks-few (given (begun (turn c))) (turn c .loop .inv .going) (size (turn c)) (some (lent P .before))
+    (lent P .behind-layer2 .ensures) (P .pop-word .ensures) (c .take-word .ensures)
 
--- the layer's marks then, by the size of a set
+abbrev took : tie.After-marks-at2 Inv-loop μ-loop → tie.After-take-word Inv-loop μ-loop
+took c = c .before .before .before
+
+-- the layer's marks, as they are read then
 marked :
-    (c : tie.After-take-word Inv-loop μ-loop) →
-    getD (after c) (turn c .loop .this + words (length (start-of (begun (turn c)) .args .owners .now))) 0 ≡
-    getD (after c) (turn c .loop .this + words-of (turn c)) 0
-marked c = ap (λ (k : ℕ). getD (after c) (turn c .loop .this + k) 0) (sym (size (turn c)))
+    (c : tie.After-marks-at2 Inv-loop μ-loop) →
+    let e = took c in
+    marks (layerAt (length (start-of (begun (turn e)) .args .owners .now)) (turn e .loop .this) (after e)) ≡
+    getD (after e) (c .marks-at2 .result) 0
+marked c =
+    let e = took c in marks-read (given (begun (turn e))) (going e) (size (turn e)) (c .marks-at2 .ensures)
 
 set-words-requires : tie.Need-set-words-requires Inv-loop μ-loop
 set-words-requires c κs = search needs
@@ -162,35 +188,30 @@ begin-layers-requires c κs =
     let w = l .before in
     begin-ready (at1 w .pre) (w .set-words .ensures) (l .layers .ensures)
 
-add-next : tie.Need-add-next Inv-loop μ-loop
-add-next c = omega (arith, second (c .before .before))
-
-add-next-2 : tie.Need-add-next-2 Inv-loop μ-loop
-add-next-2 c = omega (arith, second (c .before .before))
+behind-layer-requires : tie.Need-behind-layer-requires Inv-loop μ-loop
+behind-layer-requires c κs = second (c .before .before)
 
 loop-holds : tie.Need-loop-holds Inv-loop μ-loop
 loop-holds c =
-    let b = c .before .before in
+    let b = c .before .before .before in
     let w = sized b in
-    started (at1 w .pre) (w .set-words .ensures) (placed b .layers .ensures) (b .begin-layers .ensures)
+    rw (c .behind-layer .ensures)
+    (started (at1 w .pre) (w .set-words .ensures) (placed b .layers .ensures) (b .begin-layers .ensures))
 
-add-if1 : tie.Need-add-if1 Inv-loop μ-loop
-add-if1 c = omega (arith, ends c)
+marks-at-requires : tie.Need-marks-at-requires Inv-loop μ-loop
+marks-at-requires c κs = omega (arith, ends c)
 
 mul-if1 : tie.Need-mul-if1 Inv-loop μ-loop
-mul-if1 c = omega (arith, ends c)
+mul-if1 c = omega (arith, ends (c .before))
 
 slice-read-if1 : tie.Need-slice-read-if1 Inv-loop μ-loop
-slice-read-if1 c = omega (arith, fits (c .before))
+slice-read-if1 c = omega (arith, fits (c .before .before))
 
-add-pop-word : tie.Need-add-pop-word Inv-loop μ-loop
-add-pop-word c = omega (arith, ends (c .before .before))
-
-add-pop-word-2 : tie.Need-add-pop-word-2 Inv-loop μ-loop
-add-pop-word-2 c = omega (arith, ends (c .before .before))
+behind-layer-requires-2 : tie.Need-behind-layer-requires-2 Inv-loop μ-loop
+behind-layer-requires-2 c κs = omega (arith, ends (head c))
 
 mul-pop-word : tie.Need-mul-pop-word Inv-loop μ-loop
-mul-pop-word c = omega (arith, ends (c .before .before))
+mul-pop-word c = omega (arith, ends (head (c .before)))
 
 sub-pop-word : tie.Need-sub-pop-word Inv-loop μ-loop
 sub-pop-word c = search needs
@@ -199,70 +220,72 @@ part-pop-word-start : tie.Need-part-pop-word-start Inv-loop μ-loop
 part-pop-word-start c = search needs
 
 part-pop-word-end : tie.Need-part-pop-word-end Inv-loop μ-loop
-part-pop-word-end c = omega (arith, fits (c .before .before))
+part-pop-word-end c = omega (arith, fits (head (c .before)))
 
 pop-word-requires : tie.Need-pop-word-requires Inv-loop μ-loop
 pop-word-requires c κs =
-    let d = c .before .before .before in pop-ready (given (begun d)) (d .loop .inv .going) (size d) (c .before .if1 .taken)
+    let b = c .before in
+    let d = head (b .before) in
+    pop-ready (given (begun d)) (d .loop .inv .going) (size d) (some (b .before)) (b .behind-layer2 .ensures)
 
 take-word-requires : tie.Need-take-word-requires Inv-loop μ-loop
 take-word-requires c κs =
     let P = c .before .before .before in
-    take-word-ready (given (begun (head P))) (head P .loop .inv .going) (size (head P)) (P .before .before .if1 .taken)
-    (P .pop-word .ensures)
+    let d = head (lent P .before) in
+    take-word-ready (given (begun d)) (d .loop .inv .going) (size d) (some (lent P .before))
+    (lent P .behind-layer2 .ensures) (P .pop-word .ensures)
 
 add-looks : tie.Need-add-looks Inv-loop μ-loop
 add-looks c = omega (arith, few (c .before .before))
 
-add-if2 : tie.Need-add-if2 Inv-loop μ-loop
-add-if2 c = omega (arith, ends (turn (c .before .before)))
+marks-at-requires-2 : tie.Need-marks-at-requires-2 Inv-loop μ-loop
+marks-at-requires-2 c κs = omega (arith, ends (turn (c .before .before)))
 
 mul-if2 : tie.Need-mul-if2 Inv-loop μ-loop
-mul-if2 c = omega (arith, ends (turn (c .before .before)))
+mul-if2 c = omega (arith, ends (turn (took c)))
 
 slice-read-if2 : tie.Need-slice-read-if2 Inv-loop μ-loop
 slice-read-if2 c =
-    let e = c .before .before .before in
+    let e = took (c .before) in
     omega (arith, fits (turn e), going e .long, turn e .loop .inv .going .long)
 
 add-far : tie.Need-add-far Inv-loop μ-loop
 add-far c =
-    let d = turn (c .before .before .before .before) in
+    let d = turn (took (c .before .before)) in
     omega (arith, d .loop .inv .deep, most d (d .loop .work), given (begun d) .edges .few-vertices)
 
 loop-less : tie.Need-loop-less Inv-loop μ-loop
 loop-less c =
-    let e = c .before .before .before .before in
+    let e = took (c .before .before) in
     let same-count =
     ap (count (length (start-of (begun (turn e)) .args .owners .now)))
-    (turned (given (begun (turn e))) (going e) (marked e ∙ c .if2 .taken)) in
+    (turned (given (begun (turn e))) (going e) (marked (c .before .before) ∙ c .if2 .taken)) in
     omega (arith, grows e, most (turn e) (after e))
 
 loop-again : tie.Need-loop-again Inv-loop μ-loop
 loop-again c =
-    let e = c .before .before .before .before in
+    let e = took (c .before .before) in
     running-turn (given (begun (turn e))) (going e) (omega (arith, grows e, turn e .loop .inv .deep))
-    (marked e ∙ c .if2 .taken)
+    (marked (c .before .before) ∙ c .if2 .taken)
 
 loop-less-2 : tie.Need-loop-less-2 Inv-loop μ-loop
-loop-less-2 c = let e = c .before .before .before .before in omega (arith, grows e, most (turn e) (after e))
+loop-less-2 c = let e = took (c .before .before) in omega (arith, grows e, most (turn e) (after e))
 
 loop-again-2 : tie.Need-loop-again-2 Inv-loop μ-loop
 loop-again-2 c =
-    let e = c .before .before .before .before in
+    let e = took (c .before .before) in
     running-on (given (begun (turn e))) (going e) (omega (arith, grows e, turn e .loop .inv .deep))
-    (λ z. c .if2 .left (sym (marked e) ∙ z))
+    (λ z. c .if2 .left (sym (marked (c .before .before)) ∙ z))
 
 same-length : tie.Need-same-length Inv-loop μ-loop
-same-length c = long (c .before .before)
+same-length c = long (c .before .before .before)
 
 returns : tie.Need-returns Inv-loop μ-loop
 returns c priorities ok =
-    let d = c .before .before in
-    let b = begun d in
-    let l = d .loop in
-    let none =
-    marks-read (given b) (l .inv .going) ∙ ap (λ (k : ℕ). getD (l .work) (l .this + k) 0) (sym (size d)) ∙ c .if1 .left in
+    let m = c .before .before in
+    let b = begun (m .before) in
+    let l = m .before .loop in
+    let none = read m ∙ c .if1 .left in
     attracted-moved (same b)
     (running-all (given b) (l .inv .going)
     (unmarked-empty (layerAt (length (start-of b .args .owners .now)) (l .this) (l .work)) (l .inv .going .layer) none)
@@ -277,14 +300,12 @@ attract-spec =
     set-words-requires
     layers-requires
     begin-layers-requires
-    add-next
-    add-next-2
+    behind-layer-requires
     loop-holds
-    add-if1
+    marks-at-requires
     mul-if1
     slice-read-if1
-    add-pop-word
-    add-pop-word-2
+    behind-layer-requires-2
     mul-pop-word
     sub-pop-word
     part-pop-word-start
@@ -292,7 +313,7 @@ attract-spec =
     pop-word-requires
     take-word-requires
     add-looks
-    add-if2
+    marks-at-requires-2
     mul-if2
     slice-read-if2
     add-far
