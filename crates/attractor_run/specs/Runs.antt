@@ -52,9 +52,10 @@ drawn-of :
 drawn-of t a within set before after looks d =
     record { holds = d .holds; met = d .met; distances = d .distances; entered = λ v p q o. d .entered v (p, q, o) }
 
+-- V goes to the base, and the target behind it
 module _ (owners offsets targets : List ℕ) (alpha : ℕ) (within target result strategy distances work : List ℕ)
     (given : AttractorRunnable owners offsets targets alpha within target result strategy distances work)
-    {base : ℕ} (place : base ≡ free (length owners) (length targets))
+    {base : ℕ} (place : base ≡ free (length owners) (length targets)) {set : ℕ} (behind : set ≡ base + length within)
   where
     abbrev n : ℕ
     n = length owners
@@ -64,10 +65,6 @@ module _ (owners offsets targets : List ℕ) (alpha : ℕ) (within target result
 
     abbrev s : ℕ
     s = length within
-
-    -- V goes to the base, and the target behind it
-    abbrev set : ℕ
-    set = base + s
 
     pub fits : base + s + s ≤ length work
     fits = omega (arith, place, given .room, given .within-size)
@@ -93,7 +90,7 @@ module _ (owners offsets targets : List ℕ) (alpha : ℕ) (within target result
       within-set = ap setOf (prepared .first)
 
       target-set : setAt n set one ≡ setOf target
-      target-set = ap setOf (prepared .second)
+      target-set = ap (λ (k : ℕ). setAt n k one) behind ∙ ap setOf (prepared .second)
 
       pub attract-ready : Attractable owners offsets targets alpha base set one
       attract-ready =

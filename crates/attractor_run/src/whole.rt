@@ -1,5 +1,6 @@
 // The work itself: what goes in, the attractor, and what comes out.
 use area::Area;
+use area::next_set;
 use attractor::attract;
 use attractor_outputs::distances::write_distances;
 use attractor_outputs::strategy::write_strategy;
@@ -27,8 +28,9 @@ fn prepare(
         (now (work .entry)) (now (work .exit)) base ⌝ }
 {
     let s = within.len();
+    let set = next_set(base, s);
     sets::copy_from(&mut work[base..base + s], within);
-    sets::copy_from(&mut work[base + s..base + s + s], target);
+    sets::copy_from(&mut work[set..set + s], target);
     predecessors::build(offsets, targets, n, work);
 }
 
@@ -88,15 +90,16 @@ pub fn run(
     let m = targets.len();
     let s = within.len();
     let base = Area { n, m, s }.free();
+    let set = next_set(base, s);
     prepare(offsets, targets, n, within, target, work, base);
-    let looks = attract(owners, offsets, targets, alpha, work, base, base + s);
+    let looks = attract(owners, offsets, targets, alpha, work, base, set);
     hand_out(
         owners,
         m,
         alpha,
         target,
         work,
-        base + s,
+        set,
         result,
         strategy,
         distances,

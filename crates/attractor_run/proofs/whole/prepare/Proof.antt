@@ -5,15 +5,21 @@ use Rattle.attractor_run.specs.Preparing.{build-ready, prepared}
 use Rattle.attractor_run.proofs.whole.prepare.Statement.{statement}
 use Rattle.attractor_run.proofs.whole.prepare.Tie as tie
 
--- the calls in order, and where the function begins
+-- the calls in order, where the place behind the base is known and where the function begins
+abbrev placed : tie.After-copy-from → tie.After-next-set
+placed c = c .before .before
+
 abbrev at1 : tie.After-copy-from → tie.Start
-at1 c = c .before .before .before .before .before .before .before
+at1 c = placed c .before .before .before .before .before .before
 
 abbrev copied1 : tie.After-copy-from2 → tie.After-copy-from
 copied1 c = c .before .before .before .before
 
 abbrev copied2 : tie.After-build → tie.After-copy-from2
 copied2 c = c .before .before .before .before
+
+next-set-requires : tie.Need-next-set-requires
+next-set-requires c κs = search needs
 
 add-copy-from : tie.Need-add-copy-from
 add-copy-from c = search needs
@@ -36,12 +42,6 @@ copy-from-requires c κs = search needs
 add-copy-from-2 : tie.Need-add-copy-from-2
 add-copy-from-2 c = search needs
 
-add-copy-from-3 : tie.Need-add-copy-from-3
-add-copy-from-3 c = search needs
-
-add-copy-from-4 : tie.Need-add-copy-from-4
-add-copy-from-4 c = search needs
-
 mul-copy-from-2 : tie.Need-mul-copy-from-2
 mul-copy-from-2 c = search needs
 
@@ -63,8 +63,9 @@ build-requires c κs =
     let d1 = copied1 d2 in
     let g = at1 d1 in
     let a = g .args in
-    build-ready (a .n) (a .offsets .now) (a .targets .now) (a .within .now) (a .target .now) (a .work .now) (a .base) (g .pre)
-    (d1 .copy-from .last .0) (d2 .copy-from2 .last .0) (d1 .copy-from .ensures) (d2 .copy-from2 .ensures)
+    rw (placed d1 .next-set .ensures)
+    (build-ready (a .n) (a .offsets .now) (a .targets .now) (a .within .now) (a .target .now) (a .work .now) (a .base) (g .pre)
+    (d1 .copy-from .last .0) (d2 .copy-from2 .last .0) (d1 .copy-from .ensures) (d2 .copy-from2 .ensures))
 
 same-length : tie.Need-same-length
 same-length c = search needs
@@ -78,12 +79,13 @@ returns c =
     let a = g .args in
     prepared (a .n) (a .offsets .now) (a .targets .now) (a .within .now) (a .target .now) (a .work .now) (a .base) (g .pre)
     (d1 .copy-from .last .0) (d2 .copy-from2 .last .0) (d1 .copy-from .ensures) (d2 .copy-from2 .ensures)
-    (d3 .build .last .1 .1 .1 .0) (d3 .build .ensures)
+    (d3 .build .last .1 .1 .1 .0) (rw (placed d1 .next-set .ensures) at (d3 .build .ensures))
 
 pub prepare-spec : {M : Type 1} → statement M
 prepare-spec =
     tie.close
     (tie.spec
+    next-set-requires
     add-copy-from
     mul-copy-from
     sub-copy-from
@@ -91,8 +93,6 @@ prepare-spec =
     part-copy-from-end
     copy-from-requires
     add-copy-from-2
-    add-copy-from-3
-    add-copy-from-4
     mul-copy-from-2
     sub-copy-from-2
     part-copy-from-start-2

@@ -10,12 +10,12 @@ use Rattle.attractor_run.specs.Runs.{prepare-ready, attract-ready, two-l
 use Rattle.attractor_run.proofs.whole.run.Statement.{statement}
 use Rattle.attractor_run.proofs.whole.run.Tie as tie
 
--- the calls in order, where the base is known and where the function begins
-abbrev placed : tie.After-prepare → tie.After-free
+-- the calls in order, where the base and what stands behind it are known and where the function begins
+abbrev placed : tie.After-prepare → tie.After-next-set
 placed c = c .before .before
 
-abbrev at1 : tie.After-free → tie.Start
-at1 c = c .before .before .before .before .before .before .before .before .before .before
+abbrev at1 : tie.After-next-set → tie.Start
+at1 c = c .before .before .before .before .before .before .before .before .before .before .before
 
 abbrev readied : tie.After-attract → tie.After-prepare
 readied c = c .before .before .before .before
@@ -33,7 +33,8 @@ long d =
     let g = at1 (placed p) in
     let a = g .args in
     two-long (a .owners .now) (a .offsets .now) (a .targets .now) (a .alpha) (a .within .now) (a .target .now)
-    (a .result .now) (a .strategy .now) (a .distances .now) (a .work .now) (g .pre) (placed p .free .ensures)
+    (a .result .now) (a .strategy .now) (a .distances .now) (a .work .now) (g .pre) (placed p .before .free .ensures)
+    (placed p .next-set .ensures)
     (p .prepare .last .1 .1 .1 .1 .1 .0) (p .prepare .ensures) (d .attract .last .1 .1 .1 .1 .0) (d .attract .result)
     (d .attract .ensures)
 
@@ -43,16 +44,16 @@ free-requires c κs =
     let small : free (length (g .args .owners .now)) (length (g .args .targets .now)) < 2 ^ 64 = omega (arith, g .pre .room, g .good) in
     (g .pre .within-size, small)
 
+next-set-requires : tie.Need-next-set-requires
+next-set-requires c κs = search needs
+
 prepare-requires : tie.Need-prepare-requires
 prepare-requires c κs =
-    let f = c .before in
-    let g = at1 f in
+    let b = c .before in
+    let g = at1 b in
     let a = g .args in
     prepare-ready (a .owners .now) (a .offsets .now) (a .targets .now) (a .alpha) (a .within .now) (a .target .now)
-    (a .result .now) (a .strategy .now) (a .distances .now) (a .work .now) (g .pre) (f .free .ensures)
-
-add-attract : tie.Need-add-attract
-add-attract c = search needs
+    (a .result .now) (a .strategy .now) (a .distances .now) (a .work .now) (g .pre) (b .before .free .ensures) (b .next-set .ensures)
 
 attract-requires : tie.Need-attract-requires
 attract-requires c κs =
@@ -60,14 +61,9 @@ attract-requires c κs =
     let g = at1 (placed p) in
     let a = g .args in
     attract-ready (a .owners .now) (a .offsets .now) (a .targets .now) (a .alpha) (a .within .now) (a .target .now)
-    (a .result .now) (a .strategy .now) (a .distances .now) (a .work .now) (g .pre) (placed p .free .ensures)
+    (a .result .now) (a .strategy .now) (a .distances .now) (a .work .now) (g .pre) (placed p .before .free .ensures)
+    (placed p .next-set .ensures)
     (p .prepare .last .1 .1 .1 .1 .1 .0) (p .prepare .ensures)
-
-add-hand-out : tie.Need-add-hand-out
-add-hand-out c =
-    let f = placed (readied (c .before .before .before)) in
-    let g = at1 f in
-    omega (arith, f .free .ensures, g .pre .room, g .pre .within-size, g .good)
 
 hand-out-requires : tie.Need-hand-out-requires
 hand-out-requires c κs =
@@ -76,7 +72,8 @@ hand-out-requires c κs =
     let g = at1 (placed p) in
     let a = g .args in
     hand-ready (a .owners .now) (a .offsets .now) (a .targets .now) (a .alpha) (a .within .now) (a .target .now)
-    (a .result .now) (a .strategy .now) (a .distances .now) (a .work .now) (g .pre) (placed p .free .ensures)
+    (a .result .now) (a .strategy .now) (a .distances .now) (a .work .now) (g .pre) (placed p .before .free .ensures)
+    (placed p .next-set .ensures)
     (p .prepare .last .1 .1 .1 .1 .1 .0) (p .prepare .ensures) (d .attract .last .1 .1 .1 .1 .0) (d .attract .result)
     (d .attract .ensures)
 
@@ -105,7 +102,8 @@ returns c =
     let a = g .args in (
       cleared-all (a .work .now) _ (long d) (e .clear .ensures),
       ran (a .owners .now) (a .offsets .now) (a .targets .now) (a .alpha) (a .within .now) (a .target .now) (a .result .now)
-          (a .strategy .now) (a .distances .now) (a .work .now) (g .pre) (placed p .free .ensures)
+          (a .strategy .now) (a .distances .now) (a .work .now) (g .pre) (placed p .before .free .ensures)
+          (placed p .next-set .ensures)
           (p .prepare .last .1 .1 .1 .1 .1 .0) (p .prepare .ensures) (d .attract .last .1 .1 .1 .1 .0) (d .attract .result)
           (d .attract .ensures) (h .hand-out .last .1 .1 .1 .1 .1 .1 .0) (h .hand-out .last .1 .1 .1 .1 .1 .1 .1 .0)
           (h .hand-out .last .1 .1 .1 .1 .1 .1 .1 .1 .0) (h .hand-out .ensures),
@@ -116,10 +114,9 @@ run-spec =
     tie.close
     (tie.spec
     free-requires
+    next-set-requires
     prepare-requires
-    add-attract
     attract-requires
-    add-hand-out
     hand-out-requires
     clear-requires
     same-length
