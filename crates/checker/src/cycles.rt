@@ -3,6 +3,7 @@ use parity_game::Answer;
 use parity_game::LOSING_CYCLE;
 use parity_game::VertexIndex;
 use search_rows::Rows;
+use search_rows::next_row;
 ghost use mathlib.Core.Path.{_≡_};
 ghost use Prim.Native.Nat.{_+_, _*_, _<_};
 ghost use lib.ListN.{length};
@@ -19,7 +20,7 @@ fn is_losing(even: &[u64], work: &[u64], rows: usize, n: usize, v: usize) -> boo
     ensures { λ r. ⌜ r ≡ losingAt (now (even .entry)) (now (work .entry)) rows n v ⌝ }
 {
     if sets::contains(even, v) {
-        return work[rows + n + v] != 0;
+        return work[next_row(rows, n) + v] != 0;
     }
     work[rows + v] != 0
 }
@@ -58,19 +59,11 @@ fn mark_cycles(
     let n = priorities.len();
     let m = targets.len();
     let rows = Rows { n, m }.behind();
-    parts::clear(work, rows, rows + n + n);
+    let odd = next_row(rows, n);
+    parts::clear(work, rows, next_row(odd, n));
     predecessors::build(offsets, targets, n, work);
     subgame::mark_parity(priorities, offsets, targets, kept, strategy, 0, work, rows);
-    subgame::mark_parity(
-        priorities,
-        offsets,
-        targets,
-        kept,
-        strategy,
-        1,
-        work,
-        rows + n,
-    );
+    subgame::mark_parity(priorities, offsets, targets, kept, strategy, 1, work, odd);
 }
 
 // 24.

@@ -1,6 +1,7 @@
 -- `mark_cycles` meets its contract: each stage leaves what the next one needs.
-use mathlib.Core.Path.{ap}
-use Prim.Native.Nat.{ℕ, _+_}
+use mathlib.Core.Path.{_≡_}
+use Prim.Native.Nat.{_+_}
+use native.Mathlib.Omega.{arith}
 use lib.ListN.{length}
 use Rattle.search_rows.specs.Rows.{behind}
 use Rattle.search_links.specs.Area.{ClearedUpTo, cleared-as}
@@ -12,7 +13,7 @@ use Rattle.checker.proofs.cycles.mark_cycles.Tie as tie
 
 -- where the function begins, where the rows are cleared, and where the table is built
 abbrev start : tie.After-clear → tie.Start
-start k = k .before .before .before .before .before .before .before .before .before .before
+start k = k .before .before .before .before .before .before .before .before .before .before .before .before
 
 abbrev cleared : tie.After-build → tie.After-clear
 cleared b = b .before .before .before .before
@@ -20,9 +21,19 @@ cleared b = b .before .before .before .before
 abbrev built : tie.After-mark-parity → tie.After-build
 built e = e .before .before .before .before
 
--- the rows begin behind those of the search
+-- the rows begin behind those of the search, the second behind the first
+abbrev odd-of : tie.After-clear → tie.After-next-row
+odd-of k = k .before .before .before
+
 abbrev row-of : tie.After-clear → tie.After-behind
-row-of k = k .before .before
+row-of k = odd-of k .before
+
+odd-at :
+    (k : tie.After-clear) →
+    let a = start k .args in
+    let n = length (a .priorities .now) in
+    odd-of k .next-row .result ≡ behind n (length (a .targets .now)) + n
+odd-at k = omega (arith, row-of k .behind .ensures, odd-of k .next-row .ensures)
 
 bare :
     (k : tie.After-clear) →
@@ -31,9 +42,7 @@ bare :
     let b = behind n (length (a .targets .now)) in
     ClearedUpTo b (b + n + n) (a .work .now) (k .clear .last .0)
 bare k =
-    let n = length (start k .args .priorities .now) in
-    let e = row-of k .behind .ensures in
-    cleared-as e (ap (λ (x : ℕ). x + n + n) e) (k .clear .ensures)
+    cleared-as (row-of k .behind .ensures) (omega (arith, odd-at k, k .before .next-row2 .ensures)) (k .clear .ensures)
 
 -- both rows are marked
 all-marked :
@@ -45,19 +54,17 @@ all-marked o =
     let e = o .before .before .before .before in
     let b = built e in
     let k = cleared b in
-    let at = row-of k .behind .ensures in
-    let n = length (start k .args .priorities .now) in
-    cycles-marked (start k .pre .0) (bare k) (b .build .ensures) (swept-as at (e .mark-parity .ensures))
-    (swept-as (ap (λ (x : ℕ). x + n) at) (o .mark-parity2 .ensures))
+    cycles-marked (start k .pre .0) (bare k) (b .build .ensures) (swept-as (row-of k .behind .ensures) (e .mark-parity .ensures))
+    (swept-as (odd-at k) (o .mark-parity2 .ensures))
 
 behind-requires : tie.Need-behind-requires
 behind-requires c κs = search needs
 
-add-clear : tie.Need-add-clear
-add-clear c = search needs
+next-row-requires : tie.Need-next-row-requires
+next-row-requires c κs = search needs
 
-add-clear-2 : tie.Need-add-clear-2
-add-clear-2 c = search needs
+next-row-requires-2 : tie.Need-next-row-requires-2
+next-row-requires-2 c κs = search needs
 
 clear-requires : tie.Need-clear-requires
 clear-requires c κs = search needs
@@ -72,18 +79,13 @@ mark-parity-requires c κs =
     let k = cleared b in
     (sweepable-as (row-of k .behind .ensures) (evens-ready (start k .pre .0) (bare k) (b .build .ensures)), start k .pre .1)
 
-add-mark-parity : tie.Need-add-mark-parity
-add-mark-parity c = search needs
-
 mark-parity-requires-2 : tie.Need-mark-parity-requires-2
 mark-parity-requires-2 c κs =
     let e = c .before .before .before in
     let b = built e in
-    let k = cleared b in
-    let at = row-of k .behind .ensures in
-    let n = length (start k .args .priorities .now) in (
-      sweepable-as (ap (λ (x : ℕ). x + n) at)
-          (odds-ready (start k .pre .0) (bare k) (b .build .ensures) (swept-as at (e .mark-parity .ensures))),
+    let k = cleared b in (
+      sweepable-as (odd-at k)
+          (odds-ready (start k .pre .0) (bare k) (b .build .ensures) (swept-as (row-of k .behind .ensures) (e .mark-parity .ensures))),
       start k .pre .1,
     )
 
@@ -98,12 +100,11 @@ mark-cycles-spec =
     tie.close
     (tie.spec
     behind-requires
-    add-clear
-    add-clear-2
+    next-row-requires
+    next-row-requires-2
     clear-requires
     build-requires
     mark-parity-requires
-    add-mark-parity
     mark-parity-requires-2
     same-length
     returns)
