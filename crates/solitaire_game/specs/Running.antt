@@ -24,8 +24,8 @@ use Rattle.parity_game.specs.Laws.{accepted-sound}
 use Rattle.area.specs.Area.{free, setAt, wordsAt}
 use Rattle.attractor.specs.Attracted.{Attractable, Attracted, listed-kept, edges-sound}
 use Rattle.area.specs.Lent.{part-is}
-use Rattle.search_rows.specs.Rows.{behind}
-use Rattle.search_links.specs.Area.{marked-true}
+use Rattle.search_rows.specs.Rows.{behind, setsBehind}
+use Rattle.search_links.specs.Area.{marked, marked-true}
 use Rattle.solitaire_game.specs.Checks.{SolitairePassed}
 use Rattle.solitaire_game.specs.Marking.{GoodMarkable, GoodMarked}
 use Rattle.solitaire_game.specs.Gathering.{GoodPlaceable, GoodPlaced}
@@ -43,12 +43,12 @@ pub record SolitaireRunnable (t : Tables) (set work : List ℕ) : Type 0 where
 
 -- the marked row stands behind the words of the search for parts, and the two sets behind the row; two words more, for where there
 -- is no vertex the attractor's layers have two. W words have room for them
-pub rows-fit : (n m : ℕ) → behind n m + n + 2 + words n + words n ≤ workWords n m
+pub rows-fit : (n m : ℕ) → setsBehind n m + words n + words n ≤ workWords n m
 unfolding workWords words
 rows-fit zero m = omega arith
 rows-fit (suc n) m = go ((suc n + 63) / 64) (omega arith)
   where
-    go : (s : ℕ) → 0 < s → behind (suc n) m + suc n + 2 + s + s ≤ 8 * (suc n + 2) * s + 4 * suc n + 2 * m + 272
+    go : (s : ℕ) → 0 < s → setsBehind (suc n) m + s + s ≤ 8 * (suc n + 2) * s + 4 * suc n + 2 * m + 272
     go zero l = absurd (omega arith)
     go (suc s) l =
         let wide : 2 * s ≤ 8 * (suc n + 2) * s = mul-le-mul-right s (omega arith) in
@@ -62,28 +62,30 @@ sole-owner-small t accepted owner is =
     (λ (h : vertices t ≤ 0). omega (arith, List·getD-eq-default (t .owners) 0 {n = 0} h))
     (lt-or-ge 0 (vertices t))
 
--- and both stand where a set may
-base-free : (t : Tables) (row : ℕ) → row ≡ behind (vertices t) (edgesIn t) → free (vertices t) (edgesIn t) ≤ row + vertices t + 2
+-- where the marked row and the two sets stand, as the run asked for it
+pub record SetsStand (t : Tables) (s row base good : ℕ) : Type 0 where
+  pub row-at : row ≡ behind (vertices t) (edgesIn t)
+  pub base-at : base ≡ setsBehind (vertices t) (edgesIn t)
+  pub good-at : good ≡ base + s
+
+-- and both sets stand where a set may
+base-free : (n m : ℕ) → free n m ≤ setsBehind n m
 unfolding words
-base-free t row at = omega arith
+base-free n m = omega arith
 
 module _ (t : Tables) (set w₀ : List ℕ) (given : SolitaireRunnable t set w₀) (owner : ℕ) (is : owner ≡ getD (t .owners) 0 0)
-    (row : ℕ) (at : row ≡ behind (vertices t) (edgesIn t)) where
+    {row base good : ℕ} (at : SetsStand t (length set) row base good) where
   abbrev n : ℕ
   n = vertices t
 
   abbrev s : ℕ
   s = length set
 
-  -- where the two sets begin
-  abbrev base : ℕ
-  base = row + n + 2
-
   -- the owner, as the rules have it
   player : playerOf owner ≡ soleOwner t
   player = ap playerOf is
 
-  fits : base + s + s ≤ length w₀
+  fits : good + s ≤ length w₀
   fits = omega (arith, rows-fit n (edgesIn t), given .room, given .set-size)
 
   pub mark-ready : GoodMarkable t owner w₀ row
@@ -94,21 +96,24 @@ module _ (t : Tables) (set w₀ : List ℕ) (given : SolitaireRunnable t set w�
     place-ready = record { size = given .set-size; low = omega arith; high = omega (arith, fits, marks .long) }
 
     module _ (w₂ : List ℕ) (placed : GoodPlaced n s row base w₁ w₂) where
-      pub attract-ready : Attractable (t .owners) (t .offsets) (t .targets) owner base (base + s) w₂
+      found : (v : ℕ) → setAt n good w₂ v ≡ marked n row w₁ v
+      found v = rw (at .good-at) (placed .found v)
+
+      pub attract-ready : Attractable (t .owners) (t .offsets) (t .targets) owner base good w₂
       attract-ready =
           record {
             placed =
                 record {
-                  within-low = base-free t row at;
+                  within-low = omega (arith, base-free n (edgesIn t));
                   within-high = omega (arith, fits, marks .long, placed .long, given .set-size);
-                  set-low = omega (arith, base-free t row at);
+                  set-low = omega (arith, base-free n (edgesIn t));
                   set-high = omega (arith, fits, marks .long, placed .long, given .set-size);
                   apart = inl (omega (arith, given .set-size));
                 };
             nested =
                 record {
                   below = λ v e. ltb-true v n (sym (placed .full v) ∙ e);
-                  part = λ v e. placed .full v ∙ lt-ltb v n (marked-true n row w₁ v (sym (placed .found v) ∙ e) .0);
+                  part = λ v e. placed .full v ∙ lt-ltb v n (marked-true n row w₁ v (sym (found v) ∙ e) .0);
                 };
             edges = edges-sound t (given .accepted);
             listed =
@@ -116,29 +121,29 @@ module _ (t : Tables) (set w₀ : List ℕ) (given : SolitaireRunnable t set w�
             side = sole-owner-small t (given .accepted) owner is;
           }
 
-      module _ (looks : ℕ) (w₃ : List ℕ) (drawn : Attracted t (playerOf owner) base (base + s) w₂ w₃ looks) where
+      module _ (looks : ℕ) (w₃ : List ℕ) (drawn : Attracted t (playerOf owner) base good w₂ w₃ looks) where
         pub long₃ : length w₃ ≡ length w₀
         long₃ = drawn .long ∙ placed .long ∙ marks .long
 
-        pub copy-fits : base + s + s ≤ length w₃
+        pub copy-fits : good + s ≤ length w₃
         copy-fits = omega (arith, fits, long₃)
 
         -- the words that are copied out
-        copied : take ((base + s + s) - (base + s)) (drop (base + s) w₃) ≡ wordsAt n (base + s) w₃
+        copied : take ((good + s) - good) (drop good w₃) ≡ wordsAt n good w₃
         copied =
-            part-is (base + s) s w₃ ∙ ap (λ (k : ℕ). take k (drop (base + s) w₃)) (given .set-size)
+            part-is good s w₃ ∙ ap (λ (k : ℕ). take k (drop good w₃)) (given .set-size)
 
-        pub copy-long : length set ≡ length (take ((base + s + s) - (base + s)) (drop (base + s) w₃))
+        pub copy-long : length set ≡ length (take ((good + s) - good) (drop good w₃))
         copy-long = given .set-size ∙ sym (drawn .holds .long) ∙ sym (ap length copied)
 
         -- the attractor of the good parts among all vertices
         answer : (v : ℕ) → v < n →
-            attractor (gameOf t) (playerOf owner) (setAt n base w₂) (setAt n (base + s) w₂) v ≡ solitaire (gameOf t) (soleOwner t) v
+            attractor (gameOf t) (playerOf owner) (setAt n base w₂) (setAt n good w₂) v ≡ solitaire (gameOf t) (soleOwner t) v
         unfolding gameOf
         answer v l =
             ap₂ (λ (X T : Set). attractor (gameOf t) (playerOf owner) X T v)
             (fun-ext (placed .full))
-            (fun-ext (λ u. placed .found u ∙ marks .found u)) ∙
+            (fun-ext (λ u. found u ∙ marks .found u)) ∙
             sym
             (solitaire-attractor (gameOf t) (accepted-total t (given .accepted)) (playerOf owner)
             (λ u k. accepted-one-owner t (given .one-owner) u k ∙ sym player) v) ∙
@@ -146,12 +151,12 @@ module _ (t : Tables) (set w₀ : List ℕ) (given : SolitaireRunnable t set w�
 
         pub answer-holds :
             (set′ : List ℕ) →
-            set′ ≡ take ((base + s + s) - (base + s)) (drop (base + s) w₃) →
+            set′ ≡ take ((good + s) - good) (drop good w₃) →
             Narrow set′ →
             Holds n (solitaire (gameOf t) (soleOwner t)) set′
         answer-holds set′ e narrow = narrow-holds narrow (rw (e, copied) as-bits)
           where
-            as-bits : Bits n (solitaire (gameOf t) (soleOwner t)) (wordsAt n (base + s) w₃)
+            as-bits : Bits n (solitaire (gameOf t) (soleOwner t)) (wordsAt n good w₃)
             as-bits =
                 record {
                   long = drawn .holds .long;

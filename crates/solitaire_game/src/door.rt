@@ -4,6 +4,7 @@ use crate::checks::check_lent;
 use crate::checks::sole_owner;
 use crate::marking::mark_good;
 use crate::marking::place;
+use area::next_set;
 use parity_game::Answer;
 use search_rows::Rows;
 ghost use mathlib.Core.Path.{_≡_};
@@ -38,11 +39,12 @@ fn run(
     let owner = sole_owner(owners);
     let m = targets.len();
     let row = Rows { n, m }.behind();
-    let base = row + n + 2;
+    let base = Rows { n, m }.sets();
+    let good = next_set(base, s);
     mark_good(owners, priorities, offsets, targets, kept, owner, work, row);
     place(work, n, s, row, base);
-    attractor::attract(owners, offsets, targets, owner, work, base, base + s);
-    sets::copy_from(set, &work[base + s..base + s + s]);
+    attractor::attract(owners, offsets, targets, owner, work, base, good);
+    sets::copy_from(set, &work[good..good + s]);
     sets::clear(work, 0, work.len());
 }
 

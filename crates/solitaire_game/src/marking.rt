@@ -1,4 +1,5 @@
 // The good parts of the owner's parity: first a row of marked words, then their set beside the set of all vertices.
+use area::next_set;
 ghost use mathlib.Core.Path.{_≡_};
 ghost use Rattle.rules.specs.Game.{playerOf};
 ghost use Rattle.rules.specs.Record.{freshCount};
@@ -59,5 +60,5 @@ pub fn place(work: &mut [u64], n: usize, s: usize, row: usize, base: usize)
 {
     sets::clear(work, base, s + s);
     sets::fill(&mut work[base..base + s], n);
-    gather(work, n, s, row, base + s);
+    gather(work, n, s, row, next_set(base, s));
 }

@@ -5,13 +5,13 @@ use native.Mathlib.Omega.{arith}
 use borrow.Author.Needs.{needs}
 use lib.ListN.{length}
 use Rattle.rules.specs.Tables.{Tables, tablesOf}
-use Rattle.search_rows.specs.Rows.{behind}
+use Rattle.search_rows.specs.Rows.{behind, setsBehind}
 use Rattle.rules.specs.Game.{playerOf}
 use Rattle.accepted.specs.Tables.{accepted-sound}
 use Rattle.attractor.specs.Attracted.{Attracted}
 use Rattle.area.specs.Lent.{words-few}
 use Rattle.sets.specs.Laws.{cleared-all}
-use Rattle.solitaire_game.specs.Running.{mark-ready, place-ready, attract-ready, long₃, copy-fits, copy-long, answer-holds}
+use Rattle.solitaire_game.specs.Running.{SetsStand, mark-ready, place-ready, attract-ready, long₃, copy-fits, copy-long, answer-holds}
 use Rattle.solitaire_game.proofs.door.run.Statement.{statement}
 use Rattle.solitaire_game.proofs.door.run.Tie as tie
 
@@ -23,12 +23,11 @@ tables g = tablesOf (g .args .owners .now) (g .args .priorities .now) (g .args .
 abbrev start : tie.After-sole-owner → tie.Start
 start c = c .before .before .before .before .before .before .before .before
 
-abbrev owned : tie.After-mark-good → tie.After-sole-owner
+abbrev owned : tie.After-next-set → tie.After-sole-owner
 owned c = c .before .before .before
 
--- where the marked row begins
-abbrev row-of : tie.After-mark-good → tie.After-behind
-row-of c = c .before .before
+abbrev based : tie.After-mark-good → tie.After-next-set
+based c = c .before .before
 
 abbrev marked : tie.After-place → tie.After-mark-good
 marked c = c .before .before .before .before
@@ -37,7 +36,7 @@ abbrev placed : tie.After-attract → tie.After-place
 placed c = c .before .before .before .before
 
 abbrev begun : tie.After-attract → tie.Start
-begun c = start (owned (marked (placed c)))
+begun c = start (owned (based (marked (placed c))))
 
 abbrev drawn : tie.After-slice-known7 → tie.After-attract
 drawn c = c .before .before .before .before .before .before .before .before .before .before .before .before
@@ -51,12 +50,19 @@ few g =
     let s = words-few (length (g .args .owners .now)) (f .few-vertices) in
     (f .few-vertices, f .few-edges, omega (arith, g .pre .0 .set-size))
 
+-- where the marked row and the sets stand
+standing :
+    (b : tie.After-next-set) →
+    let g = start (owned b) in
+    SetsStand (tables g) (length (g .args .set .now)) (b .before .before .behind .result) (b .before .sets .result) (b .next-set .result)
+standing b =
+    record { row-at = b .before .before .behind .ensures; base-at = b .before .sets .ensures; good-at = b .next-set .ensures }
+
 -- what the attractor gives, the work area's length after it, and the room for the set in it
 attracted :
     (d : tie.After-attract) →
-    let g = begun d in
-    let base = row-of (marked (placed d)) .behind .result + length (g .args .owners .now) + 2 in
-    Attracted (tables g) (playerOf (owned (marked (placed d)) .sole-owner .result)) base (base + length (g .args .set .now)) (placed d .place .last .0)
+    let b = based (marked (placed d)) in
+    Attracted (tables (begun d)) (playerOf (owned b .sole-owner .result)) (b .before .sets .result) (b .next-set .result) (placed d .place .last .0)
     (d .attract .last .1 .1 .1 .1 .0) (d .attract .result)
 attracted d = let g = begun d in d .attract .ensures (g .args .priorities .now) (g .pre .0 .accepted)
 
@@ -64,23 +70,21 @@ long : (d : tie.After-attract) → length (d .attract .last .1 .1 .1 .1 .0) ≡ 
 long d =
     let p = placed d in
     let m = marked p in
+    let b = based m in
     let g = begun d in
-    long₃ (tables g) (g .args .set .now) (g .args .work .now) (g .pre .0) (owned m .sole-owner .result) (owned m .sole-owner .ensures)
-    (row-of m .behind .result) (row-of m .behind .ensures)
+    long₃ (tables g) (g .args .set .now) (g .args .work .now) (g .pre .0) (owned b .sole-owner .result) (owned b .sole-owner .ensures) (standing b)
     (m .mark-good .last .1 .1 .1 .1 .1 .1 .0) (m .mark-good .ensures) (p .place .last .0) (p .place .ensures) (d .attract .result)
     (d .attract .last .1 .1 .1 .1 .0) (attracted d)
 
 room :
     (d : tie.After-attract) →
-    let g = begun d in
-    row-of (marked (placed d)) .behind .result + length (g .args .owners .now) + 2 + length (g .args .set .now)
-    + length (g .args .set .now) ≤ length (d .attract .last .1 .1 .1 .1 .0)
+    based (marked (placed d)) .next-set .result + length (begun d .args .set .now) ≤ length (d .attract .last .1 .1 .1 .1 .0)
 room d =
     let p = placed d in
     let m = marked p in
+    let b = based m in
     let g = begun d in
-    copy-fits (tables g) (g .args .set .now) (g .args .work .now) (g .pre .0) (owned m .sole-owner .result) (owned m .sole-owner .ensures)
-    (row-of m .behind .result) (row-of m .behind .ensures)
+    copy-fits (tables g) (g .args .set .now) (g .args .work .now) (g .pre .0) (owned b .sole-owner .result) (owned b .sole-owner .ensures) (standing b)
     (m .mark-good .last .1 .1 .1 .1 .1 .1 .0) (m .mark-good .ensures) (p .place .last .0) (p .place .ensures) (d .attract .result)
     (d .attract .last .1 .1 .1 .1 .0) (attracted d)
 
@@ -93,57 +97,48 @@ behind-requires c κs =
     let small : behind (length (g .args .owners .now)) (length (g .args .targets .now)) < 2 ^ 64 = omega (arith, few g) in
     small
 
-add-base : tie.Need-add-base
-add-base c = omega (arith, c .behind .ensures, few (start (c .before)))
+sets-requires : tie.Need-sets-requires
+sets-requires c κs =
+    let g = start (c .before) in
+    let small : setsBehind (length (g .args .owners .now)) (length (g .args .targets .now)) < 2 ^ 64 = omega (arith, few g) in
+    small
 
-add-base-2 : tie.Need-add-base-2
-add-base-2 c = omega (arith, c .behind .ensures, few (start (c .before)))
+next-set-requires : tie.Need-next-set-requires
+next-set-requires c κs = omega (arith, c .sets .ensures, few (start (c .before .before)))
 
 mark-good-requires : tie.Need-mark-good-requires
 mark-good-requires c κs =
-    let o = c .before .before in
+    let b = c .before in
+    let o = owned b in
     let g = start o in (
-      mark-ready (tables g) (g .args .set .now) (g .args .work .now) (g .pre .0) (o .sole-owner .result) (o .sole-owner .ensures)
-          (c .before .behind .result) (c .before .behind .ensures),
+      mark-ready (tables g) (g .args .set .now) (g .args .work .now) (g .pre .0) (o .sole-owner .result) (o .sole-owner .ensures) (standing b),
       g .pre .1,
     )
 
 place-requires : tie.Need-place-requires
 place-requires c κs =
     let m = c .before .before .before in
-    let g = start (owned m) in
-    place-ready (tables g) (g .args .set .now) (g .args .work .now) (g .pre .0) (owned m .sole-owner .result) (owned m .sole-owner .ensures)
-    (row-of m .behind .result) (row-of m .behind .ensures)
+    let b = based m in
+    let g = start (owned b) in
+    place-ready (tables g) (g .args .set .now) (g .args .work .now) (g .pre .0) (owned b .sole-owner .result) (owned b .sole-owner .ensures) (standing b)
     (m .mark-good .last .1 .1 .1 .1 .1 .1 .0) (m .mark-good .ensures)
-
-add-attract : tie.Need-add-attract
-add-attract c =
-    let m = marked (c .before .before .before) in omega (arith, row-of m .behind .ensures, few (start (owned m)))
 
 attract-requires : tie.Need-attract-requires
 attract-requires c κs =
     let p = c .before .before .before in
     let m = marked p in
-    let g = start (owned m) in
-    attract-ready (tables g) (g .args .set .now) (g .args .work .now) (g .pre .0) (owned m .sole-owner .result) (owned m .sole-owner .ensures)
-    (row-of m .behind .result) (row-of m .behind .ensures)
+    let b = based m in
+    let g = start (owned b) in
+    attract-ready (tables g) (g .args .set .now) (g .args .work .now) (g .pre .0) (owned b .sole-owner .result) (owned b .sole-owner .ensures) (standing b)
     (m .mark-good .last .1 .1 .1 .1 .1 .1 .0) (m .mark-good .ensures) (p .place .last .0) (p .place .ensures)
 
 add-copy-from : tie.Need-add-copy-from
 add-copy-from c =
-    let d = c .before .before .before in omega (arith, row-of (marked (placed d)) .behind .ensures, few (begun d))
-
-add-copy-from-2 : tie.Need-add-copy-from-2
-add-copy-from-2 c =
-    let d = c .before .before .before in omega (arith, row-of (marked (placed d)) .behind .ensures, few (begun d))
-
-add-copy-from-3 : tie.Need-add-copy-from-3
-add-copy-from-3 c =
-    let d = c .before .before .before in omega (arith, row-of (marked (placed d)) .behind .ensures, few (begun d))
+    let d = c .before .before .before in omega (arith, standing (based (marked (placed d))), few (begun d))
 
 mul-copy-from : tie.Need-mul-copy-from
 mul-copy-from c =
-    let d = c .before .before .before in omega (arith, row-of (marked (placed d)) .behind .ensures, few (begun d))
+    let d = c .before .before .before in omega (arith, standing (based (marked (placed d))), few (begun d))
 
 sub-copy-from : tie.Need-sub-copy-from
 sub-copy-from c = search needs
@@ -159,9 +154,9 @@ copy-from-requires c κs =
     let d = c .before .before .before .before .before in
     let p = placed d in
     let m = marked p in
+    let b = based m in
     let g = begun d in
-    copy-long (tables g) (g .args .set .now) (g .args .work .now) (g .pre .0) (owned m .sole-owner .result) (owned m .sole-owner .ensures)
-    (row-of m .behind .result) (row-of m .behind .ensures)
+    copy-long (tables g) (g .args .set .now) (g .args .work .now) (g .pre .0) (owned b .sole-owner .result) (owned b .sole-owner .ensures) (standing b)
     (m .mark-good .last .1 .1 .1 .1 .1 .1 .0) (m .mark-good .ensures) (p .place .last .0) (p .place .ensures) (d .attract .result)
     (d .attract .last .1 .1 .1 .1 .0) (attracted d)
 
@@ -182,10 +177,10 @@ returns c =
     let d = drawn c in
     let p = placed d in
     let m = marked p in
+    let b = based m in
     let g = begun d in (
       cleared-all (g .args .work .now) (d .attract .last .1 .1 .1 .1 .0) (long d) (c .before .before .clear .ensures),
-      answer-holds (tables g) (g .args .set .now) (g .args .work .now) (g .pre .0) (owned m .sole-owner .result) (owned m .sole-owner .ensures)
-          (row-of m .behind .result) (row-of m .behind .ensures)
+      answer-holds (tables g) (g .args .set .now) (g .args .work .now) (g .pre .0) (owned b .sole-owner .result) (owned b .sole-owner .ensures) (standing b)
           (m .mark-good .last .1 .1 .1 .1 .1 .1 .0) (m .mark-good .ensures) (p .place .last .0) (p .place .ensures) (d .attract .result)
           (d .attract .last .1 .1 .1 .1 .0) (attracted d)
           (copied .last .0)
@@ -199,15 +194,12 @@ run-spec =
     (tie.spec
     sole-owner-requires
     behind-requires
-    add-base
-    add-base-2
+    sets-requires
+    next-set-requires
     mark-good-requires
     place-requires
-    add-attract
     attract-requires
     add-copy-from
-    add-copy-from-2
-    add-copy-from-3
     mul-copy-from
     sub-copy-from
     part-copy-from-start

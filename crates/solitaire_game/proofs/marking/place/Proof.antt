@@ -32,28 +32,30 @@ fill-requires c κs =
     let f1 = c .before .before .before .clear in
     fill-fits (a .n) (a .s) (a .row) (a .base) (a .work .now) (g .pre) (f1 .last .0) (f1 .ensures)
 
-add-gather : tie.Need-add-gather
-add-gather c = search needs
+next-set-requires : tie.Need-next-set-requires
+next-set-requires c κs = search needs
 
 gather-requires : tie.Need-gather-requires
 gather-requires c κs =
-    let g = c .before .before .before .before .before .before .before .before .before .before in
+    let g = c .before .before .before .before .before .before .before .before .before .before .before in
     let a = g .args in
-    let f1 = c .before .before .before .before .before .before .before .clear in
-    let f2 = c .before .before .before .fill in
-    gather-ready (a .n) (a .s) (a .row) (a .base) (a .work .now) (g .pre) (f1 .last .0) (f1 .ensures) (f2 .last .0) (f2 .ensures)
+    let f1 = c .before .before .before .before .before .before .before .before .clear in
+    let f2 = c .before .before .before .before .fill in
+    rw (c .next-set .ensures)
+    (gather-ready (a .n) (a .s) (a .row) (a .base) (a .work .now) (g .pre) (f1 .last .0) (f1 .ensures) (f2 .last .0) (f2 .ensures))
 
 same-length : tie.Need-same-length
 same-length c = search needs
 
 returns : tie.Need-returns
 returns c =
-    let g = c .before .before .before .before .before .before .before .before .before .before .before .before .before in
+    let g = c .before .before .before .before .before .before .before .before .before .before .before .before .before .before in
     let a = g .args in
-    let f1 = c .before .before .before .before .before .before .before .before .before .before .clear in
-    let f2 = c .before .before .before .before .before .before .fill in
+    let f1 = c .before .before .before .before .before .before .before .before .before .before .before .clear in
+    let f2 = c .before .before .before .before .before .before .before .fill in
     let f3 = c .before .before .gather in
-    both-placed (a .n) (a .s) (a .row) (a .base) (a .work .now) (g .pre) (f1 .last .0) (f1 .ensures) (f2 .last .0) (f2 .ensures) (f3 .last .0) (f3 .ensures)
+    both-placed (a .n) (a .s) (a .row) (a .base) (a .work .now) (g .pre) (f1 .last .0) (f1 .ensures) (f2 .last .0) (f2 .ensures) (f3 .last .0)
+    (rw (c .before .before .before .next-set .ensures) at (f3 .ensures))
 
 pub place-spec : {M : Type 1} → statement M
 place-spec =
@@ -67,7 +69,7 @@ place-spec =
     part-fill-start
     part-fill-end
     fill-requires
-    add-gather
+    next-set-requires
     gather-requires
     same-length
     returns)
