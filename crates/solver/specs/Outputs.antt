@@ -51,23 +51,27 @@ partAt a k work = take ((a + k) - a) (drop a work)
 pub lent-enterable :
     {owners : List ℕ} {s from at : ℕ} {work even odd strategy : List ℕ} →
     Writable owners s from at work even odd strategy →
-    StrategyWritable owners (partAt at s work) (partAt (at + s) s work) (partAt from (length owners) work) strategy
-lent-enterable {owners} {s} {from} {at} {work} w =
-    rw (part-is at s work, part-is (at + s) s work, part-is from (length owners) work) (w .enterable)
+    {next : ℕ} →
+    next ≡ at + s →
+    StrategyWritable owners (partAt at s work) (partAt next s work) (partAt from (length owners) work) strategy
+lent-enterable {owners} {s} {from} {at} {work} w e =
+    rw (e, part-is at s work, part-is (at + s) s work, part-is from (length owners) work) (w .enterable)
 
 pub wrote-parts :
     {owners : List ℕ} (s from at : ℕ) (work : List ℕ) {even odd strategy : List ℕ} (was : Outputs) →
+    {next : ℕ} →
+    next ≡ at + s →
     even ≡ partAt at s work →
-    odd ≡ partAt (at + s) s work →
-    StrategyWritten owners (partAt at s work) (partAt (at + s) s work) (partAt from (length owners) work) (was .strategy) strategy →
+    odd ≡ partAt next s work →
+    StrategyWritten owners (partAt at s work) (partAt next s work) (partAt from (length owners) work) (was .strategy) strategy →
     Narrow even →
     Narrow odd →
     WroteOut owners s from at work was (record { even = even; odd = odd; strategy = strategy })
-wrote-parts {owners} s from at work was e o w even-narrow odd-narrow =
+wrote-parts {owners} s from at work was behind e o w even-narrow odd-narrow =
     record {
       even = e ∙ part-is at s work;
-      odd = o ∙ part-is (at + s) s work;
-      strategy = rw (part-is at s work, part-is (at + s) s work, part-is from (length owners) work) at w;
+      odd = rw behind at o ∙ part-is (at + s) s work;
+      strategy = rw (behind, part-is at s work, part-is (at + s) s work, part-is from (length owners) work) at w;
       even-narrow = even-narrow;
       odd-narrow = odd-narrow;
     }

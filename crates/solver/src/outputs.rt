@@ -1,4 +1,5 @@
 // What a solver has found is written out.
+use area::next_set;
 use solver_entries::write_strategy;
 ghost use Rattle.solver.specs.Outputs.{Writable, WroteOut};
 
@@ -20,7 +21,7 @@ pub fn write_out(
         (record { even = now (even .exit); odd = now (odd .exit); strategy = now (strategy .exit) }) ⌝ }
 {
     let n = owners.len();
-    let next = at + s;
+    let next = next_set(at, s);
     sets::copy_from(even, &work[at..at + s]);
     sets::copy_from(odd, &work[next..next + s]);
     write_strategy(

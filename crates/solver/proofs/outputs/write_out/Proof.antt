@@ -4,15 +4,18 @@ use borrow.Author.Needs.{needs}
 use Rattle.solver.proofs.outputs.write_out.Statement.{statement}
 use Rattle.solver.proofs.outputs.write_out.Tie as tie
 
--- where the function begins, and where Even's set is written
+-- where the function begins, where Odd's set is found, and where Even's set is written
+abbrev placed : tie.After-copy-from → tie.After-next-set
+placed e = e .before .before .before
+
 abbrev start : tie.After-copy-from → tie.Start
-start e = e .before .before .before .before .before .before .before .before
+start e = placed e .before .before .before .before .before .before
 
 abbrev even-out : tie.After-copy-from2 → tie.After-copy-from
 even-out o = o .before .before .before .before .before
 
-add-next : tie.Need-add-next
-add-next c = search needs
+next-set-requires : tie.Need-next-set-requires
+next-set-requires c κs = search needs
 
 add-copy-from : tie.Need-add-copy-from
 add-copy-from c = search needs
@@ -97,7 +100,7 @@ part-write-strategy-end-3 c = search needs
 
 write-strategy-requires : tie.Need-write-strategy-requires
 write-strategy-requires c κs =
-    let o = c .before .before .before .before .before .before in lent-enterable (start (even-out o) .pre)
+    let e = even-out (c .before .before .before .before .before .before) in lent-enterable (start e .pre) (placed e .next-set .ensures)
 
 same-length : tie.Need-same-length
 same-length c = search needs
@@ -116,7 +119,7 @@ returns c =
     let a = start e .args in
     wrote-parts (a .s) (a .from) (a .at) (a .work .now)
     (record { even = a .even .now; odd = a .odd .now; strategy = a .strategy .now })
-    (e .copy-from .ensures) (o .copy-from2 .ensures) (w .write-strategy .ensures)
+    (placed e .next-set .ensures) (e .copy-from .ensures) (o .copy-from2 .ensures) (w .write-strategy .ensures)
     (λ i. o .before .before .before .slice-known4 .given i .fits)
     (λ i. w .before .before .before .before .before .slice-known5 .given i .fits)
 
@@ -124,7 +127,7 @@ pub write-out-spec : {M : Type 1} → statement M
 write-out-spec =
     tie.close
     (tie.spec
-    add-next
+    next-set-requires
     add-copy-from
     mul-copy-from
     sub-copy-from
