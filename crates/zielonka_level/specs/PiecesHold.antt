@@ -213,26 +213,27 @@ module _ {t : Tables} {a : Player} {base looks : ℕ} {w₀ w₁ w₂ : List ℕ
 
 -- the same, by the number of words, the place and the player's number that the code has
 pub cut-done :
-    {owners offsets targets : List ℕ} {a : Player} {s base place : ℕ} {w₀ : List ℕ} →
+    {owners offsets targets : List ℕ} {a : Player} {s base place up : ℕ} {w₀ : List ℕ} →
     Cuttable owners offsets targets s base w₀ →
     (alpha : ℕ) →
     playerOf alpha ≡ a →
     place ≡ drawnPlace (length owners) (length targets) →
+    up ≡ base + s →
     (priorities : List ℕ) →
     Accepted (tablesOf owners priorities offsets targets) →
     {looks : ℕ} {w₁ w₂ : List ℕ} →
     Attracted (tablesOf owners priorities offsets targets) (playerOf alpha) base place w₀ w₁ looks →
-    WithoutAt (length owners) (base + s) base place w₁ w₂ →
+    WithoutAt (length owners) up base place w₁ w₂ →
     CutBy (tablesOf owners priorities offsets targets) a base
     (onLevel (tablesOf owners priorities offsets targets) base w₀)
     (drawnAt (tablesOf owners priorities offsets targets) w₀)
     w₀ w₂
 unfolding gameOf
-cut-done c alpha whose there priorities ok drawn taken =
+cut-done c alpha whose there next priorities ok drawn taken =
     let size = c .ready .size in
     cut-made ok (c .ready .called .above) (record { part = c .part; below = c .ready .called .below })
     (rw (there, whose) at drawn)
-    (rw (size, there) at taken)
+    (rw (next, size, there) at taken)
 
 -- ---- the first cut
 
@@ -342,12 +343,13 @@ gave-odd {s} {odd} {from} {x} {y} c n size =
 
 -- the three places that the lost are collected from and to stand apart
 pub told-parts :
-    {n m s base odd place : ℕ} {work : List ℕ} →
+    {n m s base odd place up : ℕ} {work : List ℕ} →
     Levels n m s base work →
     odd ≡ oddPlace n m →
     place ≡ drawnPlace n m →
-    Parts place (base + s) s work × Parts place odd s work
-told-parts given at there =
+    up ≡ base + s →
+    Parts place up s work × Parts place odd s work
+told-parts given at there next =
     let size = given .places .size in
     let above = given .above in
     let high = given .high in
@@ -355,20 +357,21 @@ told-parts given at there =
 
 -- what is asked of them stands in the work area
 pub told-made :
-    {n m s base odd place : ℕ} {x y : List ℕ} (c a : Player) {r : Bool} →
+    {n m s base odd place up : ℕ} {x y : List ℕ} (c a : Player) {r : Bool} →
     Levels n m s base x →
     odd ≡ oddPlace n m →
     place ≡ drawnPlace n m →
+    up ≡ base + s →
     a ≡ c →
-    PartWon a n place (base + s) odd x y →
+    PartWon a n place up odd x y →
     (let lent = take ((place + s) - place) (drop place y) in r ≡ not (some (64 * length lent) (setOf lent))) →
     LostTold c n m s base x y r
-told-made {n} {m} {s} {base} {odd} {place} {x} {y} c a given at there whose part told =
+told-made {n} {m} {s} {base} {odd} {place} {x = x} {y} c a given at there next whose part told =
     let size = given .places .size in
     let above = given .above in
     let high = given .high in
     record {
-      part = rw (at, there, whose, size) at part;
+      part = rw (at, there, next, whose, size) at part;
       none =
           told ∙
           ap (λ (xs : List ℕ). not (some (64 * length xs) (setOf xs))) (part-is place s y) ∙

@@ -2,6 +2,7 @@
 // says. `s` is the words of a set, `p` the highest priority in V.
 use crate::places::drawn_at;
 use crate::places::odd_at;
+use area::next_set;
 use highest_priority::extend_lowest;
 use parity_game::Player;
 use parity_game::Priority;
@@ -63,7 +64,7 @@ pub fn lost_nothing(
 {
     let odd = odd_at(n, m, s);
     let drawn = drawn_at(n, m, s);
-    part_won(opponent_of(p), s, work, drawn, base + s, odd);
+    part_won(opponent_of(p), s, work, drawn, next_set(base, s), odd);
     sets::is_empty(&work[drawn..drawn + s])
 }
 

@@ -15,13 +15,13 @@ drawn-at-requires c κs = search needs
 opponent-of-requires : tie.Need-opponent-of-requires
 opponent-of-requires c κs = search needs
 
-add-part-won : tie.Need-add-part-won
-add-part-won c = search needs
+next-set-requires : tie.Need-next-set-requires
+next-set-requires c κs = search needs
 
 part-won-requires : tie.Need-part-won-requires
 part-won-requires c κs =
-    let d = c .before .before in
-    told-parts (d .before .before .before .pre) (d .before .odd-at .ensures) (d .drawn-at .ensures)
+    let d = c .before .before .before in
+    told-parts (d .before .before .before .pre) (d .before .odd-at .ensures) (d .drawn-at .ensures) (c .next-set .ensures)
 
 add-is-empty : tie.Need-add-is-empty
 add-is-empty c = search needs
@@ -47,11 +47,11 @@ same-length c = search needs
 returns : tie.Need-returns
 returns c =
     let won = c .before .before .before .before .before in
-    let named = won .before .before in
+    let named = won .before .before .before in
     let d = named .before in
     let g = d .before .before .before in
     told-made (opponent (parity (g .args .p .0))) (is (named .opponent-of .result)) (g .pre) (d .before .odd-at .ensures)
-    (d .drawn-at .ensures) (named .opponent-of .ensures)
+    (d .drawn-at .ensures) (won .before .next-set .ensures) (named .opponent-of .ensures)
     (won .part-won .ensures (g .args .n) (g .pre .places .size))
     (c .is-empty .ensures)
 
@@ -62,7 +62,7 @@ lost-nothing-spec =
     odd-at-requires
     drawn-at-requires
     opponent-of-requires
-    add-part-won
+    next-set-requires
     part-won-requires
     add-is-empty
     mul-is-empty

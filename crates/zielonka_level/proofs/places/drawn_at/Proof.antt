@@ -8,11 +8,11 @@ use Rattle.zielonka_level.proofs.places.drawn_at.Tie as tie
 odd-at-requires : tie.Need-odd-at-requires
 odd-at-requires c κs = c .pre
 
-add-result : tie.Need-add-result
-add-result c = let few = placed-few (c .before .pre) in omega (arith, c .odd-at .ensures, c .before .pre .size)
+next-set-requires : tie.Need-next-set-requires
+next-set-requires c κs = let few = placed-few (c .before .pre) in omega (arith, c .odd-at .ensures, c .before .pre .size)
 
 returns : tie.Need-returns
-returns c = omega (arith, c .odd-at .ensures, c .before .pre .size)
+returns c = omega (arith, c .next-set .ensures, c .before .odd-at .ensures, c .before .before .pre .size)
 
 pub drawn-at-spec : {M : Type 1} → statement M
-drawn-at-spec = tie.close (tie.spec odd-at-requires add-result returns)
+drawn-at-spec = tie.close (tie.spec odd-at-requires next-set-requires returns)
