@@ -1,5 +1,6 @@
 // V stands at `base`, the next level behind it, the attractor where `zielonka_level` says. `s` is the words of a set,
 // `p` the highest priority in V.
+use area::next_set;
 use parity_game::Player;
 use parity_game::Priority;
 use zielonka_level::drawn_at;
@@ -40,7 +41,7 @@ fn cut(
 {
     let drawn = drawn_at(owners.len(), targets.len(), s);
     attractor::attract(owners, offsets, targets, player.index(), work, base, drawn);
-    set_difference::without(s, work, base + s, base, drawn);
+    set_difference::without(s, work, next_set(base, s), base, drawn);
 }
 
 // U: the vertices of V with priority p; A: the attractor of U for p's player. V without A goes to the next level.

@@ -13,7 +13,7 @@ abbrev after-index : tie.After-attract → tie.After-index
 after-index c = c .before .before
 
 abbrev after-attract : tie.After-without → tie.After-attract
-after-attract c = c .before .before .before .before
+after-attract c = c .before .before .before .before .before
 
 drawn-at-requires : tie.Need-drawn-at-requires
 drawn-at-requires c κs = let g = c .before .before .before .before in ready-places (g .pre .ready)
@@ -27,18 +27,19 @@ attract-requires c κs =
     let placed = named .before in
     cut-attractable (start-of placed .pre) (named .index .ensures .1) (placed .drawn-at .ensures)
 
-add-without : tie.Need-add-without
-add-without c = search needs
+next-set-requires : tie.Need-next-set-requires
+next-set-requires c κs = search needs
 
 without-requires : tie.Need-without-requires
 without-requires c κs =
-    let drawn = c .before .before .before in
+    let drawn = c .before .before .before .before in
     let placed = after-index drawn .before in
     let g = start-of placed in
     let high = g .pre .ready .high in
     let above = g .pre .ready .called .above in
     let size = g .pre .ready .size in
     let there = placed .drawn-at .ensures in
+    let next = c .next-set .ensures in
     let long = drawn .attract .kept .1 .1 .1 .1 .0 in
     (before (omega arith) (omega arith), before (omega arith) (omega arith))
 
@@ -53,11 +54,11 @@ returns c =
     let named = after-index drawn in
     let placed = named .before in
     let g = start-of placed in
-    cut-done (g .pre) (named .index .result) (named .index .ensures .0) (placed .drawn-at .ensures) priorities ok
+    cut-done (g .pre) (named .index .result) (named .index .ensures .0) (placed .drawn-at .ensures) (taken .before .next-set .ensures) priorities ok
     (drawn .attract .ensures priorities ok)
     (taken .without .ensures _ (g .pre .ready .size))
 
 pub cut-spec : {M : Type 1} → statement M
 cut-spec =
     tie.close
-    (tie.spec drawn-at-requires index-requires attract-requires add-without without-requires same-length returns)
+    (tie.spec drawn-at-requires index-requires attract-requires next-set-requires without-requires same-length returns)
