@@ -212,29 +212,33 @@ module _ {t : Tables} {s base p : ℕ} {w₀ w₁ : List ℕ} (b : FirstCut t s 
       go (no d) = omega (arith, d, b .top .most v inside)
 
   -- and it has what it asks for
-  pub begun-called : CalledUnder t (base + s) (p - 1) w₁
-  begun-called =
-      rw (b .ready .size)
-      (record {
+  first-called : CalledUnder t (nextLevel (words (vertices t)) base) (p - 1) w₁
+  first-called =
+      record {
         called =
             nested-called (b .called) (b .cut .stays) (b .cut .cut) (first-less (b .called) (b .top) (b .cut));
         under = first-under;
-      })
+      }
 
-  -- on a set of fewer vertices
-  pub begun-less : sizeAt (vertices t) (base + s) w₁ < sizeAt (vertices t) base w₀
-  begun-less =
-      smaller (b .called) (begun-called .called) (rw (b .ready .size) (first-less (b .called) (b .top) (b .cut)))
+  -- the same where the code has the next level
+  module _ {up : ℕ} (next : up ≡ base + s) where
+    pub begun-called : CalledUnder t up (p - 1) w₁
+    begun-called = rw (next, b .ready .size) first-called
 
-  pub begun-came :
-      {calls budget made : ℕ} {w₂ : List ℕ} →
-      Done t (base + s) (calls + 1) budget made w₁ w₂ →
-      Came t s base p calls budget made w₀ w₁ w₂
-  begun-came d = record { begun = b; done = rw (b .ready .size) at d }
+    -- on a set of fewer vertices
+    pub begun-less : sizeAt (vertices t) up w₁ < sizeAt (vertices t) base w₀
+    begun-less =
+        smaller (b .called) (begun-called .called) (rw (next, b .ready .size) (first-less (b .called) (b .top) (b .cut)))
 
-  -- it needs more calls than are left
-  pub begun-over : (calls budget : ℕ) → Over t (base + s) (calls + 1) budget w₁ → Over t base calls budget w₀
-  begun-over calls budget over = over-nested (b .called) calls budget (b .top) (b .cut) (rw (b .ready .size) at over)
+    pub begun-came :
+        {calls budget made : ℕ} {w₂ : List ℕ} →
+        Done t up (calls + 1) budget made w₁ w₂ →
+        Came t s base p calls budget made w₀ w₁ w₂
+    begun-came d = record { begun = b; done = rw (next, b .ready .size) at d }
+
+    -- it needs more calls than are left
+    pub begun-over : (calls budget : ℕ) → Over t up (calls + 1) budget w₁ → Over t base calls budget w₀
+    begun-over calls budget over = over-nested (b .called) calls budget (b .top) (b .cut) (rw (next, b .ready .size) at over)
 
 module _ {t : Tables} {s base p calls budget made : ℕ} {w₀ w₁ w₂ : List ℕ} (c : Came t s base p calls budget made w₀ w₁ w₂) where
   sized : s ≡ words (vertices t)
@@ -263,11 +267,8 @@ module _ {t : Tables} {s base p calls budget made : ℕ} {w₀ w₁ w₂ : List 
             λ v.
             told .part .made v ∙
             ap (λ (b : Bool). b && goesTo (opponent (parity p)) (oddAt t w₂ v))
-            (level-stays (nested .above) (c .done .stays) v);
+            (level-stays (first-called (c .begun) .called .above) (c .done .stays) v);
       }
-    where
-      nested : Called t (nextLevel (words (vertices t)) base) w₁
-      nested = rw sized at (begun-called (c .begun) .called)
 
 module _ {t : Tables} {s base p calls budget made : ℕ} {w₀ w₁ w₂ w₃ : List ℕ}
     (d : LostCollected t s base p calls budget made w₀ w₁ w₂ w₃)
@@ -356,25 +357,26 @@ module _ {t : Tables} {s base p calls budget made : ℕ} {w₀ w₁ w₂ w₃ w�
     unfolding gameOf
     second-under v m = begun .top .most v (cut-inside rest v m)
 
-    pub lost-called : CalledUnder t (base + s) p w₄
-    lost-called =
-        rw (begun .ready .size)
-        (record {
-          called = nested-called (begun .called) (stays-on (told-stays (l .told)) (lost-stays (begun .called .above) (l .by))) rest less;
-          under = second-under;
-        })
+    -- where the code has the next level
+    module _ {up : ℕ} (next : up ≡ base + s) where
+      pub lost-called : CalledUnder t up p w₄
+      lost-called =
+          rw (next, begun .ready .size)
+          (record {
+            called = nested-called (begun .called) (stays-on (told-stays (l .told)) (lost-stays (begun .called .above) (l .by))) rest less;
+            under = second-under;
+          })
 
-    -- the second nested call is on a set of fewer vertices
-    pub lost-less : sizeAt (vertices t) (base + s) w₄ < sizeAt (vertices t) base w₀
-    lost-less = smaller (begun .called) (lost-called .called) (rw (begun .ready .size) less)
+      -- the second nested call is on a set of fewer vertices
+      pub lost-less : sizeAt (vertices t) up w₄ < sizeAt (vertices t) base w₀
+      lost-less = smaller (begun .called) (lost-called .called) (rw (next, begun .ready .size) less)
 
-    pub lost-over : Over t (base + s) made budget w₄ → Over t base calls budget w₀
-    lost-over over =
-        over-second (begun .called) calls (begun .top) (begun .cut) (l .told .came .done) (l .vertex) (l .lost) (l .by)
-        (rw (begun .ready .size) at over)
+      pub lost-over : Over t up made budget w₄ → Over t base calls budget w₀
+      lost-over over =
+          over-second (begun .called) calls (begun .top) (begun .cut) (l .told .came .done) (l .vertex) (l .lost) (l .by)
+          (rw (next, begun .ready .size) at over)
 
-    pub lost-done :
-        {made₂ : ℕ} {w₅ : List ℕ} → Done t (base + s) made budget made₂ w₄ w₅ → Done t base calls budget made₂ w₀ w₅
-    lost-done d =
-        done-some (begun .called) (begun .top) (begun .cut) (l .told .came .done) (l .told .still) (l .vertex) (l .lost) (l .by)
-        (rw (begun .ready .size) at d)
+      pub lost-done : {made₂ : ℕ} {w₅ : List ℕ} → Done t up made budget made₂ w₄ w₅ → Done t base calls budget made₂ w₀ w₅
+      lost-done d =
+          done-some (begun .called) (begun .top) (begun .cut) (l .told .came .done) (l .told .still) (l .vertex) (l .lost) (l .by)
+          (rw (next, begun .ready .size) at d)

@@ -1,4 +1,5 @@
 // One call on the set V at `base`, the calls below it one level up. It decides the vertices of V and leaves all others.
+use area::next_set;
 use highest_priority::get_highest_prio;
 use highest_priority::one_less;
 use parity_game::Priority;
@@ -39,7 +40,7 @@ pub fn zielonka_rec(
     }
     let p = get_highest_prio(priorities, work, base, s, top);
     attract_highest(owners, offsets, targets, p, s, work, base);
-    let up = base + s;
+    let up = next_set(base, s);
     let made = zielonka_rec(
         owners,
         priorities,

@@ -27,6 +27,7 @@ use Rattle.parity_game.proofs.set_words.Reads as set-words-reads
 use Rattle.sets.proofs.is_empty.Reads as is-empty-reads
 use Rattle.highest_priority.proofs.get_highest_prio.Reads as get-highest-prio-reads
 use Rattle.zielonka_cuts.proofs.attract_highest.Reads as attract-highest-reads
+use Rattle.area.proofs.next_set.Reads as next-set-reads
 use Rattle.highest_priority.proofs.one_less.Reads as one-less-reads
 use Rattle.zielonka_cuts.proofs.attract_lost.Reads as attract-lost-reads
 use Rattle.zielonka_level.proofs.lost_nothing.Reads as lost-nothing-reads
@@ -53,6 +54,8 @@ cs t = (
   get-highest-prio-reads.Learnt,
   attract-highest-reads.Asked,
   attract-highest-reads.Learnt,
+  next-set-reads.Asked,
+  next-set-reads.Learnt,
   one-less-reads.Asked,
   one-less-reads.Learnt,
   below t,
@@ -85,8 +88,11 @@ module _ (t : ℕ) where
   after-highest c = c .before .before
 
   -- and on from there
+  abbrev after-up : At lts.After-zielonka-rec → At lts.After-next-set
+  after-up c = c .before .before .before
+
   abbrev after-cut : At lts.After-zielonka-rec → At lts.After-attract-highest
-  after-cut c = c .before .before .before .before .before
+  after-cut c = after-up c .before .before .before
 
   abbrev after-first : At lts.Else3 → At lts.After-zielonka-rec
   after-first c = c .before .before .before
@@ -108,6 +114,10 @@ module _ (t : ℕ) where
 
   abbrev after-second-cut : At lts.After-zielonka-rec2 → At lts.After-attract-lost
   after-second-cut c = c .before .before .before .before
+
+  -- where the next level begins, as it was asked before the first nested call
+  abbrev up-of : At lts.After-attract-lost → At lts.After-next-set
+  up-of c = after-up (after-first (before-told (told-some (before-second-cut c))))
 
   -- the tables
   abbrev tables : At lts.Start → Tables
@@ -182,7 +192,8 @@ module _ (t : ℕ) where
       (work₀ d) (work₁ d) (work₂ (after-first c))
   came c =
       let first = after-first c in
-      begun-came (begun (after-cut first)) (first .zielonka-rec .ensures .done (omega (arith, c .if3 .left)))
+      begun-came (begun (after-cut first)) (after-up first .next-set .ensures)
+      (first .zielonka-rec .ensures .done (omega (arith, c .if3 .left)))
 
   -- what the opponent won was asked for
   told :
@@ -266,8 +277,8 @@ module _ (t : ℕ) where
       ready-sorted called (member-top called (sized .set-words .ensures) v q (c .before .get-highest-prio .ensures))
       (member-ready called (sized .set-words .ensures) v q)
 
-  add-up : At lts.Need-add-up
-  add-up c = search needs
+  next-set-requires : At lts.Need-next-set-requires
+  next-set-requires c κs = search needs
 
   one-less-requires : At lts.Need-one-less-requires
   one-less-requires c κs = search needs
@@ -277,9 +288,10 @@ module _ (t : ℕ) where
 
   zielonka-rec-requires : At lts.Need-zielonka-rec-requires
   zielonka-rec-requires c κs =
-      let d = c .before .before .before .before in
-      let called = begun-called (begun d) in
-      (omega (arith, begun-less (begun d), start d .pre .0), rw (c .one-less .ensures) called)
+      let up = c .before .before in
+      let d = up .before .before .before in
+      let called = begun-called (begun d) (up .next-set .ensures) in
+      (omega (arith, begun-less (begun d) (up .next-set .ensures), start d .pre .0), rw (c .one-less .ensures) called)
 
   same-length-2 : At lts.Need-same-length-2
   same-length-2 c = search needs
@@ -288,7 +300,9 @@ module _ (t : ℕ) where
   returns-3 c =
       let first = c .before .before .before in
       let a = start (after-cut first) .args in
-      ends-over (begun-over (begun (after-cut first)) (a .calls) (a .cap) (first .zielonka-rec .ensures .over (c .if3 .taken)))
+      ends-over
+      (begun-over (begun (after-cut first)) (after-up first .next-set .ensures) (a .calls) (a .cap)
+      (first .zielonka-rec .ensures .over (c .if3 .taken)))
 
   lost-nothing-requires : At lts.Need-lost-nothing-requires
   lost-nothing-requires c κs = came-levels (came (c .before))
@@ -314,7 +328,8 @@ module _ (t : ℕ) where
   zielonka-rec-requires-2 : At lts.Need-zielonka-rec-requires-2
   zielonka-rec-requires-2 c κs =
       let d = c .before .before .before in
-      (omega (arith, lost-less (lost d), start (first-cut (told-some (before-second-cut d))) .pre .0), lost-called (lost d))
+      let up = up-of d .next-set .ensures in
+      (omega (arith, lost-less (lost d) up, start (first-cut (told-some (before-second-cut d))) .pre .0), lost-called (lost d) up)
 
   same-length-4 : At lts.Need-same-length-4
   same-length-4 c =
@@ -335,9 +350,10 @@ module _ (t : ℕ) where
   returns-5 c =
       let e = c .before .before in
       let l = lost (after-second-cut e) in
+      let up = up-of (after-second-cut e) .next-set .ensures in
       record {
-        over = λ none. lost-over l (e .zielonka-rec2 .ensures .over none);
-        done = λ some. lost-done l (e .zielonka-rec2 .ensures .done some);
+        over = λ none. lost-over l up (e .zielonka-rec2 .ensures .over none);
+        done = λ some. lost-done l up (e .zielonka-rec2 .ensures .done some);
       }
 
 pub +zielonka-rec-spec : {M : Type 1} → statement M
@@ -358,7 +374,7 @@ pub +zielonka-rec-spec : {M : Type 1} → statement M
     (returns-2 t)
     (get-highest-prio-requires t)
     (attract-highest-requires t)
-    (add-up t)
+    (next-set-requires t)
     (one-less-requires t)
     (add-zielonka-rec t)
     (zielonka-rec-requires t)
