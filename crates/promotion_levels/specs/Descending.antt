@@ -2,7 +2,7 @@
 use mathlib.Core.Bool.{Bool, true, false, _&&_, not}
 use mathlib.Core.List.{List}
 use mathlib.Core.Logic.{inl, inr}
-use mathlib.Core.Path.{_≡_, sym, ap, subst₂, _∙_}
+use mathlib.Core.Path.{_≡_, sym, ap, _∙_}
 use Prim.Native.Nat.{ℕ, _+_, _-_, _*_, _≤_, _<_}
 use native.Mathlib.Nat.{mul-le-mul-right, add-mul}
 use native.Mathlib.Omega.{arith}
@@ -71,8 +71,8 @@ pub record Descended (priorities : List ℕ) (m s k p : ℕ) (before after : Lis
       getD after i 0 ≡ getD before i 0
 
 -- the two words that say which level is the current one, and what its priority is
-abbrev pub marked : ℕ → ℕ → ℕ → List ℕ → List ℕ
-marked depth k p work = set (set work (depth + 1 + k) p) depth k
+abbrev pub marked : ℕ → ℕ → ℕ → ℕ → List ℕ → List ℕ
+marked top depth k p work = set (set work top p) depth k
 
 -- a level ends before a later one begins
 levels-apart : (s at i j : ℕ) → i < j → at + i * s + s ≤ at + j * s
@@ -109,8 +109,8 @@ module _ {priorities : List ℕ} {m s held levels k bound : ℕ} {work : List �
     descend-marks = omega (arith, given .held-is, given .levels-is, given .depth)
 
     -- also once the first is written
-    pub descend-second : {depth : ℕ} → depth ≡ held + 3 * s → (p : ℕ) → depth < length (set work (depth + 1 + k) p)
-    descend-second {depth} at p = omega (arith, at, length-set work (depth + 1 + k) p, descend-marks, descend-room)
+    pub descend-second : {depth : ℕ} → depth ≡ held + 3 * s → (top p : ℕ) → depth < length (set work top p)
+    descend-second {depth} at top p = omega (arith, at, length-set work top p, descend-marks, descend-room)
 
     -- level k can be searched
     pub descend-searchable : Searchable priorities s (levels + k * s) bound work
@@ -142,7 +142,7 @@ module _ {priorities : List ℕ} {m s held levels k bound : ℕ} {work : List �
           )
 
       abbrev now : List ℕ
-      now = marked (depthAt n m s) k p work
+      now = marked (topsAt n m s + k) (depthAt n m s) k p work
 
       marked-long : length now ≡ length work
       marked-long =
@@ -173,21 +173,16 @@ module _ {priorities : List ℕ} {m s held levels k bound : ℕ} {work : List �
             below = λ v h. given .below v (sym (marked-level k v) ∙ h);
           }
 
-      module _ {depth row : ℕ} (at : depth ≡ held + 3 * s) (here : row ≡ entries (length priorities) m) where
-        pub descend-beginnable : LevelBeginnable n m p s held (levels + k * s) row (marked depth k p work)
-        descend-beginnable =
-            subst₂ (λ (d e : ℕ). LevelBeginnable n m p s held (levels + k * s) e (marked d k p work)) (sym at) (sym here)
-            (subst₂ (λ (h l : ℕ). LevelBeginnable n m p s h (l + k * s) (entries n m) (marked (h + 3 * s) k p work))
-            (sym (given .held-is))
-            (sym (given .levels-is))
-            beginnable)
+      module _ {depth row top : ℕ} (at : depth ≡ held + 3 * s) (here : row ≡ entries n m) (above : top ≡ depth + 1 + k) where
+        pub descend-beginnable : LevelBeginnable n m p s held (levels + k * s) row (marked top depth k p work)
+        descend-beginnable = rw (above, at, here, given .held-is, given .levels-is) beginnable
 
         -- **Level k is the current one.**
         pub descended :
             {after : List ℕ} →
             ((xs : List ℕ) →
-            SetsOf n xs n (free n m) (marked depth k p work) →
-            LevelBegun n xs p s held (levels + k * s) row (marked depth k p work) after) →
+            SetsOf n xs n (free n m) (marked top depth k p work) →
+            LevelBegun n xs p s held (levels + k * s) row (marked top depth k p work) after) →
             Descended priorities m s k p work after
         descended {after} gives =
             record {
@@ -221,22 +216,16 @@ module _ {priorities : List ℕ} {m s held levels k bound : ℕ} {work : List �
                   began .rest i e h (rw (next-place s (levelsAt n m s) k) at b) ∙ marked-rest i d t;
             }
           where
-            sets : SetsOf n priorities n (free n m) (marked depth k p work)
+            sets : SetsOf n priorities n (free n m) (marked top depth k p work)
             sets =
-                sets-stay n priorities n (free n m) work (marked depth k p work)
+                sets-stay n priorities n (free n m) work (marked top depth k p work)
                 (λ i low high.
-                getD-set-other (set work (depth + 1 + k) p) depth i k 0
-                (λ e. omega (arith, at, given .held-is, given .size)) ∙
-                getD-set-other work (depth + 1 + k) i p 0 (λ e. omega (arith, at, given .held-is, given .size)))
+                getD-set-other (set work top p) depth i k 0 (λ e. omega (arith, at, given .held-is, given .size)) ∙
+                getD-set-other work top i p 0 (λ e. omega (arith, at, above, given .held-is, given .size)))
                 (given .sorted)
 
             began : LevelBegun n priorities p s (heldAt n m s) base (entries n m) now after
-            began =
-                subst₂ (λ (h l : ℕ). LevelBegun n priorities p s h (l + k * s) (entries n m) (marked (h + 3 * s) k p work) after)
-                (given .held-is)
-                (given .levels-is)
-                (subst₂ (λ (d e : ℕ). LevelBegun n priorities p s held (levels + k * s) e (marked d k p work) after) at here
-                (gives priorities sets))
+            began = rw (above, at, here, given .held-is, given .levels-is) at (gives priorities sets)
 
             -- words that no part of the beginning touches
             stays :

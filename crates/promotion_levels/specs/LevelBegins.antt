@@ -45,8 +45,8 @@ left-again true true = refl
 left-again true false = refl
 left-again false b = refl
 
-module _ {n m p s held base entries : ℕ} {work : List ℕ} (given : LevelBeginnable n m p s held base entries work) {of : ℕ}
-    (placed : of ≡ setOfPriority (words n) (free n m) p)
+module _ {n m p s held base entries : ℕ} {work : List ℕ} (given : LevelBeginnable n m p s held base entries work) {of next : ℕ}
+    (placed : of ≡ setOfPriority (words n) (free n m) p) (behind : next ≡ base + s)
   where
     size : s ≡ words n
     size = given .placeable .size
@@ -58,22 +58,22 @@ module _ {n m p s held base entries : ℕ} {work : List ℕ} (given : LevelBegin
         let e : p * s ≡ p * words n = ap (λ (k : ℕ). p * k) size in
         omega (arith, given .sorted)
 
-    pub begin-next : Parts (base + s) base s work × Parts (base + s) of s work
+    pub begin-next : Parts next base s work × Parts next of s work
     begin-next = (
       record {
-        into-fits = given .room;
+        into-fits = omega (arith, given .room);
         from-fits = omega (arith, given .room);
         apart = inr (omega arith);
       },
       record {
-        into-fits = given .room;
+        into-fits = omega (arith, given .room);
         from-fits = omega (arith, of-ends, given .order, given .room);
         apart = inr (omega (arith, of-ends, given .order));
       },
     )
 
-    module _ {one : List ℕ} (first : WithoutAt n (base + s) base of work one) where
-      pub begin-held : Parts held base s one × Parts held (base + s) s one
+    module _ {one : List ℕ} (first : WithoutAt n next base of work one) where
+      pub begin-held : Parts held base s one × Parts held next s one
       begin-held = (
         record {
           into-fits = omega (arith, given .order, given .room, first .long);
@@ -91,7 +91,7 @@ module _ {n m p s held base entries : ℕ} {work : List ℕ} (given : LevelBegin
       base-one : (v : ℕ) → setAt n base one v ≡ setAt n base work v
       base-one = set-kept n base work one (λ i low high. first .rest i (inl (omega (arith, size))))
 
-      module _ {two : List ℕ} (second : WithoutAt n held base (base + s) one two) where
+      module _ {two : List ℕ} (second : WithoutAt n held base next one two) where
         pub begin-forgettable : Forgettable n s held entries two
         begin-forgettable =
             record {
@@ -126,16 +126,16 @@ module _ {n m p s held base entries : ℕ} {work : List ℕ} (given : LevelBegin
                   λ i e h b.
                   third .keeps .rest i e ∙
                   second .rest i (subst (λ (k : ℕ). Beside k held i) size h) ∙
-                  first .rest i (subst (λ (k : ℕ). Beside k (base + s) i) size b);
+                  first .rest i (rw (behind, ← size) b);
             }
           where
             held-two : (v : ℕ) → setAt n held after v ≡ setAt n held two v
             held-two =
                 set-kept n held two after (λ i low high. third .keeps .rest i (inr (omega (arith, given .given))))
 
-            next-one : (v : ℕ) → setAt n (base + s) after v ≡ setAt n (base + s) one v
+            next-one : (v : ℕ) → setAt n next after v ≡ setAt n next one v
             next-one =
-                set-kept n (base + s) one after
+                set-kept n next one after
                 (λ i low high.
                 third .keeps .rest i (inr (omega (arith, given .given, given .order))) ∙
                 second .rest i (inr (omega (arith, size, given .order))))
@@ -155,15 +155,15 @@ module _ {n m p s held base entries : ℕ} {work : List ℕ} (given : LevelBegin
             without-of v (inl h) = ap (λ (b : Bool). setAt n base work v && not b) (of-level v h)
             without-of v (inr h) = rw h
 
-            made : (v : ℕ) → setAt n (base + s) one v ≡ (setAt n base work v && not (eqb (getD priorities v 0) p))
+            made : (v : ℕ) → setAt n next one v ≡ (setAt n base work v && not (eqb (getD priorities v 0) p))
             made v = first .made v ∙ without-of v (bool-cases (setAt n base work v))
 
             last : (v : ℕ) → setAt n (base + s) after v ≡ (setAt n base work v && not (eqb (getD priorities v 0) p))
-            last v = next-one v ∙ made v
+            last v = rw (← behind) (next-one v ∙ made v)
 
             both :
                 (v : ℕ) →
-                (setAt n base one v && not (setAt n (base + s) one v)) ≡
+                (setAt n base one v && not (setAt n next one v)) ≡
                 (setAt n base work v && eqb (getD priorities v 0) p)
             both v =
                 ap₂ (λ (a b : Bool). a && not b) (base-one v) (made v) ∙

@@ -1,9 +1,11 @@
 // How a level begins.
 use area::Area;
+use area::next_set;
 use highest_priority::get_highest_prio;
 use parity_game::Priority;
 use promotion_places::depth_at;
 use promotion_places::level_at;
+use promotion_places::priority_at;
 use promotion_sets::forget;
 use promotion_sets::without;
 ghost use mathlib.Core.List.{List};
@@ -31,7 +33,7 @@ pub fn begin_level(
         LevelBegun n priorities (p .0) s held base entries (now (work .entry)) (now (work .exit))) ⌝ }
 {
     let of = priority_sets::set_at(n, m, s, p.0);
-    let next = base + s;
+    let next = next_set(base, s);
     without(s, work, next, base, of);
     without(s, work, held, base, next);
     forget(s, work, held, entries);
@@ -56,7 +58,7 @@ pub fn descend(
     let depth = depth_at(held, s);
     let entries = Area { n, m, s }.entries();
     let p = get_highest_prio(priorities, work, base, s, bound);
-    work[depth + 1 + k] = p.0 as u64;
+    work[priority_at(depth, k)] = p.0 as u64;
     work[depth] = k as u64;
     begin_level(n, m, p, s, work, held, base, entries);
     p

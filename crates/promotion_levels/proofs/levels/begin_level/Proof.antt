@@ -5,11 +5,11 @@ use Rattle.promotion_levels.proofs.levels.begin_level.Statement.{statem
 use Rattle.promotion_levels.proofs.levels.begin_level.Tie as tie
 
 -- the places of the function, each from the next: where it begins, and after each call
-abbrev start-of : tie.After-set-at → tie.Start
-start-of c = c .before .before
+abbrev start-of : tie.After-next-set → tie.Start
+start-of c = c .before .before .before
 
-abbrev after-set-at : tie.After-without → tie.After-set-at
-after-set-at c = c .before .before
+abbrev after-next-set : tie.After-without → tie.After-next-set
+after-next-set c = c .before .before
 
 abbrev after-without : tie.After-without2 → tie.After-without
 after-without c = c .before .before .before .before
@@ -20,28 +20,33 @@ after-without2 c = c .before .before .before .before
 set-at-requires : tie.Need-set-at-requires
 set-at-requires c κs = c .before .pre .placeable
 
-add-next : tie.Need-add-next
-add-next c = search needs
+next-set-requires : tie.Need-next-set-requires
+next-set-requires c κs = search needs
 
 without-requires : tie.Need-without-requires
-without-requires c κs = begin-next (start-of (c .before) .pre) (c .before .set-at .ensures)
+without-requires c κs =
+    let placed = c .before in
+    begin-next (start-of placed .pre) (placed .before .set-at .ensures) (placed .next-set .ensures)
 
 without-requires-2 : tie.Need-without-requires-2
 without-requires-2 c κs =
     let cut = c .before .before .before in
-    let placed = after-set-at cut in
+    let placed = after-next-set cut in
     let g = start-of placed in
-    begin-held (g .pre) (placed .set-at .ensures) (cut .without .ensures (g .args .n) (g .pre .placeable .size))
+    begin-held (g .pre) (placed .before .set-at .ensures) (placed .next-set .ensures)
+    (cut .without .ensures (g .args .n) (g .pre .placeable .size))
 
 forget-requires : tie.Need-forget-requires
 forget-requires c κs =
     let taken = c .before .before .before in
     let cut = after-without taken in
-    let placed = after-set-at cut in
+    let placed = after-next-set cut in
     let g = start-of placed in
     let n = g .args .n in
     let size = g .pre .placeable .size in
-    (n, begin-forgettable (g .pre) (placed .set-at .ensures) (cut .without .ensures n size) (taken .without2 .ensures n size))
+    let at = placed .before .set-at .ensures in
+    let next = placed .next-set .ensures in
+    (n, begin-forgettable (g .pre) at next (cut .without .ensures n size) (taken .without2 .ensures n size))
 
 same-length : tie.Need-same-length
 same-length c = search needs
@@ -51,21 +56,22 @@ returns c priorities sets =
     let forgot = c .before .before in
     let taken = after-without2 forgot in
     let cut = after-without taken in
-    let placed = after-set-at cut in
+    let placed = after-next-set cut in
     let g = start-of placed in
     let n = g .args .n in
     let size = g .pre .placeable .size in
+    let at = placed .before .set-at .ensures in
+    let next = placed .next-set .ensures in
     let first = cut .without .ensures n size in
     let second = taken .without2 .ensures n size in
-    begun (g .pre) (placed .set-at .ensures) first second
-    (forgot .forget .ensures n (begin-forgettable (g .pre) (placed .set-at .ensures) first second)) priorities sets
+    begun (g .pre) at next first second (forgot .forget .ensures n (begin-forgettable (g .pre) at next first second)) priorities sets
 
 pub begin-level-spec : {M : Type 1} → statement M
 begin-level-spec =
     tie.close
     (tie.spec
     set-at-requires
-    add-next
+    next-set-requires
     without-requires
     without-requires-2
     forget-requires

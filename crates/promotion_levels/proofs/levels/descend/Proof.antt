@@ -12,8 +12,8 @@ use Rattle.promotion_levels.proofs.levels.descend.Tie as tie
 abbrev start-of : tie.After-entries → tie.Start
 start-of c = c .before .before .before .before .before
 
-abbrev placed : tie.After-get-highest-prio → tie.After-entries
-placed c = c .before .before
+abbrev placed : tie.After-priority-at → tie.After-entries
+placed c = c .before .before .before
 
 -- level k is where it should be
 abbrev base-is :
@@ -37,11 +37,8 @@ entries-requires c κs = search needs
 get-highest-prio-requires : tie.Need-get-highest-prio-requires
 get-highest-prio-requires c κs = let e = c .before in rw (base-is e) (descend-searchable (start-of e .pre))
 
-add-work : tie.Need-add-work
-add-work c = search needs
-
-add-work-2 : tie.Need-add-work-2
-add-work-2 c = search needs
+priority-at-requires : tie.Need-priority-at-requires
+priority-at-requires c κs = search needs
 
 mul-work : tie.Need-mul-work
 mul-work c = search needs
@@ -53,23 +50,23 @@ mul-work-2 : tie.Need-mul-work-2
 mul-work-2 c = search needs
 
 slice-write-work-2 : tie.Need-slice-write-work-2
-slice-write-work-2 c = let e = placed c in descend-second (start-of e .pre) (e .before .depth-at .ensures) _
+slice-write-work-2 c = let e = placed c in descend-second (start-of e .pre) (e .before .depth-at .ensures) _ _
 
 begin-level-requires : tie.Need-begin-level-requires
 begin-level-requires c κs =
-    let found = c .before in
-    let e = placed found in
+    let top = c .before in
+    let e = placed top in
     rw (base-is e)
-    (descend-beginnable (start-of e .pre) (rw (base-is e) at (found .get-highest-prio .ensures)) (e .before .depth-at .ensures)
-    (e .entries .ensures))
+    (descend-beginnable (start-of e .pre) (rw (base-is e) at (top .before .get-highest-prio .ensures)) (e .before .depth-at .ensures)
+    (e .entries .ensures) (top .priority-at .ensures))
 
 returns : tie.Need-returns
 returns c =
     let began = c .before .before in
-    let found = began .before .before in
-    let e = placed found in
-    descended (start-of e .pre) (rw (base-is e) at (found .get-highest-prio .ensures)) (e .before .depth-at .ensures)
-    (e .entries .ensures) (rw (base-is e) at (began .begin-level .ensures))
+    let top = began .before .before in
+    let e = placed top in
+    descended (start-of e .pre) (rw (base-is e) at (top .before .get-highest-prio .ensures)) (e .before .depth-at .ensures)
+    (e .entries .ensures) (top .priority-at .ensures) (rw (base-is e) at (began .begin-level .ensures))
 
 same-length : tie.Need-same-length
 same-length c = returns c .long
@@ -82,8 +79,7 @@ descend-spec =
     depth-at-requires
     entries-requires
     get-highest-prio-requires
-    add-work
-    add-work-2
+    priority-at-requires
     mul-work
     slice-write-work
     mul-work-2
