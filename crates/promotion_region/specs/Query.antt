@@ -429,18 +429,20 @@ module _ {owners offsets targets : List ℕ} {s p held base : ℕ} {w0 : List �
         omega (arith, q .held-is)
 
     module _ (priorities : List ℕ) (ok : Accepted (tablesOf owners priorities offsets targets))
-        (ready : Ready (length owners) priorities offsets targets s w0) {w1 w2 w3 : List ℕ} {a : Player} {looks of : ℕ}
+        (ready : Ready (length owners) priorities offsets targets s w0) {w1 w2 w3 : List ℕ} {a : Player} {looks of below heads : ℕ}
       where
         pub given-queried :
+            below ≡ base + s →
+            heads ≡ below + s →
             a ≡ parity p →
             Attracted (tablesOf owners priorities offsets targets) a base held w0 w1 looks →
-            ((n : ℕ) → s ≡ words n → WithoutAt n (base + s) base held w1 w2) →
+            ((n : ℕ) → s ≡ words n → WithoutAt n below base held w1 w2) →
             of ≡ setOfPriority (words (length owners)) (free (length owners) (length targets)) p →
-            ((n : ℕ) → s ≡ words n → CommonAt n (base + s + s) held of w2 w3) →
+            ((n : ℕ) → s ≡ words n → CommonAt n heads held of w2 w3) →
             Queried owners priorities offsets targets s p w0 w3
-        given-queried own c1 c2 is c3 =
+        given-queried next last own c1 c2 is c3 =
             let drawn = rw (own, q .current, q .base-is, q .held-is) at c1 in
-            let made = rw (q .base-is, q .held-is, ← y-is owners priorities ok ready room-behind) at (c2 (length owners) (ready .size)) in
+            let made = rw (next, q .base-is, q .held-is, ← y-is owners priorities ok ready room-behind) at (c2 (length owners) (ready .size)) in
             let both = c3 (length owners) (ready .size) in
-            let met = rw (q .base-is, q .held-is, is, q .current, ← z-is owners priorities ok ready room-behind) at both in
+            let met = rw (last, next, q .base-is, q .held-is, is, q .current, ← z-is owners priorities ok ready room-behind) at both in
             rw (q .current) (queried owners priorities ok ready room-behind drawn made met)

@@ -1,4 +1,5 @@
 // R is drawn in, and its heads are set apart.
+use area::next_set;
 use parity_game::Player;
 use parity_game::Priority;
 ghost use mathlib.Core.List.{List};
@@ -29,9 +30,11 @@ pub fn query(
         Queried (now (owners .entry)) priorities (now (offsets .entry)) (now (targets .entry)) s (p .0)
         (now (work .entry)) (now (work .exit))) ⌝ }
 {
+    let below = next_set(base, s);
+    let heads = next_set(below, s);
     let alpha = Player::from_priority(p).index();
     attractor::attract(owners, offsets, targets, alpha, work, base, held);
-    set_difference::without(s, work, base + s, base, held);
+    set_difference::without(s, work, below, base, held);
     let of = priority_sets::set_at(owners.len(), targets.len(), s, p.0);
-    set_difference::meet(s, work, base + s + s, held, of);
+    set_difference::meet(s, work, heads, held, of);
 }
