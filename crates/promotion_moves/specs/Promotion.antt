@@ -2,7 +2,7 @@
 use mathlib.Core.Bool.{Bool, true, false, _&&_, not, cond, and-false}
 use mathlib.Core.List.{List}
 use mathlib.Core.Logic.{_⊎_, inl, inr, ⊎-elim}
-use mathlib.Core.Path.{_≡_, sym, ap, ap₂, subst, _∙_}
+use mathlib.Core.Path.{_≡_, sym, ap, ap₂, _∙_}
 use Prim.Native.Nat.{ℕ, suc, _+_, _-_, _≤_, _<_}
 use native.Mathlib.Nat.{le-refl}
 use native.Mathlib.Omega.{arith}
@@ -46,40 +46,43 @@ pub record PromotedTo (n s held depth level j : ℕ) (before after : List ℕ) :
 
 -- **its three writes leave that**
 pub promoted-made :
-    {n s held depth level j : ℕ} {w0 w1 w2 : List ℕ} →
+    {n s held depth level below j : ℕ} {w0 w1 w2 : List ℕ} →
     s ≡ words n →
     Promotable s held depth level w0 →
-    Combined _-_ (level + s) held s w0 w1 →
-    WithoutAt n held level (level + s) (set w1 depth j) w2 →
+    below ≡ level + s →
+    Combined _-_ below held s w0 w1 →
+    WithoutAt n held level below (set w1 depth j) w2 →
     PromotedTo n s held depth level j w0 w2
-promoted-made {n} {s} {held} {depth} {level} {j} {w0} {w1} {w2} size given c1 c2 =
+promoted-made {n} {s} {held} {depth} {level} {below} {j} {w0} {w1} {w2} size given behind c1 c2 =
     record {
       long = c2 .long ∙ length-set w1 depth j ∙ c1 .long;
-      next = λ v. after-next v ∙ reduced v;
-      region = λ v. c2 .made v ∙ ap₂ (λ (x y : Bool). x && not y) (level-same v) (after-set v ∙ sym (after-next v));
+      next = λ v. rw (← behind) (after-next v ∙ reduced v);
+      region =
+          λ v. rw (← behind) (c2 .made v ∙ ap₂ (λ (x y : Bool). x && not y) (level-same v) (after-set v ∙ sym (after-next v)));
       depth-is =
           c2 .rest depth (inr (omega (arith, size, given .held-low))) ∙
           getD-set-same w1 depth j 0 (omega (arith, c1 .long, given .depth-low, given .high));
       rest =
           λ i d o x.
-          c2 .rest i (⊎-elim (λ l. inl l) (λ l. inr (omega (arith, size))) o) ∙ getD-set-other w1 depth i j 0 d ∙ c1 .rest i x;
+          c2 .rest i (⊎-elim (λ l. inl l) (λ l. inr (omega (arith, size))) o) ∙ getD-set-other w1 depth i j 0 d ∙
+          c1 .rest i (rw behind x);
     }
   where
-    combined : Combined _-_ (level + s) held (words n) w0 w1
-    combined = subst (λ (x : ℕ). Combined _-_ (level + s) held x w0 w1) size c1
+    combined : Combined _-_ below held (words n) w0 w1
+    combined = rw size at c1
 
-    reduced : (v : ℕ) → setAt n (level + s) w1 v ≡ (setAt n (level + s) w0 v && not (setAt n held w0 v))
-    reduced v = set-reduced n (level + s) held w0 w1 combined v
+    reduced : (v : ℕ) → setAt n below w1 v ≡ (setAt n below w0 v && not (setAt n held w0 v))
+    reduced v = set-reduced n below held w0 w1 combined v
 
     -- the level after is not touched again
-    after-set : (v : ℕ) → setAt n (level + s) (set w1 depth j) v ≡ setAt n (level + s) w1 v
+    after-set : (v : ℕ) → setAt n below (set w1 depth j) v ≡ setAt n below w1 v
     after-set =
-        set-kept n (level + s) w1 (set w1 depth j)
+        set-kept n below w1 (set w1 depth j)
         (λ i low high. getD-set-other w1 depth i j 0 (λ e. omega (arith, given .depth-low)))
 
-    after-next : (v : ℕ) → setAt n (level + s) w2 v ≡ setAt n (level + s) w1 v
+    after-next : (v : ℕ) → setAt n below w2 v ≡ setAt n below w1 v
     after-next v =
-        set-kept n (level + s) (set w1 depth j) w2
+        set-kept n below (set w1 depth j) w2
         (λ i low high. c2 .rest i (inr (omega (arith, size, given .held-low, given .depth-low)))) v ∙
         after-set v
 

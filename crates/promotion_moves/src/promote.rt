@@ -1,4 +1,5 @@
 // R goes over to a higher region.
+use area::next_set;
 ghost use Prim.Native.Nat.{ℕ};
 ghost use mathlib.Core.Path.{_≡_};
 ghost use Rattle.rules.specs.Tables.{words};
@@ -12,7 +13,8 @@ pub fn promote(s: usize, work: &mut [u64], held: usize, depth: usize, level: usi
         ⌜ ((n : ℕ) → s ≡ words n →
         PromotedTo n s held depth level j (now (work .entry)) (now (work .exit))) ⌝ }
 {
-    sets::difference_with(work, level + s, held, s);
+    let below = next_set(level, s);
+    sets::difference_with(work, below, held, s);
     work[depth] = j as u64;
-    promotion_levels::without(s, work, held, level, level + s);
+    promotion_levels::without(s, work, held, level, below);
 }

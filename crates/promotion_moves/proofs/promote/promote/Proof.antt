@@ -10,16 +10,17 @@ use Rattle.promotion_moves.proofs.promote.promote.Tie as tie
 
 -- where the function begins, from where the level after has lost R
 abbrev start-of : tie.After-difference-with → tie.Start
-start-of c = c .before .before .before
+start-of c = c .before .before .before .before
 
-add-difference-with : tie.Need-add-difference-with
-add-difference-with c = search needs
+next-set-requires : tie.Need-next-set-requires
+next-set-requires c κs = search needs
 
 difference-with-requires : tie.Need-difference-with-requires
 difference-with-requires c κs =
-    let given = c .before .before .pre in
+    let next = c .before .next-set .ensures in
+    let given = c .before .before .before .pre in
     record {
-      into-fits = given .high;
+      into-fits = omega (arith, given .high);
       from-fits = omega (arith, given .held-low, given .depth-low, given .high);
       apart = inr (omega (arith, given .held-low, given .depth-low));
     }
@@ -30,12 +31,10 @@ mul-work c = search needs
 slice-write-work : tie.Need-slice-write-work
 slice-write-work c = search needs
 
-add-without : tie.Need-add-without
-add-without c = search needs
-
 without-requires : tie.Need-without-requires
 without-requires c κs =
     let lost = c .before .before .before in
+    let next = lost .before .before .next-set .ensures in
     let given = start-of lost .pre in
     let args = start-of lost .args in
     let long = length-set (lost .difference-with .last .0) (args .depth) (args .j) ∙ lost .difference-with .ensures .long in (
@@ -62,17 +61,17 @@ returns : tie.Need-returns
 returns c n size =
     let made = c .before .before in
     let lost = made .before .before .before .before in
-    promoted-made size (start-of lost .pre) (lost .difference-with .ensures) (made .without .ensures n size)
+    promoted-made size (start-of lost .pre) (lost .before .before .next-set .ensures)
+    (lost .difference-with .ensures) (made .without .ensures n size)
 
 pub promote-spec : {M : Type 1} → statement M
 promote-spec =
     tie.close
     (tie.spec
-    add-difference-with
+    next-set-requires
     difference-with-requires
     mul-work
     slice-write-work
-    add-without
     without-requires
     same-length
     returns)
