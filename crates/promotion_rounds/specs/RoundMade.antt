@@ -548,15 +548,16 @@ module _ {owners priorities offsets targets : List ℕ} (ok : Accepted (tablesOf
               )
 
               pub round-promotes :
+                  {top : ℕ} → top ≡ depth + 1 + (j - 1) →
                   Shows owners priorities offsets targets s
                   (roundOf (gameOf (tablesOf owners priorities offsets targets))
                   (afterRounds (gameOf (tablesOf owners priorities offsets targets)) made))
-                  (getD w2 (depth + j) 0) left w3 ×
+                  (getD w2 top 0) left w3 ×
                   RoundEntries (gameOf (tablesOf owners priorities offsets targets))
                   (afterRounds (gameOf (tablesOf owners priorities offsets targets)) made)
                   (entryIn (length owners) (length targets) s w0) (entryIn (length owners) (length targets) s w3)
-              round-promotes =
-                  let is : topsAt n m s + (j - 1) ≡ depth + j = omega (arith, at .depth-is) in
+              round-promotes {top} read =
+                  let is : topsAt n m s + (j - 1) ≡ top = omega (arith, at .depth-is) in
                   subst
                   (λ (x : ℕ).
                   Shows owners priorities offsets targets s (roundOf g r) (getD w2 x 0) left w3 ×

@@ -9,6 +9,7 @@ use promotion_levels::descend;
 use promotion_levels::held_at;
 use promotion_levels::level_at;
 use promotion_levels::levels_at;
+use promotion_levels::priority_at;
 use promotion_moves::dominion::solve_dominion;
 use promotion_moves::fill::assign_missing_strategies;
 use promotion_moves::promote::promote;
@@ -62,12 +63,12 @@ pub fn round(
     assign_missing_strategies(owners, offsets, targets, alpha, s, work, heads, held, entry);
     let j = best_escape(owners, offsets, targets, alpha, s, work, held, levels, k);
     if 0 < j {
-        let higher = Priority(work[depth + j] as usize);
+        let higher = Priority(work[priority_at(depth, j - 1)] as usize);
         promote(s, work, held, depth, level_at(levels, s, j - 1), j - 1);
         after.current = higher;
         return after;
     }
-    let highest = Priority(work[depth + 1] as usize);
+    let highest = Priority(work[priority_at(depth, 0)] as usize);
     solve_dominion(owners, offsets, targets, p, s, work, held, levels, k);
     after.current = descend(priorities, m, s, work, held, levels, 0, highest);
     after.unsolved = sets::size(&work[levels..levels + s]);

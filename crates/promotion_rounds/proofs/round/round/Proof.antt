@@ -88,6 +88,10 @@ filled b = b .before .before .before .before
 abbrev solved : tie.After-descend2 → tie.After-solve-dominion
 solved t = t .before .before .before .before
 
+-- where there is no region to promote to
+abbrev ended : tie.After-solve-dominion → tie.Else2
+ended e = e .before .before .before .before
+
 -- from where the query was made, and from where the escape is known: where the function begins
 abbrev query-start : tie.After-query → tie.Start
 query-start q = begun (placed q)
@@ -103,7 +107,7 @@ escape-start b = query-start (query-of b)
 
 -- the same from where the first level has begun again
 abbrev escaped : tie.After-descend2 → tie.After-best-escape
-escaped t = solved t .before .before .before .before
+escaped t = ended (solved t) .before
 
 abbrev origin : tie.After-descend2 → tie.Start
 origin t = escape-start (escaped t)
@@ -300,27 +304,31 @@ fits c =
     let g = escape-start (c .before) in
     top-fits (g .pre .accepted) (g .pre .made) (g .pre .shows) (escape (c .before)) (c .if2 .taken)
 
-add-level-at-3 : tie.Need-add-level-at-3
-add-level-at-3 c =
+sub-priority-at : tie.Need-sub-priority-at
+sub-priority-at c = search needs
+
+priority-at-requires : tie.Need-priority-at-requires
+priority-at-requires c κs =
     let l = levels-at-escape (c .before) in
     omega (arith, fits c, stands l 0 (omega arith), start-of l .good)
 
 mul-level-at : tie.Need-mul-level-at
 mul-level-at c =
-    let l = levels-at-escape (c .before) in
-    omega (arith, fits c, stands l 0 (omega arith), start-of l .good)
+    let l = levels-at-escape (c .before .before) in
+    omega (arith, c .priority-at .ensures, fits (c .before), stands l 0 (omega arith), start-of l .good)
 
 slice-read-level-at : tie.Need-slice-read-level-at
 slice-read-level-at c =
-    let b = c .before .before in
-    omega (arith, fits (c .before), stands (levels-at-escape b) 0 (omega arith), long2 (filled b))
+    let i = c .before .before in
+    let b = i .before in
+    omega (arith, c .before .priority-at .ensures, fits i, stands (levels-at-escape b) 0 (omega arith), long2 (filled b))
 
 sub-level-at : tie.Need-sub-level-at
 sub-level-at c = search needs
 
 level-at-requires-4 : tie.Need-level-at-requires-4
 level-at-requires-4 c κs =
-    let b = c .before .before .before in
+    let b = c .before .before .before .before in
     let l = levels-at-escape b in
     let g = start-of l in
     let j = b .best-escape .result - 1 in
@@ -333,7 +341,7 @@ sub-promote c = search needs
 
 promote-requires : tie.Need-promote-requires
 promote-requires c κs =
-    let i = c .before .before .before in
+    let i = c .before .before .before .before in
     let g = escape-start (i .before) in
     round-promotable (g .pre .accepted) (g .pre .made) (g .pre .shows) (escape (i .before)) (i .if2 .taken) (c .level-at4 .ensures)
 
@@ -344,7 +352,8 @@ returns-2 : tie.Need-returns-2
 returns-2 c =
     let e = c .before .before in
     let is = e .before .level-at4 .ensures in
-    let i = e .before .before .before .before in
+    let read = e .before .before .before .before in
+    let i = read .before in
     let g = escape-start (i .before) in
     let done = e .promote .ensures (length (g .args .owners .now)) (g .pre .shows .ready .size) in
     let same =
@@ -352,7 +361,7 @@ returns-2 c =
     record {
       long = same .0;
       counted = refl;
-      shown = λ k sh. round-promotes (g .pre .accepted) k sh (escape (i .before)) (i .if2 .taken) is done;
+      shown = λ k sh. round-promotes (g .pre .accepted) k sh (escape (i .before)) (i .if2 .taken) is done (read .priority-at .ensures);
       rest = same .1;
     }
 
@@ -363,41 +372,45 @@ first-fits c =
     let l = levels-at-escape (c .before) in
     omega (arith, stands l 0 (omega arith), l .levels-at .ensures)
 
-add-size : tie.Need-add-size
-add-size c = let l = levels-at-escape (c .before) in omega (arith, first-fits c, start-of l .good)
+priority-at-requires-2 : tie.Need-priority-at-requires-2
+priority-at-requires-2 c κs = let l = levels-at-escape (c .before) in omega (arith, first-fits c, start-of l .good)
 
 mul-size : tie.Need-mul-size
-mul-size c = let l = levels-at-escape (c .before) in omega (arith, first-fits c, start-of l .good)
+mul-size c =
+    let l = levels-at-escape (c .before .before) in
+    omega (arith, c .priority-at2 .ensures, first-fits (c .before), start-of l .good)
 
 slice-read-size : tie.Need-slice-read-size
-slice-read-size c = let b = c .before .before in omega (arith, first-fits (c .before), long2 (filled b))
+slice-read-size c =
+    let i = c .before .before in omega (arith, c .before .priority-at2 .ensures, first-fits i, long2 (filled (i .before)))
 
 solve-dominion-requires : tie.Need-solve-dominion-requires
 solve-dominion-requires c κs =
-    let b = c .before .before .before in
+    let b = c .before .before .before .before in
     let g = escape-start b in
     round-dominion (g .pre .accepted) (g .pre .made) (g .pre .shows) (escape b)
 
 -- R with what it attracts is solved
 dominated :
     (e : tie.After-solve-dominion) →
-    let b = e .before .before .before .before in
+    let b = ended e .before in
     let l = levels-at-escape b in
     let a = escape-start b .args in
     Dominated (a .owners .now) (a .priorities .now) (a .offsets .now) (a .targets .now) (a .s) (a .state .current .0)
     (l .before .before .held-at .result) (l .levels-at .result) (given (filled b)) (e .solve-dominion .last .1 .1 .1 .1 .1 .0)
 dominated e =
-    let g = escape-start (e .before .before .before .before) in e .solve-dominion .ensures (g .args .priorities .now) (g .pre .accepted)
+    let g = escape-start (ended e .before) in e .solve-dominion .ensures (g .args .priorities .now) (g .pre .accepted)
 
 descend-requires-2 : tie.Need-descend-requires-2
 descend-requires-2 c κs =
     let e = c .before .before .before in
-    let i = e .before .before .before in
+    let read = e .before .before .before in
+    let i = read .before in
     let b = i .before in
     let g = escape-start b in
-    let place : levels-at-escape b .before .depth-at .result + 1
+    let place : read .priority-at2 .result
     ≡ topsAt (length (g .args .owners .now)) (length (g .args .targets .now)) (g .args .s) + 0 =
-    omega (arith, escape b .begins .depth-is) in
+    omega (arith, read .priority-at2 .ensures, escape b .begins .depth-is) in
     round-first (g .pre .accepted) (g .pre .made) (g .pre .shows) (escape b) (i .if2 .left) (dominated e)
     (ap (λ (x : ℕ). getD (given (filled b)) x 0) place)
 
@@ -409,7 +422,7 @@ ready4 :
     (t .descend2 .last .1 .1 .1 .0)
 ready4 t =
     let g = origin t in
-    solved-ready (g .pre .accepted) (g .pre .made) (g .pre .shows) (escape (escaped t)) (solved t .before .before .before .if2 .left)
+    solved-ready (g .pre .accepted) (g .pre .made) (g .pre .shows) (escape (escaped t)) (ended (solved t) .if2 .left)
     (dominated (solved t)) (t .descend2 .ensures)
 
 same4 :
@@ -420,7 +433,7 @@ same4 :
     getD (t .descend2 .last .1 .1 .1 .0) i 0 ≡ getD (a .work .now) i 0)
 same4 t =
     let g = origin t in
-    solved-same (g .pre .accepted) (g .pre .made) (g .pre .shows) (escape (escaped t)) (solved t .before .before .before .if2 .left)
+    solved-same (g .pre .accepted) (g .pre .made) (g .pre .shows) (escape (escaped t)) (ended (solved t) .if2 .left)
     (dominated (solved t)) (t .descend2 .ensures)
 
 levels4 :
@@ -435,8 +448,8 @@ room4 :
     levels-at-escape (escaped t) .levels-at .result + origin t .args .s ≤ length (t .descend2 .last .1 .1 .1 .0)
 room4 t = first-room (ready4 t) (levels4 t)
 
-add-size-2 : tie.Need-add-size-2
-add-size-2 c = let t = c .before .before in omega (arith, room4 t, same4 t .0, origin t .good)
+add-size : tie.Need-add-size
+add-size c = let t = c .before .before in omega (arith, room4 t, same4 t .0, origin t .good)
 
 mul-size-2 : tie.Need-mul-size-2
 mul-size-2 c = let t = c .before .before in omega (arith, room4 t, same4 t .0, origin t .good)
@@ -464,7 +477,7 @@ returns-3 c =
       counted = refl;
       shown =
           λ k sh.
-          round-solves (origin t .pre .accepted) k sh (escape (escaped t)) (solved t .before .before .before .if2 .left)
+          round-solves (origin t .pre .accepted) k sh (escape (escaped t)) (ended (solved t) .if2 .left)
           (dominated (solved t)) (t .descend2 .ensures) (left-counted (ready4 t) (levels4 t) (c .size .ensures));
       rest = same4 t .1;
     }
@@ -496,7 +509,8 @@ round-spec =
     entries-requires
     assign-missing-strategies-requires
     best-escape-requires
-    add-level-at-3
+    sub-priority-at
+    priority-at-requires
     mul-level-at
     slice-read-level-at
     sub-level-at
@@ -505,12 +519,12 @@ round-spec =
     promote-requires
     same-length-2
     returns-2
-    add-size
+    priority-at-requires-2
     mul-size
     slice-read-size
     solve-dominion-requires
     descend-requires-2
-    add-size-2
+    add-size
     mul-size-2
     sub-size
     part-size-start
