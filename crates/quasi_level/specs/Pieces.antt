@@ -115,12 +115,13 @@ sound-edges t ok =
 
 -- what `attract` asks for
 attractable :
-    {t : Tables} {s base alpha : ℕ} {w : List ℕ} →
+    {t : Tables} {s base into alpha : ℕ} {w : List ℕ} →
     OpinionReady t s base w →
+    into ≡ base + s →
     alpha ≤ 1 →
     ((v : ℕ) → drawnAt t base w v ≡ true → onLevel t base w v ≡ true) →
-    Attractable (t .owners) (t .offsets) (t .targets) alpha base (base + s) w
-attractable {t} {s} {base} {w = w} r side part =
+    Attractable (t .owners) (t .offsets) (t .targets) alpha base into w
+attractable {t} {s} {base} {w = w} r behind side part =
     let size = r .size in
     let high = r .high in
     let low = r .low in
@@ -133,11 +134,7 @@ attractable {t} {s} {base} {w = w} r side part =
             set-high = omega arith;
             apart = inl (omega arith);
           };
-      nested =
-          record {
-            below = r .below;
-            part = λ v p. part v (ap (λ (k : ℕ). setAt (vertices t) (base + k) w v) (sym size) ∙ p);
-          };
+      nested = record { below = r .below; part = λ v p. part v (rw (behind, size) at p) };
       edges = sound-edges t (r .accepted);
       listed = r .table;
       side = side;
@@ -162,123 +159,125 @@ drawn-held {t} {c} {base} {x = x} {y = y} drawn v = go (lt-or-ge v (vertices t))
 
 -- ---- the first cut
 
-module _ {t : Tables} {s base : ℕ} {w₀ w₁ : List ℕ} (ready : OpinionReady t s base w₀) (cleared : Cleared (base + s) s w₀ w₁) where
-  size : s ≡ words (vertices t)
-  size = ready .size
+module _ {t : Tables} {s base into : ℕ} {w₀ w₁ : List ℕ} (ready : OpinionReady t s base w₀) (behind : into ≡ base + s)
+    (cleared : Cleared into s w₀ w₁)
+  where
+    size : s ≡ words (vertices t)
+    size = ready .size
 
-  long : length (t .priorities) ≡ vertices t
-  long = accepted-sound t (ready .accepted) .priority-each
+    long : length (t .priorities) ≡ vertices t
+    long = accepted-sound t (ready .accepted) .priority-each
 
-  stays₁ : OpinionStays t (base + words (vertices t)) w₀ w₁
-  stays₁ = cleared-stays (omega (arith, ready .low)) (omega (arith, size)) cleared
+    stays₁ : OpinionStays t (base + words (vertices t)) w₀ w₁
+    stays₁ = cleared-stays (omega (arith, ready .low)) (omega (arith, size)) cleared
 
-  -- what `collect` asks for
-  pub top-collects : Collects (length (t .priorities)) s base (base + s) w₁
-  top-collects =
-      rw long
-      (record {
-        size = size;
-        few = accepted-sound t (ready .accepted) .few-vertices;
-        parts =
-            record {
-              into-fits = omega (arith, size, ready .high, cleared .long);
-              from-fits = omega (arith, size, ready .high, cleared .long);
-              apart = inr (omega (arith, size));
-            };
-        below = ready-stays stays₁ ready .below;
-        nothing = set-cleared (vertices t) (base + s) s (base + s) cleared (omega arith) (omega (arith, size));
-      })
-
-  module _ {p : ℕ} {w₂ : List ℕ} (collected : Collected (t .priorities) p base (base + s) w₁ w₂) where
-    stays₂ : OpinionStays t (base + words (vertices t)) w₀ w₂
-    stays₂ =
-        stays-on stays₁
+    -- what `collect` asks for
+    pub top-collects : Collects (length (t .priorities)) s base into w₁
+    top-collects =
+        rw long
         (record {
-          long = collected .long;
-          table = λ i l. collected .rest i (inl (omega (arith, ready .low)));
-          lower = λ i f h. collected .rest i (inl (omega (arith, size)));
+          size = size;
+          few = accepted-sound t (ready .accepted) .few-vertices;
+          parts =
+              record {
+                into-fits = omega (arith, size, ready .high, cleared .long);
+                from-fits = omega (arith, size, ready .high, cleared .long);
+                apart = inr (omega (arith, size));
+              };
+          below = ready-stays stays₁ ready .below;
+          nothing = set-cleared (vertices t) into s into cleared (omega arith) (omega (arith, size));
         })
 
-    level₂ : (v : ℕ) → onLevel t base w₂ v ≡ onLevel t base w₀ v
-    level₂ = level-stays (ready .low) (omega arith) stays₂
+    module _ {p : ℕ} {w₂ : List ℕ} (collected : Collected (t .priorities) p base into w₁ w₂) where
+      stays₂ : OpinionStays t (base + words (vertices t)) w₀ w₂
+      stays₂ =
+          stays-on stays₁
+          (record {
+            long = collected .long;
+            table = λ i l. collected .rest i (inl (omega (arith, ready .low)));
+            lower = λ i f h. collected .rest i (inl (omega (arith, size)));
+          })
 
-    -- U stands where is drawn
-    top-set : (v : ℕ) → drawnAt t base w₂ v ≡ withPriority (gameOf t) (onLevel t base w₀) p v
-    unfolding gameOf
-    top-set v =
-        (rw (long, size) at (collected .set v)) ∙
-        ap (λ (b : Bool). b && eqb (getD (t .priorities) v 0) p) (level-stays (ready .low) (omega arith) stays₁ v)
+      level₂ : (v : ℕ) → onLevel t base w₂ v ≡ onLevel t base w₀ v
+      level₂ = level-stays (ready .low) (omega arith) stays₂
 
-    -- what `attract` asks for
-    pub top-attractable : {alpha : ℕ} → alpha ≤ 1 → Attractable (t .owners) (t .offsets) (t .targets) alpha base (base + s) w₂
-    top-attractable side =
-        attractable (ready-stays stays₂ ready) side
-        (λ v q. level₂ v ∙ and-left (onLevel t base w₀ v) (eqb (gameOf t .priority v) p) (sym (top-set v) ∙ q))
+      -- U stands where is drawn
+      top-set : (v : ℕ) → drawnAt t base w₂ v ≡ withPriority (gameOf t) (onLevel t base w₀) p v
+      unfolding gameOf
+      top-set v =
+          (rw (long, behind, size) at (collected .set v)) ∙
+          ap (λ (b : Bool). b && eqb (getD (t .priorities) v 0) p) (level-stays (ready .low) (omega arith) stays₁ v)
 
-    -- **V without what is drawn to p stands at the next level.**
-    pub top-made :
-        {a : Player} {looks up : ℕ} {w₃ w₄ w₅ : List ℕ} →
-        up ≡ nextLevel s base →
-        a ≡ parity p →
-        Attracted t a base (base + s) w₂ w₃ looks →
-        Combined other up base s w₃ w₄ →
-        Combined _-_ up (base + s) s w₄ w₅ →
-        TopCut t p base w₀ w₅
-    top-made {looks = looks} {w₃ = w₃} {w₄} {w₅} next whose drawn copied reduced =
-        record { stays = stays-on (stays-on stays₂ drawn-stays) above; rest = rest }
-      where
-        drawn′ : Attracted t (parity p) base (base + words (vertices t)) w₂ w₃ looks
-        drawn′ = rw (size, whose) at drawn
+      -- what `attract` asks for
+      pub top-attractable : {alpha : ℕ} → alpha ≤ 1 → Attractable (t .owners) (t .offsets) (t .targets) alpha base into w₂
+      top-attractable side =
+          attractable (ready-stays stays₂ ready) behind side
+          (λ v q. level₂ v ∙ and-left (onLevel t base w₀ v) (eqb (gameOf t .priority v) p) (sym (top-set v) ∙ q))
 
-        copied′ : Combined other (nextLevel (words (vertices t)) base) base (words (vertices t)) w₃ w₄
-        copied′ = rw (next, size) at copied
+      -- **V without what is drawn to p stands at the next level.**
+      pub top-made :
+          {a : Player} {looks up : ℕ} {w₃ w₄ w₅ : List ℕ} →
+          up ≡ nextLevel s base →
+          a ≡ parity p →
+          Attracted t a base into w₂ w₃ looks →
+          Combined other up base s w₃ w₄ →
+          Combined _-_ up into s w₄ w₅ →
+          TopCut t p base w₀ w₅
+      top-made {looks = looks} {w₃ = w₃} {w₄} {w₅} next whose drawn copied reduced =
+          record { stays = stays-on (stays-on stays₂ drawn-stays) above; rest = rest }
+        where
+          drawn′ : Attracted t (parity p) base (base + words (vertices t)) w₂ w₃ looks
+          drawn′ = rw (behind, size, whose) at drawn
 
-        reduced′ : Combined _-_ (nextLevel (words (vertices t)) base) (base + words (vertices t)) (words (vertices t)) w₄ w₅
-        reduced′ = rw (next, size) at reduced
+          copied′ : Combined other (nextLevel (words (vertices t)) base) base (words (vertices t)) w₃ w₄
+          copied′ = rw (next, size) at copied
 
-        drawn-stays : OpinionStays t (base + words (vertices t)) w₂ w₃
-        drawn-stays = attracted-stays drawn′
+          reduced′ : Combined _-_ (nextLevel (words (vertices t)) base) (base + words (vertices t)) (words (vertices t)) w₄ w₅
+          reduced′ = rw (next, behind, size) at reduced
 
-        above : OpinionStays t (base + words (vertices t)) w₃ w₅
-        above =
-            stays-on (combined-stays (omega (arith, ready .low)) (omega arith) copied′)
-            (combined-stays (omega (arith, ready .low)) (omega arith) reduced′)
+          drawn-stays : OpinionStays t (base + words (vertices t)) w₂ w₃
+          drawn-stays = attracted-stays drawn′
 
-        same-drawn :
-            (v : ℕ) →
-            drawnAt t base w₃ v ≡
-            attractor (gameOf t) (parity p) (onLevel t base w₀) (withPriority (gameOf t) (onLevel t base w₀) p) v
-        same-drawn v =
-            drawn-held drawn′ v ∙
-            ap₂ (λ (X Y : Set). attractor (gameOf t) (parity p) X Y v) (fun-ext level₂) (fun-ext top-set)
+          above : OpinionStays t (base + words (vertices t)) w₃ w₅
+          above =
+              stays-on (combined-stays (omega (arith, ready .low)) (omega arith) copied′)
+              (combined-stays (omega (arith, ready .low)) (omega arith) reduced′)
 
-        rest :
-            (v : ℕ) →
-            onLevel t (nextLevel (words (vertices t)) base) w₅ v ≡
-            without (onLevel t base w₀)
-            (attractor (gameOf t) (parity p) (onLevel t base w₀) (withPriority (gameOf t) (onLevel t base w₀) p))
-            v
-        rest v =
-            set-reduced (vertices t) (nextLevel (words (vertices t)) base) (base + words (vertices t)) w₄ w₅ reduced′ v ∙
-            ap₂ (λ (x y : Bool). x && not y)
-            (set-copied-here (vertices t) (nextLevel (words (vertices t)) base) base w₃ w₄ copied′ v ∙
-            level-stays (ready .low) (omega arith) drawn-stays v ∙
-            level₂ v)
-            (set-kept (vertices t) (base + words (vertices t)) w₃ w₄
-            (λ i l h. copied′ .rest i (inl (omega arith))) v ∙ same-drawn v)
+          same-drawn :
+              (v : ℕ) →
+              drawnAt t base w₃ v ≡
+              attractor (gameOf t) (parity p) (onLevel t base w₀) (withPriority (gameOf t) (onLevel t base w₀) p) v
+          same-drawn v =
+              drawn-held drawn′ v ∙
+              ap₂ (λ (X Y : Set). attractor (gameOf t) (parity p) X Y v) (fun-ext level₂) (fun-ext top-set)
+
+          rest :
+              (v : ℕ) →
+              onLevel t (nextLevel (words (vertices t)) base) w₅ v ≡
+              without (onLevel t base w₀)
+              (attractor (gameOf t) (parity p) (onLevel t base w₀) (withPriority (gameOf t) (onLevel t base w₀) p))
+              v
+          rest v =
+              set-reduced (vertices t) (nextLevel (words (vertices t)) base) (base + words (vertices t)) w₄ w₅ reduced′ v ∙
+              ap₂ (λ (x y : Bool). x && not y)
+              (set-copied-here (vertices t) (nextLevel (words (vertices t)) base) base w₃ w₄ copied′ v ∙
+              level-stays (ready .low) (omega arith) drawn-stays v ∙
+              level₂ v)
+              (set-kept (vertices t) (base + words (vertices t)) w₃ w₄
+              (λ i l h. copied′ .rest i (inl (omega arith))) v ∙ same-drawn v)
 
 -- ---- the second cut
 
 module _ {owners offsets targets : List ℕ} {alpha s base : ℕ} {w₀ w₁ : List ℕ}
     (droppable : Droppable owners offsets targets alpha s base w₀)
-    {up : ℕ} (next : up ≡ nextLevel s base)
-    (copied : Combined other (base + s) up s w₀ w₁)
+    {into up : ℕ} (behind : into ≡ base + s) (next : up ≡ nextLevel s base)
+    (copied : Combined other into up s w₀ w₁)
   where
     size₁ : s ≡ words (length owners)
     size₁ = droppable .ready .size
 
     copied₁ : Combined other (base + words (length owners)) (nextLevel (words (length owners)) base) (words (length owners)) w₀ w₁
-    copied₁ = rw (next, size₁) at copied
+    copied₁ = rw (next, behind, size₁) at copied
 
     stays-copied : (priorities : List ℕ) → OpinionStays (tablesOf owners priorities offsets targets) (base + words (length owners)) w₀ w₁
     stays-copied priorities = combined-stays (omega (arith, droppable .ready .low)) (omega arith) copied₁
@@ -298,10 +297,10 @@ module _ {owners offsets targets : List ℕ} {alpha s base : ℕ} {w₀ w₁ : L
         set-copied-here (length owners) (base + words (length owners)) (nextLevel (words (length owners)) base) w₀ w₁ copied₁ v
 
     -- what `attract` asks for
-    pub drop-attractable : Attractable owners offsets targets alpha base (base + s) w₁
+    pub drop-attractable : Attractable owners offsets targets alpha base into w₁
     drop-attractable =
         let priorities = droppable .priorities in
-        attractable (ready-stays (stays-copied priorities) (droppable .ready)) (droppable .player)
+        attractable (ready-stays (stays-copied priorities) (droppable .ready)) behind (droppable .player)
         (λ v q.
         level-copied priorities v ∙
         droppable .part v
@@ -311,8 +310,8 @@ module _ {owners offsets targets : List ℕ} {alpha s base : ℕ} {w₀ w₁ : L
     pub drop-made :
         (priorities : List ℕ) →
         {looks : ℕ} {w₂ w₃ : List ℕ} →
-        Attracted (tablesOf owners priorities offsets targets) (playerOf alpha) base (base + s) w₁ w₂ looks →
-        Combined _-_ base (base + s) s w₂ w₃ →
+        Attracted (tablesOf owners priorities offsets targets) (playerOf alpha) base into w₁ w₂ looks →
+        Combined _-_ base into s w₂ w₃ →
         Dropped (tablesOf owners priorities offsets targets) (playerOf alpha) base w₀ w₃
     drop-made priorities {looks} {w₂} {w₃} drawn reduced =
         record {
@@ -332,10 +331,10 @@ module _ {owners offsets targets : List ℕ} {alpha s base : ℕ} {w₀ w₁ : L
         drawn′ :
             Attracted (tablesOf owners priorities offsets targets) (playerOf alpha) base
             (base + words (length owners)) w₁ w₂ looks
-        drawn′ = rw size₁ at drawn
+        drawn′ = rw (behind, size₁) at drawn
 
         reduced′ : Combined _-_ base (base + words (length owners)) (words (length owners)) w₂ w₃
-        reduced′ = rw size₁ at reduced
+        reduced′ = rw (behind, size₁) at reduced
 
         drawn-stays : OpinionStays (tablesOf owners priorities offsets targets) (base + words (length owners)) w₁ w₂
         drawn-stays = attracted-stays drawn′

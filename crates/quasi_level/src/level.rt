@@ -3,6 +3,7 @@
 use crate::passes::Passes;
 use crate::passes::Sharp;
 use crate::places::next_level;
+use area::next_set;
 use parity_game::Player;
 use parity_game::Priority;
 ghost use mathlib.Core.List.{List};
@@ -56,7 +57,7 @@ pub fn attract_top(
         ⌜ TopCut (tablesOf (now (owners .entry)) (now (priorities .entry)) (now (offsets .entry))
         (now (targets .entry))) (p .0) base (now (work .entry)) (now (work .exit)) ⌝ }
 {
-    let drawn = base + s;
+    let drawn = next_set(base, s);
     let up = next_level(base, s);
     sets::clear(work, drawn, s);
     highest_priority::collect(priorities, p, s, work, base, drawn);
@@ -83,7 +84,7 @@ fn drop_found(
         Dropped (tablesOf (now (owners .entry)) priorities (now (offsets .entry)) (now (targets .entry)))
         (playerOf alpha) base (now (work .entry)) (now (work .exit))) ⌝ }
 {
-    let drawn = base + s;
+    let drawn = next_set(base, s);
     let up = next_level(base, s);
     sets::copy_with(work, drawn, up, s);
     attractor::attract(owners, offsets, targets, alpha, work, base, drawn);

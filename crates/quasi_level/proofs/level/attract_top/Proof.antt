@@ -11,8 +11,11 @@ use Rattle.quasi_level.proofs.level.attract_top.Tie as tie
 abbrev placed : tie.After-clear → tie.After-next-level
 placed c = c .before .before
 
+abbrev behind : tie.After-clear → tie.After-next-set
+behind c = placed c .before
+
 abbrev start-of : tie.After-clear → tie.Start
-start-of c = placed c .before .before .before .before .before .before
+start-of c = behind c .before .before .before .before .before .before
 
 abbrev after-clear : tie.After-collect → tie.After-clear
 after-clear c = c .before .before .before .before
@@ -32,8 +35,8 @@ after-attract c = c .before .before .before .before
 abbrev after-copy : tie.After-difference-with → tie.After-copy-with
 after-copy c = c .before .before .before .before
 
-add-drawn : tie.Need-add-drawn
-add-drawn c = search needs
+next-set-requires : tie.Need-next-set-requires
+next-set-requires c κs = search needs
 
 next-level-requires : tie.Need-next-level-requires
 next-level-requires c κs = search needs
@@ -43,7 +46,8 @@ clear-requires c κs = search needs
 
 collect-requires : tie.Need-collect-requires
 collect-requires c κs =
-    let cleared = c .before .before .before in top-collects (start-of cleared .pre) (cleared .clear .ensures)
+    let cleared = c .before .before .before in
+    top-collects (start-of cleared .pre) (behind cleared .next-set .ensures) (cleared .clear .ensures)
 
 from-priority-requires : tie.Need-from-priority-requires
 from-priority-requires c κs = search needs
@@ -55,7 +59,8 @@ attract-requires : tie.Need-attract-requires
 attract-requires c κs =
     let collected = after-collect (after-named (c .before)) in
     let cleared = after-clear collected in
-    top-attractable (start-of cleared .pre) (cleared .clear .ensures) (collected .collect .ensures) (c .before .index .ensures .1)
+    top-attractable (start-of cleared .pre) (behind cleared .next-set .ensures) (cleared .clear .ensures) (collected .collect .ensures)
+    (c .before .index .ensures .1)
 
 copy-with-requires : tie.Need-copy-with-requires
 copy-with-requires c κs =
@@ -64,6 +69,7 @@ copy-with-requires c κs =
     let cleared = after-clear collected in
     let high = start-of cleared .pre .high in
     let next = placed cleared .next-level .ensures in
+    let drawn-is = behind cleared .next-set .ensures in
     let long = drawn .attract .kept .1 .1 .1 .1 .0 in
     let long₂ = collected .collect .ensures .long in
     let long₁ = cleared .clear .ensures .long in
@@ -77,6 +83,7 @@ difference-with-requires c κs =
     let cleared = after-clear collected in
     let high = start-of cleared .pre .high in
     let next = placed cleared .next-level .ensures in
+    let drawn-is = behind cleared .next-set .ensures in
     let long = drawn .attract .kept .1 .1 .1 .1 .0 in
     let long₃ = copied .copy-with .ensures .long in
     let long₂ = collected .collect .ensures .long in
@@ -96,7 +103,8 @@ returns c =
     let collected = after-collect named in
     let cleared = after-clear collected in
     let g = start-of cleared in
-    top-made (g .pre) (cleared .clear .ensures) (collected .collect .ensures) (placed cleared .next-level .ensures)
+    top-made (g .pre) (behind cleared .next-set .ensures) (cleared .clear .ensures) (collected .collect .ensures)
+    (placed cleared .next-level .ensures)
     (indexed .index .ensures .0 ∙ named .from-priority .ensures)
     (drawn .attract .ensures (g .args .priorities .now) (g .pre .accepted))
     (copied .copy-with .ensures)
@@ -106,7 +114,7 @@ pub attract-top-spec : {M : Type 1} → statement M
 attract-top-spec =
     tie.close
     (tie.spec
-    add-drawn
+    next-set-requires
     next-level-requires
     clear-requires
     collect-requires
