@@ -2,7 +2,7 @@
 use mathlib.Core.Bool.{Bool, true, false, _&&_, not}
 use mathlib.Core.List.{List, _++_}
 use mathlib.Core.Logic.{inl, inr}
-use mathlib.Core.Path.{_≡_, refl, sym, ap, ap₂, subst, fun-ext, _∙_}
+use mathlib.Core.Path.{_≡_, refl, sym, ap, subst, fun-ext, _∙_}
 use Prim.Native.Nat.{ℕ, _+_, _-_, _*_, _%_, _≤_, _<_}
 use native.Mathlib.Nat.{mul-le-mul-left, mul-le-mul-right, one-mul}
 use native.Mathlib.Omega.{arith}
@@ -90,31 +90,28 @@ module _ {t : Tables} {high : ℕ} {even odd w₀ : List ℕ} (given : OpinionRu
           high = omega (arith, fits);
         }
 
-    module _ {w₁ w₂ : List ℕ}
+    module _ {second : ℕ} {w₁ w₂ : List ℕ} (behind : second ≡ first + length even)
         (prepared : Prepared (vertices t) (t .offsets) (t .targets) first w₀ w₁)
-        (copied : Combined other (first + length even) first (length even) w₁ w₂)
+        (copied : Combined other second first (length even) w₁ w₂)
       where
         size : length even ≡ words (vertices t)
         size = given .even-size
 
-        copied′ : Combined other (first + words (vertices t)) first (words (vertices t)) w₁ w₂
-        copied′ = subst (λ (k : ℕ). Combined other (first + k) first k w₁ w₂) size copied
+        copied′ : Combined other second first (words (vertices t)) w₁ w₂
+        copied′ = rw size at copied
 
         -- all vertices stand in both sets
         all : (v : ℕ) → onLevel t first w₂ v ≡ everywhere (gameOf t) v
         unfolding gameOf
         all v =
-            set-kept (vertices t) first w₁ w₂ (λ i l h. copied′ .rest i (inl (omega arith))) v ∙ prepared .full v
+            set-kept (vertices t) first w₁ w₂ (λ i l h. copied′ .rest i (inl (omega (arith, size)))) v ∙ prepared .full v
 
-        narrowed : (v : ℕ) → onLevel t (first + length even) w₂ v ≡ everywhere (gameOf t) v
+        narrowed : (v : ℕ) → onLevel t second w₂ v ≡ everywhere (gameOf t) v
         unfolding gameOf
-        narrowed v =
-            ap (λ (k : ℕ). onLevel t (first + k) w₂ v) size ∙
-            set-copied-here (vertices t) (first + words (vertices t)) first w₁ w₂ copied′ v ∙
-            prepared .full v
+        narrowed v = set-copied-here (vertices t) second first w₁ w₂ copied′ v ∙ prepared .full v
 
         -- what the solver for Even asks for
-        pub run-called : OpinionCalled t Even (first + length even) high w₂
+        pub run-called : OpinionCalled t Even second high w₂
         unfolding gameOf
         run-called =
             record {
@@ -137,34 +134,31 @@ module _ {t : Tables} {high : ℕ} {even odd w₀ : List ℕ} (given : OpinionRu
             }
 
         module _ {w₃ w₄ : List ℕ} {r : Sharp}
-            (solved : SmallDominions t Even (first + length even) (vertices t) (vertices t) w₂ w₃ r)
-            (reduced : Combined _-_ first (first + length even) (length even) w₃ w₄)
+            (solved : SmallDominions t Even second (vertices t) (vertices t) w₂ w₃ r)
+            (reduced : Combined _-_ first second (length even) w₃ w₄)
           where
-            reduced′ : Combined _-_ first (first + words (vertices t)) (words (vertices t)) w₃ w₄
-            reduced′ = subst (λ (k : ℕ). Combined _-_ first (first + k) k w₃ w₄) size reduced
+            reduced′ : Combined _-_ first second (words (vertices t)) w₃ w₄
+            reduced′ = rw size at reduced
 
             pub run-long : length w₄ ≡ length w₀
             run-long = reduced .long ∙ solved .stays .long ∙ copied .long ∙ prepared .long
 
             -- Even's set, and what is left of all vertices without it
             abbrev R : Set
-            R = onLevel t (first + length even) w₃
+            R = onLevel t second w₃
 
             parts : Separates (gameOf t) Even (everywhere (gameOf t)) (gameOf t .size) (gameOf t .size) R
             unfolding gameOf
             parts = separates-over narrowed (λ v. refl) (separates-asked (r .keeps) (r .drops) (solved .parts))
 
-            evens : (v : ℕ) → setAt (vertices t) (first + length even) w₄ v ≡ R v
-            evens v =
-                set-kept (vertices t) (first + length even) w₃ w₄
-                (λ i l h. reduced .rest i (inr (omega (arith, size)))) v
+            evens : (v : ℕ) → setAt (vertices t) second w₄ v ≡ R v
+            evens = set-kept (vertices t) second w₃ w₄ (λ i l h. reduced .rest i (inr (omega (arith, size))))
 
             odds : (v : ℕ) → setAt (vertices t) first w₄ v ≡ without (everywhere (gameOf t)) R v
             odds v =
-                set-reduced (vertices t) first (first + words (vertices t)) w₃ w₄ reduced′ v ∙
-                ap₂ (λ (x y : Bool). x && not y)
+                set-reduced (vertices t) first second w₃ w₄ reduced′ v ∙
+                ap (λ (x : Bool). x && not (R v))
                 (set-kept (vertices t) first w₂ w₃ (λ i l h. solved .stays .lower i (omega (arith, size)) (omega (arith, size))) v ∙ all v)
-                (ap (λ (k : ℕ). onLevel t (first + k) w₃ v) (sym size))
 
             -- a set of the work area that has no vertex at n or above, copied out
             holds :
@@ -193,8 +187,7 @@ module _ {t : Tables} {high : ℕ} {even odd w₀ : List ℕ} (given : OpinionRu
             -- **What is copied out are the winning sets.**
             pub run-opinion :
                 (even′ odd′ : List ℕ) →
-                even′ ≡ take ((first + length even + length even) - (first + length even))
-                (drop (first + length even) w₄) →
+                even′ ≡ take ((second + length even) - second) (drop second w₄) →
                 odd′ ≡ take ((first + length even) - first) (drop first w₄) →
                 Narrow even′ →
                 Narrow odd′ →
@@ -205,7 +198,7 @@ module _ {t : Tables} {high : ℕ} {even odd w₀ : List ℕ} (given : OpinionRu
                   won = wonBy Even R (without (everywhere (gameOf t)) R);
                   wins = opinion-wins (gameOf t) (accepted-total t (given .accepted)) R parts;
                   even =
-                      holds (first + length even) R even′ (omega (arith, fits, run-long)) evens
+                      holds second R even′ (omega (arith, fits, run-long)) evens
                       (λ v p. everywhere-below (gameOf t) v (parts .inside v p))
                       e even-narrow;
                   odd =

@@ -3,6 +3,7 @@
 use crate::checks::check_lent;
 use crate::checks::opinion_words;
 use area::Area;
+use area::next_set;
 use kept_numbers::HIGHEST;
 use parity_game::Answer;
 use quasi_solvers::solve_even;
@@ -48,7 +49,7 @@ fn run(
     let m = targets.len();
     let s = even.len();
     let all = Area { n, m, s }.free();
-    let base = all + s;
+    let base = next_set(all, s);
     solver::prepare(offsets, targets, n, s, work, all);
     sets::copy_with(work, base, all, s);
     solve_even(owners, priorities, offsets, targets, work, base, high, n, n);

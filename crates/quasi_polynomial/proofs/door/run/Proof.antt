@@ -22,12 +22,12 @@ tables g = tablesOf (g .args .owners .now) (g .args .priorities .now) (g .args .
 abbrev start : tie.After-slice-known3 → tie.Start
 start c = c .before .before .before .before .before .before .before
 
--- where the place of the set of all vertices is known
-abbrev placed : tie.After-prepare → tie.After-free
+-- where the places of the set of all vertices and of its copy are known
+abbrev placed : tie.After-prepare → tie.After-next-set
 placed c = c .before .before
 
 abbrev begun : tie.After-prepare → tie.Start
-begun c = start (placed c .before)
+begun c = start (placed c .before .before)
 
 abbrev prepared : tie.After-copy-with → tie.After-prepare
 prepared c = c .before .before .before .before
@@ -47,7 +47,7 @@ first c = c .before .before .before .before .before .before
 abbrev whole : tie.After-difference-with → tie.Start
 whole c = begun (prepared (copied (solved c)))
 
-abbrev place : tie.After-difference-with → tie.After-free
+abbrev place : tie.After-difference-with → tie.After-next-set
 place c = placed (prepared (copied (solved c)))
 
 -- the numbers are small
@@ -59,20 +59,21 @@ few g =
     let s = words-few (length (g .args .owners .now)) (f .few-vertices) in
     (f .few-vertices, f .few-edges, omega (arith, g .pre .even-size))
 
--- both sets stand in the work area
+-- both sets stand in the work area, the copy behind
 fits :
-    (f : tie.After-free) →
-    let a = start (f .before) .args in
-    f .free .result + length (a .even .now) + length (a .even .now) ≤ length (a .work .now)
-fits f = run-fits (start (f .before) .pre) (f .free .ensures)
+    (f : tie.After-next-set) →
+    let a = start (f .before .before) .args in
+    (f .next-set .result ≡ f .before .free .result + length (a .even .now)) ×
+    (f .before .free .result + length (a .even .now) + length (a .even .now) ≤ length (a .work .now))
+fits f = (f .next-set .ensures, run-fits (start (f .before .before) .pre) (f .before .free .ensures))
 
 -- the work area stays as long
 long : (d : tie.After-difference-with) → length (d .difference-with .last .0) ≡ length (whole d .args .work .now)
 long d =
     let e = solved d in
     let k = copied e in
-    run-long (whole d .pre) (place d .free .ensures) (prepared k .prepare .ensures) (k .copy-with .ensures) (e .solve-even .ensures)
-    (d .difference-with .ensures)
+    run-long (whole d .pre) (place d .before .free .ensures) (place d .next-set .ensures) (prepared k .prepare .ensures)
+    (k .copy-with .ensures) (e .solve-even .ensures) (d .difference-with .ensures)
 
 free-requires : tie.Need-free-requires
 free-requires c κs =
@@ -81,11 +82,11 @@ free-requires c κs =
     omega (arith, few g, g .pre .even-size) in
     (g .pre .even-size, small)
 
-add-base : tie.Need-add-base
-add-base c = omega (arith, fits c, start (c .before) .good)
+next-set-requires : tie.Need-next-set-requires
+next-set-requires c κs = let g = start (c .before) in omega (arith, run-fits (g .pre) (c .free .ensures), g .good)
 
 prepare-requires : tie.Need-prepare-requires
-prepare-requires c κs = let f = c .before in run-preparable (start (f .before) .pre) (f .free .ensures)
+prepare-requires c κs = let f = c .before .before in run-preparable (start (f .before) .pre) (f .free .ensures)
 
 copy-with-requires : tie.Need-copy-with-requires
 copy-with-requires c κs =
@@ -98,7 +99,8 @@ solve-even-requires : tie.Need-solve-even-requires
 solve-even-requires c κs =
     let k = c .before .before .before in
     let p = prepared k in
-    run-called (begun p .pre) (placed p .free .ensures) (p .prepare .ensures) (k .copy-with .ensures)
+    let f = placed p in
+    run-called (begun p .pre) (f .before .free .ensures) (f .next-set .ensures) (p .prepare .ensures) (k .copy-with .ensures)
 
 difference-with-requires : tie.Need-difference-with-requires
 difference-with-requires c κs =
@@ -131,7 +133,7 @@ copy-from-requires c κs =
     let d = c .before .before .before .before .before in
     let g = whole d in
     let s = length (g .args .even .now) in
-    let base = place d .free .result + s in
+    let base = place d .next-set .result in
     sym
     (ap length (part-is base s (d .difference-with .last .0)) ∙
     part-length base s (d .difference-with .last .0) (omega (arith, fits (place d), long d)))
@@ -158,8 +160,8 @@ copy-from-requires-2 c κs =
     let s = length (g .args .even .now) in
     g .pre .odd-size ∙
     sym
-    (ap length (part-is (place d .free .result) s (d .difference-with .last .0)) ∙
-    part-length (place d .free .result) s (d .difference-with .last .0) (omega (arith, fits (place d), long d)) ∙
+    (ap length (part-is (place d .before .free .result) s (d .difference-with .last .0)) ∙
+    part-length (place d .before .free .result) s (d .difference-with .last .0) (omega (arith, fits (place d), long d)) ∙
     g .pre .even-size)
 
 clear-requires : tie.Need-clear-requires
@@ -183,8 +185,8 @@ returns c =
     let k = copied v in
     let g = whole d in (
       cleared-all (g .args .work .now) (d .difference-with .last .0) (long d) (c .before .before .clear .ensures),
-      run-opinion (g .pre) (place d .free .ensures) (prepared k .prepare .ensures) (k .copy-with .ensures) (v .solve-even .ensures)
-          (d .difference-with .ensures)
+      run-opinion (g .pre) (place d .before .free .ensures) (place d .next-set .ensures) (prepared k .prepare .ensures)
+          (k .copy-with .ensures) (v .solve-even .ensures) (d .difference-with .ensures)
           (e .copy-from .last .0)
           (o .copy-from2 .last .0)
           (e .copy-from .ensures)
@@ -198,7 +200,7 @@ run-spec =
     tie.close
     (tie.spec
     free-requires
-    add-base
+    next-set-requires
     prepare-requires
     copy-with-requires
     solve-even-requires
