@@ -207,7 +207,7 @@ module _ {owners offsets targets : List ℕ} {alpha within set s : ℕ} {work : 
                       );
                 };
             deep = omega arith;
-            last = λ e u. none u;
+            next-none = none;
           }
         where
           second-is : second ≡ layers n m + layerWords n

@@ -1,11 +1,10 @@
-// The whole attractor: the set at `set` grows from the target to the attractor in the set at `within`. Gives the
-// looks.
+// The whole attractor, layer by layer: the set at `set` grows from the target to the attractor in the set at
+// `within`. Gives the looks.
 use area::Area;
 use area::behind_layer;
 use area::marks_at;
 use attractor_begin::begin_layers;
-use attractor_word::take_word;
-use layer::marked::pop_word;
+use attractor_layer::take_layer;
 ghost use mathlib.Core.List.{List};
 ghost use Prim.Native.Nat.{ℕ};
 ghost use Rattle.rules.specs.Game.{playerOf};
@@ -38,8 +37,7 @@ pub fn attract(
     let mut far: u64 = 1;
     let mut looks: u64 = 0;
     while work[marks_at(this, s)] != 0 {
-        let popped = pop_word(&mut work[this..behind_layer(this, s)]);
-        looks += take_word(
+        looks += take_layer(
             owners,
             offsets,
             targets,
@@ -48,17 +46,14 @@ pub fn attract(
             work,
             within,
             set,
+            this,
             next,
-            popped.at,
-            popped.word,
             far,
         );
-        if work[marks_at(this, s)] == 0 {
-            let done = this;
-            this = next;
-            next = done;
-            far += 1;
-        }
+        let done = this;
+        this = next;
+        next = done;
+        far += 1;
     }
     looks
 }

@@ -1,5 +1,4 @@
--- `attract` meets its contract: layer by layer and word by word, in rising order, each member is taken by one of the rules'
--- steps.
+-- `attract` meets its contract: layer by layer each member is taken by one of the rules' steps, until a layer has none.
 use Prim.Native.Nat.{ℕ, _+_, _-_, _*_, _≤_, _<_, _^_}
 use mathlib.Core.List.{List}
 use mathlib.Core.Path.{_≡_, sym, ap, _∙_}
@@ -13,11 +12,10 @@ use Rattle.layer.specs.Layer.{marks}
 use Rattle.layer.specs.Laws.{unmarked-empty}
 use Rattle.attractor_look.specs.InArea.{layerAt}
 use Rattle.attractor_word.specs.Attracted.{Attractable}
+use Rattle.attractor_word.specs.Going.{takenAt}
+use Rattle.attractor_layer.specs.OneLayer.{LayerStands, layer-fits, marks-read, all-looks-few}
 use Rattle.attractor.specs.LoopBegins.{begin-ready, started-same, started-given, started}
-use Rattle.attractor_word.specs.Going.{Going, nowAt, takenAt}
-use Rattle.attractor.specs.Running.{Running, SameAreas, marks-read, layer-fits, pop-ready}
-use Rattle.attractor.specs.Running.{take-word-ready, word-grows, word-looks-few, going-word, turned}
-use Rattle.attractor.specs.Running.{running-on, running-turn, running-all, attracted-moved}
+use Rattle.attractor.specs.Running.{Running, SameAreas, layer-stands, turned, running-turn, running-all, attracted-moved}
 use Rattle.attractor.proofs.whole.attract.Statement.{statement}
 use Rattle.attractor.proofs.whole.attract.Tie as tie
 
@@ -97,51 +95,6 @@ ends c = omega (arith, fits c, long c, start-of (begun c) .good)
 abbrev head : tie.Then1 Inv-loop μ-loop → tie.At-loop Inv-loop μ-loop
 head c = c .before .before .before
 
--- the layer's marks, as they were read
-read :
-    (c : tie.After-marks-at Inv-loop μ-loop) →
-    let d = c .before in
-    marks (layerAt (length (start-of (begun d) .args .owners .now)) (d .loop .this) (d .loop .work)) ≡
-    getD (d .loop .work) (c .marks-at .result) 0
-read c =
-    let d = c .before in marks-read (given (begun d)) (d .loop .inv .going) (size d) (c .marks-at .ensures)
-
--- they are not 0 where a word is popped
-some :
-    (c : tie.Then1 Inv-loop μ-loop) →
-    let d = head c in
-    marks (layerAt (length (start-of (begun d) .args .owners .now)) (d .loop .this) (d .loop .work)) ≡ 0 →
-    ⊥
-some c z = c .if1 .taken (sym (read (c .before .before)) ∙ z)
-
--- the turn of a word, and the layer that was lent for it
-abbrev popped : tie.After-take-word Inv-loop μ-loop → tie.After-pop-word Inv-loop μ-loop
-popped c = c .before .before .before .before
-
-abbrev lent : tie.After-pop-word Inv-loop μ-loop → tie.After-behind-layer2 Inv-loop μ-loop
-lent c = c .before .before
-
--- the work area once the word's members are taken
-abbrev after : tie.After-take-word Inv-loop μ-loop → List ℕ
-after c = c .take-word .last .1 .1 .1 .1 .1 .0
-
--- the loop's head of its turn
-abbrev turn : tie.After-take-word Inv-loop μ-loop → tie.At-loop Inv-loop μ-loop
-turn c = head (lent (popped c) .before)
-
--- what holds then, that more are taken, and few entries met
-going :
-    (c : tie.After-take-word Inv-loop μ-loop) →
-    let b = begun (turn c) in
-    let a = start-of b .args in
-    let l = turn c .loop in
-    Going (a .owners .now) (a .offsets .now) (a .targets .now) (a .alpha) (a .within) (a .set) (b .begin-layers .last .0)
-    (l .this) (l .next) (l .far) (l .looks + c .take-word .result) (nowAt (length (a .owners .now)) (l .this) (after c)) (after c)
-going c =
-    let P = popped c in
-    going-word (given (begun (turn c))) (turn c .loop .inv .going) (size (turn c)) (some (lent P .before))
-    (lent P .behind-layer2 .ensures) (P .pop-word .ensures) (c .take-word .ensures)
-
 -- how many are taken, by the work area
 abbrev taken : tie.At-loop Inv-loop μ-loop → List ℕ → ℕ
 taken c work =
@@ -152,29 +105,48 @@ taken c work =
 most : (c : tie.At-loop Inv-loop μ-loop) (work : List ℕ) → taken c work ≤ length (start-of (begun c) .args .owners .now)
 most c work = count-le _ _
 
-grows : (c : tie.After-take-word Inv-loop μ-loop) → taken (turn c) (turn c .loop .work) < taken (turn c) (after c)
-grows c =
-    let P = popped c in
-    word-grows (given (begun (turn c))) (turn c .loop .inv .going) (size (turn c)) (some (lent P .before))
-    (lent P .behind-layer2 .ensures) (P .pop-word .ensures) (c .take-word .ensures)
+-- the layer's marks, as they were read
+read :
+    (c : tie.After-marks-at Inv-loop μ-loop) →
+    let d = c .before in
+    marks (layerAt (length (start-of (begun d) .args .owners .now)) (d .loop .this) (d .loop .work)) ≡
+    getD (d .loop .work) (c .marks-at .result) 0
+read c =
+    let d = c .before in marks-read (given (begun d)) (d .loop .inv .going) (size d) (c .marks-at .ensures)
 
-few : (c : tie.After-take-word Inv-loop μ-loop) → turn c .loop .looks + c .take-word .result ≤ 67125248
-few c =
-    let P = popped c in
-    word-looks-few (given (begun (turn c))) (turn c .loop .inv .going) (size (turn c)) (some (lent P .before))
-    (lent P .behind-layer2 .ensures) (P .pop-word .ensures) (c .take-word .ensures)
+-- the run may take the layer where it has a mark
+ready :
+    (c : tie.Then1 Inv-loop μ-loop) →
+    let d = head c in
+    let b = begun d in
+    let a = start-of b .args in
+    let l = d .loop in
+    LayerStands (a .owners .now) (a .offsets .now) (a .targets .now) (a .alpha) (a .within) (a .set) (l .this) (l .next) (l .far)
+    (b .begin-layers .last .0) (l .looks) (taken d (l .work)) 0 (l .work)
+ready c =
+    let d = head c in
+    layer-stands (given (begun d)) (d .loop .inv .going) (λ z. c .if1 .taken (sym (read (c .before .before)) ∙ z))
 
-abbrev took : tie.After-marks-at2 Inv-loop μ-loop → tie.After-take-word Inv-loop μ-loop
-took c = c .before .before .before
+-- the loop's head of the turn, and the work area once the layer is taken
+abbrev turn : tie.After-take-layer Inv-loop μ-loop → tie.At-loop Inv-loop μ-loop
+turn c = head (c .before .before)
 
--- the layer's marks, as they are read then
-marked :
-    (c : tie.After-marks-at2 Inv-loop μ-loop) →
-    let e = took c in
-    marks (layerAt (length (start-of (begun (turn e)) .args .owners .now)) (turn e .loop .this) (after e)) ≡
-    getD (after e) (c .marks-at2 .result) 0
-marked c =
-    let e = took c in marks-read (given (begun (turn e))) (going e) (size (turn e)) (c .marks-at2 .ensures)
+abbrev after : tie.After-take-layer Inv-loop μ-loop → List ℕ
+after c = c .take-layer .last .1 .1 .1 .1 .1 .0
+
+-- the run stands at the layer's end
+then :
+    (c : tie.After-take-layer Inv-loop μ-loop) →
+    let b = begun (turn c) in
+    let a = start-of b .args in
+    let l = turn c .loop in
+    LayerStands (a .owners .now) (a .offsets .now) (a .targets .now) (a .alpha) (a .within) (a .set) (l .this) (l .next) (l .far)
+    (b .begin-layers .last .0) (l .looks) (taken (turn c) (l .work)) (c .take-layer .result) (after c)
+then c = c .take-layer .ensures .took _ _ _ (ready (c .before .before))
+
+-- so more are taken
+grows : (c : tie.After-take-layer Inv-loop μ-loop) → taken (turn c) (turn c .loop .work) < taken (turn c) (after c)
+grows c = then c .grown (c .take-layer .ensures .done)
 
 set-words-requires : tie.Need-set-words-requires Inv-loop μ-loop
 set-words-requires c κs = search needs
@@ -207,75 +179,40 @@ mul-if1 c = omega (arith, ends (c .before))
 slice-read-if1 : tie.Need-slice-read-if1 Inv-loop μ-loop
 slice-read-if1 c = omega (arith, fits (c .before .before))
 
-behind-layer-requires-2 : tie.Need-behind-layer-requires-2 Inv-loop μ-loop
-behind-layer-requires-2 c κs = omega (arith, ends (head c))
-
-mul-pop-word : tie.Need-mul-pop-word Inv-loop μ-loop
-mul-pop-word c = omega (arith, ends (head (c .before)))
-
-sub-pop-word : tie.Need-sub-pop-word Inv-loop μ-loop
-sub-pop-word c = search needs
-
-part-pop-word-start : tie.Need-part-pop-word-start Inv-loop μ-loop
-part-pop-word-start c = search needs
-
-part-pop-word-end : tie.Need-part-pop-word-end Inv-loop μ-loop
-part-pop-word-end c = omega (arith, fits (head (c .before)))
-
-pop-word-requires : tie.Need-pop-word-requires Inv-loop μ-loop
-pop-word-requires c κs =
-    let b = c .before in
-    let d = head (b .before) in
-    pop-ready (given (begun d)) (d .loop .inv .going) (size d) (some (b .before)) (b .behind-layer2 .ensures)
-
-take-word-requires : tie.Need-take-word-requires Inv-loop μ-loop
-take-word-requires c κs =
-    let P = c .before .before .before in
-    let d = head (lent P .before) in
-    take-word-ready (given (begun d)) (d .loop .inv .going) (size d) (some (lent P .before))
-    (lent P .behind-layer2 .ensures) (P .pop-word .ensures)
+take-layer-requires : tie.Need-take-layer-requires Inv-loop μ-loop
+take-layer-requires c κs =
+    let d = head (c .before) in
+    let l = d .loop in
+    record {
+      size = size d;
+      lent = begun d .begin-layers .last .0;
+      sofar = l .looks;
+      taken = taken d (l .work);
+      stands = ready (c .before);
+    }
 
 add-looks : tie.Need-add-looks Inv-loop μ-loop
-add-looks c = omega (arith, few (c .before .before))
-
-marks-at-requires-2 : tie.Need-marks-at-requires-2 Inv-loop μ-loop
-marks-at-requires-2 c κs = omega (arith, ends (turn (c .before .before)))
-
-mul-if2 : tie.Need-mul-if2 Inv-loop μ-loop
-mul-if2 c = omega (arith, ends (turn (took c)))
-
-slice-read-if2 : tie.Need-slice-read-if2 Inv-loop μ-loop
-slice-read-if2 c =
-    let e = took (c .before) in
-    omega (arith, fits (turn e), going e .long, turn e .loop .inv .going .long)
+add-looks c =
+    let e = c .before .before in
+    omega (arith, all-looks-few (then e .given) (then e .going))
 
 add-far : tie.Need-add-far Inv-loop μ-loop
 add-far c =
-    let d = turn (took (c .before .before)) in
+    let d = turn (c .before .before) in
     omega (arith, d .loop .inv .deep, most d (d .loop .work), given (begun d) .edges .few-vertices)
 
 loop-less : tie.Need-loop-less Inv-loop μ-loop
 loop-less c =
-    let e = took (c .before .before) in
+    let e = c .before .before in
     let same-count =
     ap (count (length (start-of (begun (turn e)) .args .owners .now)))
-    (turned (given (begun (turn e))) (going e) (marked (c .before .before) ∙ c .if2 .taken)) in
+    (turned (then e .given) (then e .going) (e .take-layer .ensures .done)) in
     omega (arith, grows e, most (turn e) (after e))
 
 loop-again : tie.Need-loop-again Inv-loop μ-loop
 loop-again c =
-    let e = took (c .before .before) in
-    running-turn (given (begun (turn e))) (going e) (omega (arith, grows e, turn e .loop .inv .deep))
-    (marked (c .before .before) ∙ c .if2 .taken)
-
-loop-less-2 : tie.Need-loop-less-2 Inv-loop μ-loop
-loop-less-2 c = let e = took (c .before .before) in omega (arith, grows e, most (turn e) (after e))
-
-loop-again-2 : tie.Need-loop-again-2 Inv-loop μ-loop
-loop-again-2 c =
-    let e = took (c .before .before) in
-    running-on (given (begun (turn e))) (going e) (omega (arith, grows e, turn e .loop .inv .deep))
-    (λ z. c .if2 .left (sym (marked (c .before .before)) ∙ z))
+    let e = c .before .before in
+    running-turn (then e .given) (then e .going) (omega (arith, grows e, turn e .loop .inv .deep)) (e .take-layer .ensures .done)
 
 same-length : tie.Need-same-length Inv-loop μ-loop
 same-length c = long (c .before .before .before)
@@ -289,7 +226,7 @@ returns c priorities ok =
     attracted-moved (same b)
     (running-all (given b) (l .inv .going)
     (unmarked-empty (layerAt (length (start-of b .args .owners .now)) (l .this) (l .work)) (l .inv .going .layer) none)
-    (l .inv .last none) priorities ok)
+    (l .inv .next-none) priorities ok)
 
 pub attract-spec : {M : Type 1} → statement M
 attract-spec =
@@ -305,21 +242,10 @@ attract-spec =
     marks-at-requires
     mul-if1
     slice-read-if1
-    behind-layer-requires-2
-    mul-pop-word
-    sub-pop-word
-    part-pop-word-start
-    part-pop-word-end
-    pop-word-requires
-    take-word-requires
+    take-layer-requires
     add-looks
-    marks-at-requires-2
-    mul-if2
-    slice-read-if2
     add-far
     loop-less
     loop-again
-    loop-less-2
-    loop-again-2
     same-length
     returns)
