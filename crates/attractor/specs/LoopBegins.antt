@@ -2,30 +2,28 @@
 use mathlib.Core.Bool.{Bool, true, false, _&&_, _||_, not}
 use mathlib.Core.List.{List}
 use mathlib.Core.Logic.{_⊎_, inl, inr}
-use mathlib.Core.Path.{_≡_, refl, sym, ap, ap₂, subst, fun-ext, _∙_}
-use Prim.Native.Nat.{ℕ, _+_, _-_, _*_, _≤_, _<_, zero-le}
+use mathlib.Core.Path.{_≡_, refl, sym, ap, subst, fun-ext, _∙_}
+use Prim.Native.Nat.{ℕ, _+_, _-_, _≤_, _<_, zero-le}
 use native.Mathlib.Omega.{arith}
-use lib.ListN.{length, getD, take, drop}
+use lib.ListN.{length, getD}
 use Rattle.rules.specs.Counting.{Set}
 use Rattle.rules.specs.Game.{playerOf}
-use Rattle.rules.specs.Tables.{gameOf, words, targetsOf, Accepted, tablesOf}
+use Rattle.rules.specs.Tables.{gameOf, words, targetsOf, tablesOf}
 use Rattle.theory.specs.Steps.{atFirst, Takes, stop}
-use Rattle.rules.specs.Words.{setOf}
-use Rattle.basics.specs.Basics.{bool-cases, clash}
+use Rattle.basics.specs.Basics.{clash}
 use Rattle.basics.specs.Sums.{countOf}
 use Rattle.area.specs.Area.{entries, layers, layerWords, metAt, free, setAt}
 use Rattle.area.specs.Lent.{set-alike, words-few}
 use Rattle.area.specs.SetsAt.{set-zeros}
-use Rattle.layer.specs.Layer.{Layer, inLayer}
 use Rattle.attractor_counters.specs.Counters.{ownBy, insideCount, counter-new}
 use Rattle.attractor_counters.specs.Tally.{tally-nobody}
 use Rattle.attractor_look.specs.State.{State}
 use Rattle.attractor_look.specs.Growth.{Mark}
 use Rattle.attractor_step.specs.Taking.{Standing, growing}
-use Rattle.attractor_step.specs.Layers.{takenOf, Layered, layered-first}
-use Rattle.attractor_look.specs.InArea.{cells, layerAt, stateAt}
+use Rattle.attractor_step.specs.Layers.{Layered, layered-first}
+use Rattle.attractor_look.specs.InArea.{cells, stateAt}
 use Rattle.attractor_word.specs.Attracted.{Attractable, listed-kept}
-use Rattle.attractor_begin.specs.LayersBegin.{LayersBeginnable, LayersBegun, layerOf}
+use Rattle.attractor_begin.specs.LayersBegin.{LayersBeginnable, LayersBegun}
 use Rattle.attractor_word.specs.Going.{nowAt, takenAt, fits}
 use Rattle.attractor.specs.Running.{Running, SameAreas}
 

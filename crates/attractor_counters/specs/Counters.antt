@@ -6,7 +6,7 @@ use mathlib.Core.Logic.{_⊎_, inl, inr, ⊎-elim}
 use mathlib.Core.Path.{_≡_, sym, ap, ap₂, subst, fun-ext, _∙_}
 use Prim.Native.Nat.{ℕ, suc, _+_, _-_, _*_, _≤_, _<_}
 use native.Mathlib.Decide.{ℕ-discrete}
-use native.Mathlib.Nat.{sub-self, le-refl}
+use native.Mathlib.Nat.{sub-self}
 use native.Mathlib.Omega.{arith}
 use borrow.Author.Tests.{eq-eqb, ne-eqb, lt-ltb, le-ltb}
 use lib.Dec.{eqb, ltb}
@@ -17,11 +17,11 @@ use Rattle.rules.specs.Tables.{words, degree, targetsOf}
 use Rattle.rules.specs.Words.{setOf}
 use Rattle.basics.specs.Basics.{lt-or-ge}
 use Rattle.basics.specs.Sums.{countOf}
-use Rattle.parity_game.specs.Laws.{never-falls}
 use Rattle.predecessors.specs.Table.{SoundEdges}
 use Rattle.sets.specs.After.{Put}
+use Rattle.area.specs.EdgesOf.{EdgesOf, edges-of}
 use Rattle.area.specs.Area.{counters, distances, metAt, free, setAt}
-use Rattle.area.specs.Lent.{back, part-is, part-set, part-length, words-enough, bit-fits}
+use Rattle.area.specs.Lent.{back, part-is, part-set, part-length, bit-fits}
 use Rattle.area.specs.Lent.{inserted-long, inserted-rest, inserted-set, inserted-other}
 use Rattle.area.specs.SetsAt.{set-kept}
 use Rattle.area.specs.Walked.{Beside}
@@ -32,32 +32,6 @@ abbrev pub ownBy : List ℕ → ℕ → Set
 ownBy owners alpha v = eqb (getD owners v 0) alpha
 
 -- ---- one vertex
-
--- what `inside_edges` asks for: the edges of v, each with a bit in the set
-pub record EdgesOf (offsets targets : List ℕ) (v : ℕ) (set : List ℕ) : Type 0 where
-  pub each : v + 1 < length offsets
-  pub rising : getD offsets v 0 ≤ getD offsets (v + 1) 0
-  pub top : getD offsets (v + 1) 0 ≤ length targets
-  pub bits : (e : ℕ) → e < length targets → getD targets e 0 < 64 * length set
-
--- sound edges, and a set of words enough
-pub edges-of :
-    {n : ℕ} {offsets targets : List ℕ} →
-    SoundEdges n offsets targets →
-    {v : ℕ} →
-    v < n →
-    {set : List ℕ} →
-    length set ≡ words n →
-    EdgesOf offsets targets v set
-edges-of {n} {offsets} {targets} edges {v} small long =
-    record {
-      each = omega (arith, edges .offset-each);
-      rising = edges .offset-next v small;
-      top =
-          let grows = never-falls (λ i. getD offsets i 0) n (edges .offset-next) (v + 1) n (omega arith) (le-refl n) in
-          omega (arith, edges .offset-last);
-      bits = λ e l. rw long (words-enough n (getD targets e 0) (edges .target-below e l));
-    }
 
 tally-snoc : (xs : List ℕ) (S : Set) (x : ℕ) → countOf (xs ++ (x ∷ [])) S ≡ countOf xs S + flag (S x)
 unfolding countOf

@@ -43,11 +43,6 @@ tally-mono-on (x ∷ xs) S S' h =
     let first = flag-le (S x) (S' x) (h x (List·Memᴰ·head refl)) in
     omega arith
 
-pub tally-cong : (xs : List ℕ) (S S' : Set) → ((u : ℕ) → S u ≡ S' u) → countOf xs S ≡ countOf xs S'
-unfolding countOf
-tally-cong [] S S' h = refl
-tally-cong (x ∷ xs) S S' h = rw (h x, tally-cong xs S S' h)
-
 -- none lies in the empty set
 pub tally-nobody : (xs : List ℕ) → countOf xs (λ u. false) ≡ 0
 unfolding countOf

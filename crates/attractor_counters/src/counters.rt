@@ -7,7 +7,8 @@ ghost use Rattle.rules.specs.Tables.{targetsOf};
 ghost use Rattle.rules.specs.Words.{setOf};
 ghost use Rattle.basics.specs.Sums.{countOf};
 ghost use Rattle.area.specs.Area.{setAt};
-ghost use Rattle.attractor_counters.specs.Counters.{EdgesOf, insideCount, CountsDown, CountedDown};
+ghost use Rattle.area.specs.EdgesOf.{EdgesOf};
+ghost use Rattle.attractor_counters.specs.Counters.{insideCount, CountsDown, CountedDown};
 
 // The edges of v that end inside the set.
 fn inside_edges(offsets: &[u16], targets: &[u16], v: usize, set: &[u64]) -> u64

@@ -1,6 +1,5 @@
 -- What a reader may conclude of the public attractor from its contract alone: past the checks its result is the attractor, the
 -- smallest set, with the rule's looks, distances and entries; and any two results are the same.
-use mathlib.Core.Bool.{true, false}
 use mathlib.Core.List.{List}
 use mathlib.Core.Logic.{⊎-elim}
 use mathlib.Core.Path.{_≡_, sym, ap, subst, subst₂, fun-ext, _∙_}
@@ -22,9 +21,9 @@ use Rattle.basics.specs.Basics.{lt-or-ge, not-true-is-false, getD-listed, lengt
 use Rattle.theory.specs.Distance.{distance-is}
 use Rattle.theory.specs.DistanceEntries.{entries-arrive}
 use Rattle.basics.specs.Basics.{noted-above}
-use Rattle.parity_game.specs.Laws.{zero-none, accepted-sound}
+use Rattle.parity_game.specs.Laws.{accepted-sound}
 use Rattle.sets.specs.Same.{holds-same}
-use Rattle.attractor_door.specs.Answered.{numbered-checks, checks-passed}
+use Rattle.attractor_door.specs.Answered.{checks-passed}
 use Rattle.attractor_checks.specs.DoorLaws.{within-below, target-part}
 
 -- no vertex at n or above has another distance than 65,535
@@ -63,12 +62,6 @@ answers-set {t} {a} {V'} {T} {after = after} r v =
     (lt-or-ge v (vertices t))
 
 module _ {t : Tables} {a : Player} {V' T : List ℕ} {before after : LentResult} {o : Outcome} (p : Attracts t a V' T before after o) where
-  -- an answer was not refused
-  pub attractor-passed : o .number ≡ 0 → attractorChecks t V' T before ≡ none
-  attractor-passed e =
-      zero-none (attractorChecks t V' T before) (answered (looksOf (gameOf t) (wanted t a V' T))) (numbered-checks t V' T before)
-      (ap (λ (x : Outcome). x .number) (sym (p .gives)) ∙ e)
-
   -- **Past the checks the count is the rule's looks, and the result and the entries are the rule's.**
   pub attractor-answers :
       attractorChecks t V' T before ≡ none →

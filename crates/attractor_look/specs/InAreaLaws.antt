@@ -1,17 +1,14 @@
 -- Laws of the state as it stands in the work area: what a store at a counter, a distance or an entry makes of it, what a set or a
 -- layer that was lent and comes back makes of it, and what stays.
-use mathlib.Core.Bool.{true, cond}
 use mathlib.Core.List.{List, _++_}
 use mathlib.Core.Logic.{_⊎_, inl, inr, ⊎-elim}
 use mathlib.Core.Path.{_≡_, refl, sym, ap, subst, fun-ext, _∙_}
-use Prim.Native.Nat.{ℕ, _+_, _-_, _*_, _≤_, _<_}
+use Prim.Native.Nat.{ℕ, _+_, _-_, _≤_, _<_}
 use native.Mathlib.Decide.{ℕ-discrete}
 use native.Mathlib.Omega.{arith}
 use borrow.Author.Tests.{eq-eqb, ne-eqb, lt-ltb, le-ltb}
-use lib.Dec.{eqb}
 use lib.ListN.{length, getD, take, drop, set, length-set}
 use lib.Seq.{getD-set-same, getD-set-other}
-use Rattle.rules.specs.Counting.{Set}
 use Rattle.rules.specs.Tables.{words}
 use Rattle.basics.specs.Basics.{lt-or-ge}
 use Rattle.sets.specs.After.{Put}

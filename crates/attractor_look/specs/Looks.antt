@@ -11,7 +11,7 @@ use borrow.Author.Tests.{eq-eqb, ne-eqb, eqb-true, eqb-false}
 use lib.Dec.{eqb}
 use lib.ListN.{length, getD, take}
 use Rattle.rules.specs.Counting.{Set, times}
-use Rattle.basics.specs.Basics.{bool-cases, clash, not-true-is-false}
+use Rattle.basics.specs.Basics.{bool-cases, clash}
 use Rattle.basics.specs.Sums.{countOf}
 use Rattle.attractor_counters.specs.Tally.{flag, flag-one, tally-mono}
 use Rattle.attractor_look.specs.State.{State, put, withOne, joined, entered, counted, touched, looked}

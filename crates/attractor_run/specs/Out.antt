@@ -1,7 +1,7 @@
 -- What `hand_out` writes: the words of the result, and of them and the attractor's words the strategy and the distances.
 use mathlib.Core.Bool.{true}
 use mathlib.Core.List.{List}
-use mathlib.Core.Path.{_≡_, sym, ap, subst, _∙_}
+use mathlib.Core.Path.{_≡_, ap, subst, _∙_}
 use Prim.Native.Nat.{ℕ, _+_, _-_, _<_}
 use native.Mathlib.Omega.{arith}
 use lib.ListN.{length, take, drop}
@@ -20,9 +20,6 @@ module _ (owners : List ℕ) (m alpha : ℕ) (target work : List ℕ) (set : ℕ
 
     abbrev s : ℕ
     s = length target
-
-    pub part-long : length result ≡ length (take ((set + s) - set) (drop set work))
-    part-long = given .result-size ∙ sym (ap length (part-is set s work) ∙ part-length set s work (given .high))
 
     -- the result was copied
     module _ (out : List ℕ) (is-out : out ≡ take ((set + s) - set) (drop set work)) where

@@ -5,7 +5,6 @@ use Prim.Native.Nat.{ℕ, _+_, _-_, _≤_}
 use native.Mathlib.Omega.{arith}
 use lib.ListN.{length, getD, take, drop}
 use lib.Seq.{getD-drop}
-use Rattle.rules.specs.Tables.{words}
 use Rattle.predecessors.specs.Table.{TableReady, Predecessors}
 use Rattle.area.specs.Lent.{back, back-long, back-front, back-part, slice-alike}
 use Rattle.attractor.specs.Attracted.{built-listed}

@@ -4,14 +4,14 @@ use mathlib.Core.Bool.{Bool, true, false, not, cond}
 use mathlib.Core.List.{List}
 use mathlib.Core.Logic.{inl, ⊎-elim}
 use mathlib.Core.Path.{_≡_, sym, ap, subst, subst₂, _∙_}
-use Prim.Native.Nat.{ℕ, _+_, _-_, _*_, _≤_, _<_}
+use Prim.Native.Nat.{ℕ, _+_, _-_, _≤_, _<_}
 use native.Mathlib.Omega.{arith}
 use lib.ListN.{length, take, drop}
 use Rattle.rules.specs.Attractor.{attractor, looksOf}
 use Rattle.rules.specs.Counting.{Set, listed}
 use Rattle.rules.specs.Distance.{distance, attractorEntry}
 use Rattle.rules.specs.Game.{Player, Game, playerOf, same}
-use Rattle.rules.specs.Tables.{Tables, gameOf, vertices, edgesIn, words, Accepted, tablesOf}
+use Rattle.rules.specs.Tables.{Tables, gameOf, vertices, edgesIn, Accepted, tablesOf}
 use Rattle.rules.specs.Words.{setOf, noEntry}
 use Rattle.theory.specs.Attractor.{Fits, attractor-below}
 use Rattle.basics.specs.Basics.{clash, bool-cases, and-left, and-right, not-true-is-false}

@@ -1,25 +1,23 @@
 -- Layer by layer: while the members of distance d are taken in rising order, whoever comes in has distance d + 1 and, where it
 -- is own, the rules' entry.
 use mathlib.Core.Bool.{Bool, true, false, _&&_, _||_, not, cond, or-false}
-use mathlib.Core.List.{List, List·Memᴰ}
-use mathlib.Core.Logic.{_⊎_, inl, inr, ⊎-elim}
+use mathlib.Core.List.{List}
+use mathlib.Core.Logic.{_⊎_, ⊎-elim}
 use mathlib.Core.Path.{_≡_, refl, sym, ap, ap₂, _∙_}
-use Prim.Native.Nat.{ℕ, zero, suc, _+_, _≤_, _<_}
+use Prim.Native.Nat.{ℕ, suc, _≤_, _<_}
 use native.Mathlib.Decide.{ℕ-discrete}
 use native.Mathlib.Omega.{arith}
-use borrow.Author.Tests.{eq-eqb, ne-eqb, eqb-true, not-true, not-false}
+use borrow.Author.Tests.{eq-eqb, ne-eqb, eqb-true, not-true}
 use lib.Dec.{eqb}
-use lib.ListN.{length}
-use Rattle.rules.specs.Counting.{Set, times}
+use Rattle.rules.specs.Counting.{Set}
 use Rattle.rules.specs.Game.{Player, Game, Edge, same}
-use Rattle.rules.specs.Attractor.{grown, attractor}
+use Rattle.rules.specs.Attractor.{attractor}
 use Rattle.rules.specs.Distance.{outside, distance, attractorEntry}
-use Rattle.basics.specs.Basics.{bool-cases, clash, bool-ext, and-intro, and-left}
+use Rattle.basics.specs.Basics.{bool-cases, clash, and-intro, and-left}
 use Rattle.basics.specs.Basics.{and-right, or-left, or-right, or-cases, lt-or-ge}
-use Rattle.basics.specs.Basics.{not-true-is-false, not-false-is-true, times-pos, times-member}
+use Rattle.basics.specs.Basics.{not-true-is-false, times-pos, times-member}
 use Rattle.theory.specs.Players.{same-true, same-false}
-use Rattle.basics.specs.Sums.{countOf}
-use Rattle.theory.specs.Attractor.{Draws, Fits, draws-all, draws-more, grown-zero, attractor-is}
+use Rattle.theory.specs.Attractor.{Fits, draws-all, draws-more, grown-zero, attractor-is}
 use Rattle.theory.specs.Distance.{distance-target, distance-draws, near-grown, grown-near, own-joins, other-joins, entry-first}
 use Rattle.attractor_counters.specs.Tally.{tally-pos}
 use Rattle.attractor_look.specs.State.{State, looked}

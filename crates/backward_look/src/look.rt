@@ -1,7 +1,7 @@
 // One look against the links, and where a vertex that it finds is put.
 use search_rows::Rows;
 ghost use mathlib.Core.Path.{_≡_};
-ghost use Prim.Native.Nat.{_+_, _<_};
+ghost use Prim.Native.Nat.{_+_};
 ghost use lib.ListN.{getD};
 ghost use Rattle.search_links.specs.Graph.{graph};
 ghost use Rattle.backward_look.specs.Seeking.{Putable, putting, Lookable, Looked};

@@ -174,22 +174,6 @@ every-elim (suc n) test p v l =
     (λ k. every-elim n test (and-left (every n test) (test n) p) v k)
     (below-suc l)
 
--- not every number passes: one that does not
-pub every-false : (n : ℕ) (test : Set) → every n test ≡ false → (v : ℕ) × (v < n) × (test v ≡ false)
-unfolding every
-every-false zero test p = absurd (true≢false p)
-every-false (suc n) test p =
-    ⊎-elim
-    (λ q. let (v, l, t) = every-false n test q in (v, le-step l, t))
-    (λ q. (n, le-refl (suc n), q))
-    (and-false-cases (every n test) (test n) p)
-
-pub every-cong : (n : ℕ) (S T : Set) → ((v : ℕ) → v < n → S v ≡ T v) → every n S ≡ every n T
-unfolding every
-every-cong zero S T same-at = refl
-every-cong (suc n) S T same-at =
-    ap₂ (λ (b c : Bool). b && c) (every-cong n S T (λ v l. same-at v (le-step l))) (same-at n (le-refl (suc n)))
-
 -- how many numbers below n pass
 
 pub count-cong : (n : ℕ) (S T : Set) → ((v : ℕ) → v < n → S v ≡ T v) → count n S ≡ count n T
@@ -328,16 +312,6 @@ everyOf-false (x ∷ xs) test p =
     (λ q. (x, List·Memᴰ·head refl, q))
     (λ q. let (w, m, t) = everyOf-false xs test q in (w, List·Memᴰ·tail m, t))
     (and-false-cases (test x) (everyOf xs test) p)
-
-pub everyOf-cong :
-    (xs : List ℕ) (S T : Set) → ((w : ℕ) → List·Memᴰ w xs → S w ≡ T w) → everyOf xs S ≡ everyOf xs T
-unfolding everyOf
-everyOf-cong [] S T same-at = refl
-everyOf-cong (x ∷ xs) S T same-at =
-    ap₂
-    (λ (b c : Bool). b && c)
-    (same-at x (List·Memᴰ·head refl))
-    (everyOf-cong xs S T (λ w m. same-at w (List·Memᴰ·tail m)))
 
 -- membership in a list is decided
 pub member-cases : (w : ℕ) (xs : List ℕ) → List·Memᴰ w xs ⊎ (List·Memᴰ w xs → ⊥)

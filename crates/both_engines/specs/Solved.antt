@@ -1,5 +1,5 @@
 -- Both engines on one game, in the same rooms one after another: their counts and the words of Odd's set make the rule's line.
-use mathlib.Core.Bool.{Bool, true, false, not, _&&_, _||_, cond}
+use mathlib.Core.Bool.{Bool, true, false, cond}
 use mathlib.Core.List.{List, [], _∷_, _++_}
 use mathlib.Core.Path.{_≡_, refl, sym, ap, subst, _∙_}
 use Prim.Native.Nat.{ℕ, _+_, _*_, _/_, _≤_, _<_}
@@ -7,16 +7,16 @@ use native.Mathlib.Nat.{mul-le-mul}
 use native.Mathlib.Omega.{arith}
 use borrow.Author.Tests.{le-ltb, eq-eqb}
 use lib.Dec.{eqb, ltb}
-use lib.ListN.{length, getD}
+use lib.ListN.{length}
 use lib.Seq.{ext-getD}
 use Rattle.rules.specs.Counting.{Set, listed, everyOf}
 use Rattle.rules.specs.Decimal.{decimal}
-use Rattle.rules.specs.Game.{Player, Odd, Game}
-use Rattle.rules.specs.Outcome.{Outcome, Verdict, none, outcome, answered, budgeted, _then_}
+use Rattle.rules.specs.Game.{Player, Odd}
+use Rattle.rules.specs.Outcome.{Outcome, Verdict, none, outcome, answered, budgeted}
 use Rattle.rules.specs.Printing.{space, newline, dash, fileWord, winnerDigits, winnersWord, solvedLine}
 use Rattle.rules.specs.Promotion.{afterRounds, roundsNeeded}
-use Rattle.rules.specs.Solver.{Lent, solverChecks, Solves, Leaves, Stopped, Answered}
-use Rattle.rules.specs.Tables.{Tables, vertices, edgesIn, words, workWords, gameOf, Accepted, tableChecks, check9, check10}
+use Rattle.rules.specs.Solver.{Lent, solverChecks, Solves, Leaves}
+use Rattle.rules.specs.Tables.{Tables, vertices, edgesIn, words, workWords, gameOf, Accepted, check9, check10}
 use Rattle.rules.specs.Words.{setOf, Holds}
 use Rattle.rules.specs.Zielonka.{zielonka}
 use Rattle.basics.specs.Basics.{clash, length-listed, getD-listed}

@@ -2,17 +2,16 @@
 -- the links to where the search began, of no more vertices than stand before it in the queue and itself.
 use mathlib.Core.Bool.{true, false}
 use mathlib.Core.List.{List, _∷_}
-use mathlib.Core.Logic.{_⊎_, inl, inr, ⊎-elim}
-use mathlib.Core.Path.{_≡_, refl, sym, ap, subst, _∙_}
-use Prim.Native.Nat.{ℕ, suc, _+_, _-_, _≤_, _<_}
-use native.Mathlib.Nat.{le-refl}
+use mathlib.Core.Logic.{_⊎_, ⊎-elim}
+use mathlib.Core.Path.{_≡_, sym, ap, subst, _∙_}
+use Prim.Native.Nat.{ℕ, _+_, _-_, _≤_, _<_}
 use native.Mathlib.Numerals.{add-one}
 use native.Mathlib.Omega.{arith}
-use lib.ListN.{length, getD}
-use Rattle.rules.specs.Counting.{Set, count}
+use lib.ListN.{length}
+use Rattle.rules.specs.Counting.{count}
 use Rattle.rules.specs.Loop.{Path, alone, next}
 use Rattle.rules.specs.Winning.{Reach, here, step}
-use Rattle.basics.specs.Basics.{bool-cases, clash, below-suc, lt-or-ge}
+use Rattle.basics.specs.Basics.{bool-cases, below-suc, lt-or-ge}
 use Rattle.theory.specs.Loop.{path-map}
 use Rattle.search_rows.specs.Rows.{queue, labels, hits}
 use Rattle.search_links.specs.Area.{Within, within-same, within-then, true-marked, marked-true}

@@ -2,18 +2,17 @@
 -- lowered and one raised, are a fresh count of the changed priorities.
 use mathlib.Core.List.{List}
 use mathlib.Core.Path.{_≡_, refl, sym, ap, _∙_}
-use Prim.Native.Nat.{ℕ, _≤_, _<_}
+use Prim.Native.Nat.{ℕ, _<_}
 use native.Mathlib.Omega.{arith}
-use borrow.Author.Tests.{leb-false, lt-leb, le-leb}
-use lib.Dec.{ltb, leb}
+use borrow.Author.Tests.{leb-false}
+use lib.Dec.{leb}
 use lib.ListN.{length, getD, take, set}
 use lib.Seq.{getD-take, take-set-lt, length-take-le}
 use Rattle.rules.specs.Outcome.{Outcome, Verdict, none, refused, given, outcome, answered, _then_}
 use Rattle.rules.specs.Counting.{times}
 use Rattle.rules.specs.Record.{Record, Edit, setPriority, setOwner, turnEdge, Edits, keptFor, countsOf, freshCount, tablesIn}
 use Rattle.rules.specs.Record.{recordChecks, ownChecks, editChecks, changed, leftBy, edited}
-use Rattle.parity_game.specs.Laws.{Numbered, numbered-then, numbered-given, then-none, given-none, accepted-sound, outcome-pass}
-use Rattle.parity_game.specs.Said.{refusal}
+use Rattle.parity_game.specs.Laws.{Numbered, numbered-then, numbered-given, then-none, given-none, accepted-sound}
 use Rattle.theory.specs.Counts.{moved, kept-moved, old-counted, length-fresh, take-fresh, counts-at, times-le}
 use Rattle.theory.specs.Edits.{EditPassing, passing}
 use Rattle.kept_numbers.specs.Steps.{Movable}

@@ -4,7 +4,7 @@ use mathlib.Core.Bool.{true}
 use mathlib.Core.List.{List}
 use mathlib.Core.Logic.{inr, ⊎-elim}
 use mathlib.Core.Path.{_≡_, refl, sym, ap, subst, _∙_}
-use Prim.Native.Nat.{ℕ, zero, suc, _+_, _-_, _*_, _%_, _≤_, _<_}
+use Prim.Native.Nat.{ℕ, zero, suc, _+_, _-_, _%_, _≤_, _<_}
 use native.Mathlib.Omega.{arith}
 use lib.ListN.{length, getD, take, drop, set}
 use Rattle.rules.specs.Game.{playerOf, parity}
@@ -12,7 +12,7 @@ use Rattle.rules.specs.Tables.{words}
 use Rattle.walk.specs.declared.members.Members.{Members}
 use Rattle.basics.specs.Basics.{bool-cases}
 use Rattle.predecessors.specs.Table.{SoundEdges}
-use Rattle.attractor_counters.specs.Counters.{EdgesOf, edges-of}
+use Rattle.area.specs.EdgesOf.{EdgesOf, edges-of}
 use Rattle.successors.specs.Lowest.{lowestEnd}
 use Rattle.area.specs.Area.{entries, free, setAt, wordsAt, entryAt}
 use Rattle.area.specs.Lent.{part-length, words-alike}

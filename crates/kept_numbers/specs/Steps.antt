@@ -9,8 +9,8 @@ use native.Mathlib.Numerals.{add-one}
 use native.Mathlib.Omega.{arith}
 use borrow.Author.Tests.{eq-eqb, ne-eqb, eqb-true, eqb-false}
 use lib.Dec.{eqb}
-use lib.ListN.{length, getD, set, take, replicate, getD-replicate, length-replicate, length-set, length-take}
-use lib.Seq.{getD-set-same, getD-set-other, getD-take, take-suc, take-all, take-set-le, take-suc-set, append-snoc, length-take-le, ext-getD}
+use lib.ListN.{length, getD, set, take, replicate, getD-replicate, length-replicate, length-set}
+use lib.Seq.{getD-set-same, getD-set-other, getD-take, take-suc, take-all, take-suc-set, append-snoc, length-take-le, ext-getD}
 use Rattle.rules.specs.Counting.{Set, count, greatest, times}
 use Rattle.rules.specs.Record.{countsOf, counted, differentIn, highestIn, keptFor, freshCount, sameList, keptCheck}
 use Rattle.basics.specs.Sums.{times-append}

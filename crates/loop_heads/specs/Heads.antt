@@ -1,9 +1,9 @@
 -- The search that begins at the vertices of exactly p that a row of words marks.
 use mathlib.Core.Bool.{Bool, true, false, _&&_, not}
 use mathlib.Core.List.{List}
-use mathlib.Core.Logic.{_⊎_, inl, inr, ⊎-elim}
-use mathlib.Core.Path.{_≡_, refl, sym, ap, subst, _∙_}
-use Prim.Native.Nat.{ℕ, suc, _+_, _≤_, _<_}
+use mathlib.Core.Logic.{_⊎_, inr, ⊎-elim}
+use mathlib.Core.Path.{_≡_, sym, ap, subst, _∙_}
+use Prim.Native.Nat.{ℕ, _+_, _≤_, _<_}
 use native.Mathlib.Numerals.{add-one}
 use native.Mathlib.Omega.{arith}
 use borrow.Author.Tests.{eqb-true, eqb-false, eq-eqb, ne-eqb, not-true}
@@ -17,7 +17,7 @@ use Rattle.search_links.specs.Area.{Within, within-same, within-then, true-mark
 use Rattle.search_links.specs.Graph.{Graph, size, edgeCount, priority, Leads}
 use Rattle.backward_look.specs.Seeking.{assigned, labelWord, Putable, putting}
 use Rattle.breadth_first.specs.Spreading.{SpreadWay, QueueStanding, Spread, found-way, found-all}
-use Rattle.breadth_first.specs.SearchBegins.{Open, Joined, standing-none, join-putable, joins}
+use Rattle.breadth_first.specs.SearchBegins.{Open, standing-none, join-putable, joins}
 
 -- v has priority p, and its word in the row is not 0
 unfoldable pub head : List ℕ → ℕ → ℕ → List ℕ → ℕ → Bool

@@ -1,6 +1,6 @@
 -- One priority: mark the good parts, begin at the vertices of exactly that priority in them, and see who reaches one. And one
 -- priority after another.
-use mathlib.Core.Bool.{Bool, true, false, _||_}
+use mathlib.Core.Bool.{true, false}
 use mathlib.Core.List.{List}
 use mathlib.Core.Logic.{_⊎_, inl, inr, ⊎-elim}
 use mathlib.Core.Path.{_≡_, refl, sym, subst, _∙_}
@@ -20,7 +20,7 @@ use Rattle.backward_look.specs.Seeking.{assigned, Rows, rows-kept}
 use Rattle.breadth_first.specs.Spreading.{SpreadWay}
 use Rattle.subgame.specs.Parity.{rows-alike}
 use Rattle.parts.specs.Whole.{PartsMarkable, PartsMarked}
-use Rattle.loop_heads.specs.Heads.{head, head-true, true-head, Headable, Headed}
+use Rattle.loop_heads.specs.Heads.{head-true, true-head, Headable, Headed}
 
 -- sound tables, the predecessor table at the front, and room for one row behind the words of the searches
 pub record SearchReady (priorities offsets targets entries work : List ℕ) : Type 0 where

@@ -1,7 +1,7 @@
 // How many edges a vertex keeps, and how many edges are dropped and vertices altered in all.
 ghost use mathlib.Core.List.{[]};
 ghost use mathlib.Core.Path.{_≡_};
-ghost use Prim.Native.Nat.{_<_, _≤_};
+ghost use Prim.Native.Nat.{_<_};
 ghost use lib.ListN.{length};
 ghost use Rattle.rules.specs.Counting.{count};
 ghost use Rattle.rules.specs.Mending.{keptTargets, altered, droppedUpTo};

@@ -1,9 +1,9 @@
 -- The whole reading: a start, the text as one portion and the end give what the rules say of the text.
 use mathlib.Core.List.{List, []}
-use mathlib.Core.Path.{_≡_, refl, sym, ap, subst}
+use mathlib.Core.Path.{_≡_, refl, sym, subst}
 use Prim.Native.Nat.{ℕ, _+_}
 use native.Mathlib.Omega.{arith}
-use lib.ListN.{length, drop}
+use lib.ListN.{length}
 use Rattle.rules.specs.Outcome.{Outcome, Verdict, none, refused}
 use Rattle.rules.specs.Reading as Rules
 use Rattle.rules.specs.Reading.{Rooms, Written, roomChecks, ReadsBy, ReadsText}
@@ -12,8 +12,8 @@ use Rattle.parity_game.specs.Said.{refusal}
 use Rattle.pgsolver_acts.specs.declared.state.State.{State}
 use Rattle.pgsolver_portion.specs.declared.take.Taken.{Taken}
 use Rattle.pgsolver_portion.specs.declared.take.Taken.the-variants.{On, Refused}
-use Rattle.pgsolver_portion.specs.Reached.{BytesReached, PortionStopped, PortionBegins, begins-reached, TakenAs, Takes}
-use Rattle.pgsolver_finish.specs.Finishing.{Area, Wiped}
+use Rattle.pgsolver_portion.specs.Reached.{PortionBegins, begins-reached, TakenAs, Takes}
+use Rattle.pgsolver_finish.specs.Finishing.{Wiped}
 use Rattle.pgsolver_end.specs.Told.{Fitted, EndsText, told-alike, stopped-told}
 
 -- tables keep their lengths

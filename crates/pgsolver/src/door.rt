@@ -10,7 +10,6 @@ use pgsolver_portion::take::Taken;
 use pgsolver_portion::take::take_portion;
 use reading_rooms::Fits;
 use reading_rooms::check_rooms;
-ghost use mathlib.Core.Path.{_≡_};
 ghost use lib.ListN.{length};
 ghost use Rattle.rules.specs.Reading as Reading;
 ghost use Rattle.rules.specs.Reading.{ReadsText};

@@ -1,6 +1,5 @@
 -- What the code's own types mean in the words of the machine, and what its steps do to a state.
 use mathlib.Core.Bool.{Bool, true, false}
-use mathlib.Core.List.{[]}
 use Prim.Native.Nat.{ℕ, _+_, _%_}
 use lib.ListN.{length}
 use Rattle.rules.specs.Pgsolver.{Header, unsaid, highest}

@@ -8,11 +8,11 @@ use Prim.Native.Nat.{ℕ, _+_, min, _≤_}
 use lib.Dec.{eqb, ltb}
 use lib.ListN.{length, drop, replicate}
 use Rattle.rules.specs.Outcome.{Outcome, Verdict, none, refused, given, outcome, answered, _then_, Unless}
-use Rattle.rules.specs.Pgsolver.{unsaid, Header, Entry}
+use Rattle.rules.specs.Pgsolver.{unsaid}
 use Rattle.rules.specs.Reading.{Limits, Reads, Told, roomChecks, ReadsBy, ReadsText, game, Written, Rooms, readChecks, written}
-use Rattle.rules.specs.Reading.{tablesRead, limitsOf}
-use Rattle.rules.specs.Portions.{SoFar, reading, over, LentBetween, Meaning, roomsWith, limitsWith, lentChecks, endChecks, KeptBetween}
-use Rattle.rules.specs.Portions.{Emptied, Started, Further, Portioned, Closing, writtenIn, usedIn, ClosedBy, EndsReading}
+use Rattle.rules.specs.Reading.{tablesRead}
+use Rattle.rules.specs.Portions.{SoFar, reading, over, LentBetween, Meaning, roomsWith, limitsWith, lentChecks, KeptBetween}
+use Rattle.rules.specs.Portions.{Emptied, Started, Portioned, Closing, writtenIn, usedIn, ClosedBy, EndsReading}
 use Rattle.rules.specs.Portions.{Session, Goes}
 use Rattle.grammar.specs.OneReading.{reads-one}
 use Rattle.grammar.specs.SoFar.{so-far-longer}

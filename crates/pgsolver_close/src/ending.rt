@@ -10,7 +10,6 @@ use pgsolver_words::words::place_found;
 use reading_rooms::Fits;
 use reading_rooms::check_rooms;
 use reading_rooms::clear_work;
-ghost use mathlib.Core.Path.{_≡_};
 ghost use Prim.Native.Nat.{_+_, _≤_};
 ghost use lib.ListN.{length};
 ghost use Rattle.rules.specs.Portions.{EndsReading, ClosedBy};

@@ -1,17 +1,16 @@
 -- What a text says, and what stands in the rooms then.
 use mathlib.Core.Bool.{Bool, true, false}
-use mathlib.Core.List.{List, [], _++_}
+use mathlib.Core.List.{List, _++_}
 use mathlib.Core.Path.{_≡_, refl, sym, ap, subst, _∙_}
 use Prim.Native.Nat.{ℕ, _+_, min, _≤_}
 use native.Mathlib.Omega.{arith}
 use lib.ListN.{length, drop, replicate, length-replicate}
 use lib.Seq.{drop-at}
 use Rattle.rules.specs.Outcome.{Verdict, none, refused, _then_}
-use Rattle.rules.specs.Pgsolver.{Entry, Header, unsaid, highest}
+use Rattle.rules.specs.Pgsolver.{Header, unsaid, highest}
 use Rattle.rules.specs.Reading.{Limits, Rooms, check31, targetsIn, tablesRead, holding}
-use Rattle.grammar.specs.Machine.{Read, readingOf, nothingRead}
+use Rattle.grammar.specs.Machine.{Read, readingOf}
 use Rattle.arrange.specs.Laws.{roomsOf, seen-checks, check31-once, waits-ready, ordered-holding, sizes-read}
-use Rattle.arrange_steps.specs.Once.{Once}
 use Rattle.arrange_steps.specs.Promises.{RecordsReady, Orders}
 use Rattle.reading_rooms.specs.Said.{headerFrom, seenChecks}
 use Rattle.pgsolver_acts.specs.declared.state.State.{State}

@@ -1,13 +1,13 @@
 -- The end of a text in the words of the rules: what it gives and leaves is what they say of the bytes that came.
 use mathlib.Core.Bool.{not, _||_}
 use mathlib.Core.List.{List, [], _++_}
-use mathlib.Core.Path.{_≡_, refl, sym, ap, ap₂, subst, _∙_}
-use Prim.Native.Nat.{ℕ, suc, _+_, _-_, min, _≤_, _<_}
+use mathlib.Core.Path.{_≡_, refl, sym, ap, subst, _∙_}
+use Prim.Native.Nat.{ℕ, suc, _+_, _-_, min}
 use native.Mathlib.Numerals.{add-one}
 use native.Mathlib.Omega.{arith}
 use borrow.Author.Tests.{eqb-true, ltb-false, not-false}
 use lib.Dec.{eqb, ltb}
-use lib.ListN.{length, getD, take, drop, replicate, length-replicate}
+use lib.ListN.{length, drop, replicate, length-replicate}
 use lib.Seq.{take-at, drop-at}
 use Rattle.rules.specs.Outcome.{Outcome, Verdict, none, refused, given, outcome, answered, _then_}
 use Rattle.rules.specs.Pgsolver.{Entry, unsaid}
@@ -27,7 +27,7 @@ use Rattle.pgsolver_portion.specs.Reached.{BytesReached, PortionStopped}
 use Rattle.pgsolver_finish.specs.Finishing.{Area, Finishable, fronts, left, Finishes, Wiped}
 use Rattle.pgsolver_end.specs.declared.tell.Told.{Told}
 use Rattle.pgsolver_end.specs.declared.tell.Told.the-variants.{Whole, Refused}
-use Rattle.pgsolver_end.specs.Telling.{textChecks, InOrder, TellsAs, WithinAs, Tells}
+use Rattle.pgsolver_end.specs.Telling.{InOrder, WithinAs, Tells}
 
 -- 9 and 10 are not given
 pub record Fitted (r : Rooms) : Type 0 where

@@ -6,7 +6,6 @@ use pgsolver_acts::state::State;
 use pgsolver_finish::finish::Asks;
 use pgsolver_finish::finish::finish;
 use pgsolver_finish::finish::refuse;
-ghost use mathlib.Core.Path.{_≡_};
 ghost use Rattle.parity_game.specs.Said.{said};
 ghost use Rattle.arrange.specs.Laws.{roomsOf};
 ghost use Rattle.pgsolver_finish.specs.Finishing.{asksIn, writtenOf};

@@ -7,7 +7,7 @@ use lib.ListN.{length, take, drop}
 use Rattle.rules.specs.Outcome.{Outcome, Verdict, none, refused, outcome, answered}
 use Rattle.rules.specs.Reading as Reading
 use Rattle.rules.specs.Reading.{Rooms, Written, readingWords, holding, noTables, listAsked}
-use Rattle.rules.specs.Tables.{Tables, tablesOf, tableChecks}
+use Rattle.rules.specs.Tables.{Tables, tablesOf}
 use Rattle.parity_game.specs.Laws.{Numbered, numbered-tables, zero-none}
 use Rattle.reading_rooms.specs.Cleared.{AllZero, all-zero-holding}
 use Rattle.arrange.specs.Laws.{roomsOf}

@@ -3,7 +3,7 @@ use parity_game::Answer;
 use reading_rooms::clear_rooms;
 ghost use mathlib.Core.Path.{_≡_};
 ghost use Prim.Native.Nat.{_+_};
-ghost use lib.ListN.{length, take};
+ghost use lib.ListN.{take};
 ghost use Rattle.rules.specs.Outcome.{outcome, answered};
 ghost use Rattle.rules.specs.Reading.{listAsked};
 ghost use Rattle.rules.specs.Tables.{tablesOf};

@@ -6,17 +6,14 @@ use lib.ListN.{getD}
 use Rattle.rules.specs.Pgsolver.{parityWord}
 use Rattle.rules.specs.Reading.{highestNumber}
 use Rattle.pgsolver_acts.specs.declared.state.Phase.{Phase}
-use Rattle.pgsolver_acts.specs.declared.state.Phase.the-variants.{AtStart, InWord, PastWord, InHighest, PastHighest}
-use Rattle.pgsolver_acts.specs.declared.state.Phase.the-variants.{BetweenRecords}
-use Rattle.pgsolver_acts.specs.declared.state.Phase.the-variants.{InIdentifier, PastIdentifier, InPriority}
-use Rattle.pgsolver_acts.specs.declared.state.Phase.the-variants.{PastPriority, InOwner, PastOwner}
-use Rattle.pgsolver_acts.specs.declared.state.Phase.the-variants.{InTarget, PastTarget, PastComma, InName, PastName}
+use Rattle.pgsolver_acts.specs.declared.state.Phase.the-variants.{InWord}
+use Rattle.pgsolver_acts.specs.declared.state.Phase.the-variants.{InIdentifier}
+use Rattle.pgsolver_acts.specs.declared.state.Phase.the-variants.{InTarget, PastTarget}
 use Rattle.pgsolver_acts.specs.declared.state.State.{State}
 use Rattle.pgsolver_acts.specs.declared.acts.Act.{Act}
 use Rattle.pgsolver_acts.specs.declared.acts.Act.the-variants.{Stay, Off, To, Spell, Begin, BeginIdentifier}
 use Rattle.pgsolver_acts.specs.declared.acts.Act.the-variants.{BeginTarget, More}
 use Rattle.pgsolver_acts.specs.declared.acts.Act.the-variants.{Head, Identify, Rank, Own, Aim, AimClose, Close}
-use Rattle.pgsolver_moves.specs.declared.moves.Move as Move
 use Rattle.pgsolver_moves.specs.declared.moves.Move.{Move}
 use Rattle.pgsolver_moves.specs.declared.moves.Move.the-variants as Moves
 use Rattle.pgsolver_acts.specs.Shown.{toPhase, readingOn, headedOn, identifiedOn, rankedOn, ownedOn, aimedOn, closedOn}

@@ -1,18 +1,16 @@
 -- What a state by value and the tables stand for: the bytes so far, none of them refused. One portion more is read by the law of
 -- a run over two parts.
-use mathlib.Core.Bool.{Bool}
 use mathlib.Core.List.{List, [], _∷_, _++_}
 use mathlib.Core.Path.{_≡_, refl, sym, ap, subst, _∙_}
 use Prim.Native.Nat.{ℕ, zero, suc, _+_, _/_, min, _≤_, _<_, zero-le}
 use native.Mathlib.Decide.{decLt}
 use native.Mathlib.Nat.{not-suc-le-zero}
 use native.Mathlib.Omega.{arith}
-use lib.ListN.{length, getD, replicate, length-append, length-replicate, getD-replicate, List·getD-append, List·getD-eq-default}
-use lib.Seq.{getD-append-add}
+use lib.ListN.{length, getD, replicate, length-append, length-replicate, getD-replicate, List·getD-eq-default}
 use Rattle.rules.specs.Counting.{times}
 use Rattle.rules.specs.Outcome.{refused}
 use Rattle.rules.specs.Reading.{Limits, targetsIn}
-use Rattle.grammar.specs.Machine.{Machine, atFirst, Run, live, ended, runFrom}
+use Rattle.grammar.specs.Machine.{atFirst, Run, live, ended, runFrom}
 use Rattle.grammar.specs.Runs.{run-append}
 use Rattle.grammar.specs.Waiting.{Waits, inText}
 use Rattle.reading_rooms.specs.Cleared.{TablesZero, zeros}
@@ -20,7 +18,7 @@ use Rattle.pgsolver_acts.specs.declared.state.State.{State}
 use Rattle.pgsolver_acts.specs.Shown.{stateOf}
 use Rattle.pgsolver_step.specs.declared.portion.Portion.{Portion}
 use Rattle.pgsolver_step.specs.declared.portion.Portion.the-variants.{Reading, Stuck, Beyond}
-use Rattle.pgsolver_step.specs.Steps.{Fitting, HoldsReading, limits}
+use Rattle.pgsolver_step.specs.Steps.{Fitting, limits}
 use Rattle.pgsolver_step.specs.Portions.{Remains, Ends, limitsIn, Within, Portions}
 use Rattle.pgsolver_portion.specs.declared.take.Taken.{Taken}
 use Rattle.pgsolver_portion.specs.declared.take.Taken.the-variants.{On, Refused}

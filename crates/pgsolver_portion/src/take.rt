@@ -3,7 +3,6 @@ use pgsolver_acts::state::State;
 use pgsolver_step::portion::Portion;
 use pgsolver_step::portion::read_portion;
 use reading_rooms::clear_tables;
-ghost use mathlib.Core.Path.{_≡_};
 ghost use Rattle.pgsolver_step.specs.Steps.{Fitting};
 ghost use Rattle.pgsolver_portion.specs.Reached.{Takes};
 

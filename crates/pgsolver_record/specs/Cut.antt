@@ -1,5 +1,5 @@
 -- Cutting a text at any bytes changes nothing in the record either: its kept numbers are those of the same tables.
-use mathlib.Core.Path.{_≡_, refl, sym, ap, subst, _∙_}
+use mathlib.Core.Path.{_≡_, refl, sym, ap, subst}
 use Prim.Native.Nat.{ℕ}
 use mathlib.Core.List.{List}
 use Rattle.rules.specs.Outcome.{Outcome, Verdict, none, refused, _then_, Unless}

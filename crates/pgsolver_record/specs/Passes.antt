@@ -3,14 +3,14 @@
 use mathlib.Core.Bool.{Bool, not, _||_}
 use mathlib.Core.List.{List, map}
 use mathlib.Core.Path.{_≡_, refl, sym, ap, subst, _∙_}
-use Prim.Native.Nat.{ℕ, _+_, _-_, _≤_, _<_}
+use Prim.Native.Nat.{ℕ, _+_, _-_, _≤_}
 use native.Mathlib.Omega.{arith}
 use borrow.Author.Tests.{eq-eqb}
 use lib.Dec.{eqb, ltb}
 use lib.ListN.{length, take, replicate, length-append}
 use lib.Seq.{take-at}
 use Rattle.rules.specs.Counting.{times}
-use Rattle.rules.specs.Outcome.{Outcome, Verdict, none, refused, given, givenAt, outcome, answered, _then_, Unless}
+use Rattle.rules.specs.Outcome.{Outcome, Verdict, none, refused, given, givenAt, answered, _then_, Unless}
 use Rattle.rules.specs.Pgsolver.{Header, Entry}
 use Rattle.rules.specs.Portions.{Meaning, reading, LentBetween, roomsWith, endChecks, ClosingRecord, ClosedRecord, EndsRecord, writtenIn}
 use Rattle.rules.specs.Reading.{Limits, Reads, beyond, stuck, whole, Rooms, Written, limitsOf, readingWords, roomChecks, padded}
@@ -18,7 +18,7 @@ use Rattle.rules.specs.Reading.{written, wrongHighest, check31, readChecks, tab
 use Rattle.rules.specs.Reading.{WrittenRecord, ToldRecord, ReadsRecord}
 use Rattle.rules.specs.Record.{Record, recordOf, tablesIn, recordChecks, freshCount, keptRoom}
 use Rattle.rules.specs.Tables.{Tables, tablesOf, tableChecks, Accepted}
-use Rattle.theory.specs.Edits.{Roomy, EditPassing, passes}
+use Rattle.theory.specs.Edits.{Roomy, passes}
 use Rattle.parity_game.specs.Laws.{Numbered, numbered-then, numbered-given, numbered-givenAt, numbered-tables, zero-none}
 use Rattle.parity_game.specs.Laws.{then-none, accepted-sound}
 

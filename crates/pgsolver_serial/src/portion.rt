@@ -10,7 +10,6 @@ use pgsolver_words::words::keep;
 use pgsolver_words::words::place_found;
 use reading_rooms::Fits;
 use reading_rooms::check_rooms;
-ghost use mathlib.Core.Path.{_≡_};
 ghost use Rattle.rules.specs.Portions.{ReadsPortion, Portioned};
 ghost use Rattle.parity_game.specs.Said.{said};
 ghost use Rattle.pgsolver_serial.specs.Stands.{lentOf, Stands, FitLent, GoesOn};

@@ -6,7 +6,6 @@ use pgsolver_portion::begin::begin;
 use pgsolver_words::words::keep;
 use reading_rooms::Fits;
 use reading_rooms::check_rooms;
-ghost use mathlib.Core.Path.{_≡_};
 ghost use Rattle.rules.specs.Portions.{StartsText};
 ghost use Rattle.parity_game.specs.Said.{said};
 ghost use Rattle.pgsolver_serial.specs.Stands.{lentOf, Stands, FitLent, Starts};

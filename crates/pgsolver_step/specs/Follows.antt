@@ -3,7 +3,7 @@
 use mathlib.Core.Bool.{Bool, true, false, cond}
 use mathlib.Core.List.{List, [], _∷_, _++_}
 use mathlib.Core.Path.{_≡_, refl, sym, ap, subst, _∙_}
-use Prim.Native.Nat.{ℕ, suc, _+_, _-_, _*_, _%_, _≤_, _<_}
+use Prim.Native.Nat.{ℕ, suc, _+_, _-_, _*_, _≤_, _<_}
 use native.Mathlib.Numerals.{add-one}
 use native.Mathlib.Omega.{arith}
 use borrow.Author.Tests.{ltb-true, leb-true, ne-eqb}
@@ -13,7 +13,7 @@ use Rattle.rules.specs.Pgsolver.{separates, isDigit, comma, semicolon, quote, p
 use Rattle.rules.specs.Reading.{Limits, highestNumber, targetsIn}
 use Rattle.grammar.specs.Machine as Machine
 use Rattle.grammar.specs.Machine.{Machine, Went, on, off, over, classOf, stepFrom, targetsRead, longer, isLetter}
-use Rattle.grammar.specs.Machine.{to, reading, headed, identified, ranked, owned, aimed, closed, more, begins}
+use Rattle.grammar.specs.Machine.{to, reading, headed, identified, ranked, owned, aimed, more, begins}
 use Rattle.basics.specs.Basics.{clash, and-left, and-right}
 use Rattle.pgsolver_acts.specs.declared.state.State.{State}
 use Rattle.pgsolver_acts.specs.declared.state.Phase.the-variants.{InWord, PastWord, BetweenRecords}
@@ -23,7 +23,7 @@ use Rattle.pgsolver_moves.specs.declared.moves.Move.{Move}
 use Rattle.pgsolver_moves.specs.declared.moves.Move.the-variants.{On, Off, Over, Aim, Close, AimClose}
 use Rattle.pgsolver_acts.specs.Shown.{phaseOf, stateOf, counted, toPhase, readingOn, headedOn, identifiedOn, rankedOn}
 use Rattle.pgsolver_acts.specs.Shown.{ownedOn}
-use Rattle.pgsolver_acts.specs.Shown.{aimedOn, closedOn, isSaid, saidOf}
+use Rattle.pgsolver_acts.specs.Shown.{aimedOn, isSaid, saidOf}
 use Rattle.pgsolver_acts.specs.Acts.{onSeparator, onDigit, onComma, onSemicolon, onQuote, onLetter, onOther, actOn}
 use Rattle.pgsolver_moves.specs.Moves.{digitOf, moreOn, moveOf}
 

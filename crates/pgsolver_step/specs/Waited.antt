@@ -1,9 +1,9 @@
 -- What waits in the tables, with one target more and with one record more.
-use mathlib.Core.Bool.{Bool, true, false, cond}
+use mathlib.Core.Bool.{cond}
 use mathlib.Core.List.{List, [], _∷_, _++_, append-assoc, append-nil}
-use mathlib.Core.Logic.{_⊎_, inl, inr, ⊎-elim}
+use mathlib.Core.Logic.{_⊎_, ⊎-elim}
 use mathlib.Core.Path.{_≡_, refl, sym, ap, subst, _∙_}
-use Prim.Native.Nat.{ℕ, suc, _+_, _*_, _/_, _%_, min, _≤_, _<_}
+use Prim.Native.Nat.{ℕ, suc, _+_, _%_, min, _≤_, _<_}
 use native.Mathlib.Omega.{arith}
 use borrow.Author.Tests.{eqb-true, eqb-false, ltb-true, ltb-false, lt-ltb, le-ltb}
 use lib.Dec.{ltb, eqb}
@@ -11,9 +11,9 @@ use lib.ListN.{length, getD, take, set, length-append, length-set, List·getD-ap
 use lib.Seq.{take-suc-set, getD-set-same, getD-set-other, getD-append-seam}
 use Rattle.rules.specs.Counting.{times}
 use Rattle.rules.specs.Pgsolver.{Entry}
-use Rattle.rules.specs.Reading.{targetsIn, entryOf}
+use Rattle.rules.specs.Reading.{targetsIn}
 use Rattle.grammar.specs.Machine.{noEntryYet}
-use Rattle.grammar.specs.Waiting.{identifiers, inText, beginning, seen, begin, KeptAt, FreshAt, Waits}
+use Rattle.grammar.specs.Waiting.{identifiers, inText, seen, begin, KeptAt, FreshAt, Waits}
 use Rattle.basics.specs.Basics.{below-suc, bool-cases}
 use Rattle.pgsolver_step.specs.Follows.{targets-more}
 use Rattle.pgsolver_step.specs.Kept.{text-more, times-here, times-there, entry-here, entry-there, beginning-here}

@@ -6,7 +6,6 @@ use parity_game::MOST_VERTICES;
 use pgsolver_acts::state::State;
 ghost use mathlib.Core.Path.{_≡_};
 ghost use Prim.Native.Nat.{_<_, _^_, min};
-ghost use lib.ListN.{length};
 ghost use Rattle.pgsolver_step.specs.Steps.{Fitting};
 ghost use Rattle.pgsolver_step.specs.Portions.{Portions};
 

@@ -6,7 +6,7 @@ use pgsolver_moves::moves::advance;
 use reading_rooms::SEEN;
 ghost use mathlib.Core.Path.{_≡_};
 ghost use Prim.Native.Nat.{min};
-ghost use lib.ListN.{length, set, getD};
+ghost use lib.ListN.{set};
 ghost use Rattle.pgsolver_step.specs.Steps.{Fitting, LimitRoom, Closes, Steps};
 ghost use Rattle.pgsolver_step.specs.Waited.{wordNext};
 

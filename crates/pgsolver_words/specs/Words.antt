@@ -2,11 +2,11 @@
 use mathlib.Core.Bool.{Bool, true, false, cond}
 use mathlib.Core.List.{List, [], _∷_, _++_}
 use mathlib.Core.Path.{_≡_, refl, sym, ap, subst, _∙_}
-use Prim.Native.Nat.{ℕ, _+_, _%_, min, _≤_, _<_}
+use Prim.Native.Nat.{ℕ, _+_, _%_, min, _<_}
 use native.Mathlib.Omega.{arith}
 use borrow.Author.Tests.{ne-eqb}
 use lib.Dec.{eqb}
-use lib.ListN.{length, getD, drop}
+use lib.ListN.{getD, drop}
 use Rattle.pgsolver_acts.specs.declared.state.Phase.{Phase}
 use Rattle.pgsolver_acts.specs.declared.state.Phase.the-variants.{AtStart, InWord, PastWord, InHighest, PastHighest}
 use Rattle.pgsolver_acts.specs.declared.state.Phase.the-variants.{BetweenRecords}

@@ -1,29 +1,23 @@
 -- The first level begins again: all that is left in it has its priority as region, and no entry.
-use mathlib.Core.Bool.{Bool, true, false, _&&_, not, cond, and-false}
+use mathlib.Core.Bool.{true, false, _&&_, not, cond}
 use mathlib.Core.List.{List}
-use mathlib.Core.Logic.{_⊎_, inl, inr, ⊎-elim}
-use mathlib.Core.Path.{_≡_, refl, sym, ap, _∙_}
-use Prim.Native.Nat.{ℕ, suc, _+_, _*_, _≤_, _<_, min}
+use mathlib.Core.Logic.{_⊎_, inl, inr}
+use mathlib.Core.Path.{_≡_, ap, _∙_}
+use Prim.Native.Nat.{ℕ, suc, _+_, _≤_, _<_}
 use native.Mathlib.Nat.{le-refl}
 use native.Mathlib.Omega.{arith}
-use borrow.Author.Tests.{eqb-true, not-true}
 use lib.Dec.{eqb}
 use lib.ListN.{length, getD}
 use Rattle.rules.specs.Counting.{Set}
-use Rattle.rules.specs.Game.{Even}
-use Rattle.rules.specs.Tables.{words}
 use Rattle.rules.specs.Words.{noEntry}
-use Rattle.basics.specs.Basics.{bool-cases, clash, and-left, and-right, not-true-is-false}
-use Rattle.basics.specs.Greatest.{greatest-bounds, greatest-attained, greatest-le}
-use Rattle.highest_priority.specs.Parts.{highestOf}
+use Rattle.basics.specs.Basics.{bool-cases}
+use Rattle.basics.specs.Greatest.{greatest-le}
 use Rattle.predecessors.specs.Table.{SoundEdges}
-use Rattle.area.specs.Area.{entries, free, setAt}
-use Rattle.attractor.specs.Attracted.{Listed, listed-kept}
-use Rattle.priority_sets.specs.Sorting.{SetsOf}
-use Rattle.promotion_places.specs.Nesting.{regionOf, Nesting, Proper, inside-all, few-levels, levels-below, lowered-nests, lowered-region}
-use Rattle.promotion_places.specs.Nesting.{lowered-proper, afresh-nests, afresh-region, afresh-proper}
-use Rattle.promotion_places.specs.Layout.{heldAt, wonAt, depthAt, topsAt, deep, levelsAt, levelAt, endAt, depthIn, topIn, levelIn, heldIn, regionIn, entryIn, Ready}
-use Rattle.promotion_places.specs.Places.{next-level, sets-kept}
+use Rattle.area.specs.Area.{entries}
+use Rattle.attractor.specs.Attracted.{Listed}
+use Rattle.promotion_places.specs.Nesting.{regionOf}
+use Rattle.promotion_places.specs.Nesting.{afresh-nests, afresh-region, afresh-proper}
+use Rattle.promotion_places.specs.Layout.{heldAt, levelsAt, depthIn, topIn, levelIn, regionIn, entryIn, Ready}
 use Rattle.promotion_levels.specs.Descending.{Descends, Descended}
 use Rattle.promotion_levels.specs.Going.{listed-again, sorted-again, last-is, held-again, most-is, met-is}
 

@@ -1,30 +1,22 @@
 -- A level begins: what that leaves of the tables and of what was won, and how its priority, R and the next level go together.
-use mathlib.Core.Bool.{Bool, true, false, _&&_, not, cond, and-false}
+use mathlib.Core.Bool.{Bool, true, false, _&&_, not}
 use mathlib.Core.List.{List}
-use mathlib.Core.Logic.{_⊎_, inl, inr, ⊎-elim}
-use mathlib.Core.Path.{_≡_, refl, sym, ap, _∙_}
-use Prim.Native.Nat.{ℕ, suc, _+_, _*_, _≤_, _<_, min}
+use mathlib.Core.Logic.{_⊎_, inl, inr}
+use mathlib.Core.Path.{_≡_, refl, sym, _∙_}
+use Prim.Native.Nat.{ℕ, suc, _+_, _≤_, _<_}
 use native.Mathlib.Nat.{le-refl}
 use native.Mathlib.Omega.{arith}
-use borrow.Author.Tests.{eqb-true, not-true}
 use lib.Dec.{eqb}
 use lib.ListN.{length, getD}
-use Rattle.rules.specs.Counting.{Set}
 use Rattle.rules.specs.Game.{Even}
 use Rattle.rules.specs.Tables.{words}
-use Rattle.rules.specs.Words.{noEntry}
-use Rattle.basics.specs.Basics.{bool-cases, clash, and-left, and-right, not-true-is-false}
-use Rattle.basics.specs.Greatest.{greatest-bounds, greatest-attained, greatest-le}
-use Rattle.highest_priority.specs.Parts.{highestOf}
-use Rattle.predecessors.specs.Table.{SoundEdges}
-use Rattle.area.specs.Area.{entries, free, setAt}
+use Rattle.basics.specs.Greatest.{greatest-bounds, greatest-attained}
+use Rattle.area.specs.Area.{entries, free}
 use Rattle.attractor.specs.Attracted.{Listed, listed-kept}
 use Rattle.priority_sets.specs.Sorting.{SetsOf}
-use Rattle.promotion_places.specs.Nesting.{regionOf, Nesting, Proper, inside-all, few-levels, levels-below, lowered-nests, lowered-region}
-use Rattle.promotion_places.specs.Nesting.{lowered-proper, afresh-nests, afresh-region, afresh-proper}
-use Rattle.promotion_places.specs.Layout.{heldAt, wonAt, depthAt, topsAt, deep, levelsAt, levelAt, endAt, depthIn, topIn, levelIn, heldIn, regionIn, entryIn, Ready}
-use Rattle.promotion_places.specs.Places.{next-level, sets-kept}
-use Rattle.promotion_levels.specs.Descending.{Descends, Descended}
+use Rattle.promotion_places.specs.Layout.{heldAt, wonAt, depthAt, deep, endAt, levelIn, heldIn}
+use Rattle.promotion_places.specs.Places.{sets-kept}
+use Rattle.promotion_levels.specs.Descending.{Descended}
 
 -- there is room for one level more than a vertex's
 pub deeper : (n k : ℕ) → k < n → k < 256 → suc k + 2 ≤ deep n

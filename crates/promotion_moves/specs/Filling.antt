@@ -10,7 +10,7 @@ use Rattle.rules.specs.Counting.{Set, lowest}
 use Rattle.rules.specs.Tables.{words}
 use Rattle.rules.specs.Words.{noEntry, setOf}
 use Rattle.predecessors.specs.Table.{SoundEdges}
-use Rattle.attractor_counters.specs.Counters.{EdgesOf, edges-of}
+use Rattle.area.specs.EdgesOf.{EdgesOf, edges-of}
 use Rattle.area.specs.Area.{setAt, wordsAt}
 use Rattle.area.specs.Lent.{words-alike, part-length}
 use Rattle.area.specs.Walking.{lent-part}

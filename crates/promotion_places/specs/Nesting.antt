@@ -1,9 +1,9 @@
 -- Regions as nested sets. Level j holds the unsolved vertices of region at most P j, so that region P j is level j without the next;
 -- what lies in the last level, k + 1, has its priority as region, and what lies in none is solved. So a region goes back to its
 -- priorities when its level is dropped, and nothing is written for it.
-use mathlib.Core.Bool.{Bool, true, false, _&&_, not, cond, and-false}
+use mathlib.Core.Bool.{true, false, _&&_, not, cond, and-false}
 use mathlib.Core.Logic.{_⊎_, inl, inr, ⊎-elim}
-use mathlib.Core.Path.{_≡_, refl, sym, ap, _∙_}
+use mathlib.Core.Path.{_≡_, sym, _∙_}
 use Prim.Native.Nat.{ℕ, zero, suc, _+_, _≤_, _<_}
 use native.Mathlib.Nat.{le-refl, le-step, eq-or-lt-of-le}
 use native.Mathlib.Omega.{arith}

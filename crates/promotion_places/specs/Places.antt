@@ -1,25 +1,23 @@
 -- The levels stand one after another, and below the end; and what they say is read off their own words alone.
-use mathlib.Core.Bool.{Bool, true, false, _&&_, not, cond}
+use mathlib.Core.Bool.{Bool, true, false, _&&_, not}
 use mathlib.Core.List.{List}
 use mathlib.Core.Logic.{_⊎_, inl, inr, ⊎-elim}
-use mathlib.Core.Path.{_≡_, refl, sym, ap, _∙_}
+use mathlib.Core.Path.{_≡_, refl, sym, _∙_}
 use Prim.Native.Nat.{ℕ, suc, _+_, _*_, _≤_, _<_}
 use native.Mathlib.Nat.{mul-le-mul-right, add-mul, le-refl}
 use native.Mathlib.Omega.{arith}
-use borrow.Author.Tests.{lt-ltb, le-ltb, ltb-true}
-use lib.Dec.{eqb, ltb, leb}
+use borrow.Author.Tests.{lt-ltb, le-ltb}
 use lib.ListN.{length, getD}
 use Rattle.rules.specs.Counting.{Set}
 use Rattle.rules.specs.Game.{Game}
 use Rattle.rules.specs.Tables.{words, gameOf, tablesOf}
 use Rattle.rules.specs.Promotion.{unsolved}
-use Rattle.basics.specs.Basics.{bool-cases, clash, lt-or-ge, not-true-is-false}
+use Rattle.basics.specs.Basics.{bool-cases, lt-or-ge, not-true-is-false}
 use Rattle.theory.specs.PromotionBasics.{atRegion, upTo}
-use Rattle.area.specs.Area.{setAt}
 use Rattle.area.specs.SetsAt.{set-kept}
 use Rattle.priority_sets.specs.Sorting.{SetsOf, setOfPriority, set-room}
-use Rattle.promotion_places.specs.Nesting.{regionOf, Nesting, inside-all, region-solved, below-is, here-is, up-is, unsolved-is}
-use Rattle.promotion_places.specs.Layout.{levelsAt, levelAt, endAt, deep, topIn, levelIn, depthIn, regionIn}
+use Rattle.promotion_places.specs.Nesting.{regionOf, Nesting, inside-all, region-solved, here-is, up-is, unsolved-is}
+use Rattle.promotion_places.specs.Layout.{levelsAt, levelAt, endAt, deep, levelIn}
 
 -- one set more, of those that stand from a place on
 pub more-sets : (s at i j : ℕ) → i < j → at + i * s + s ≤ at + j * s

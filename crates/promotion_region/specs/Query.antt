@@ -26,7 +26,7 @@ use Rattle.attractor.specs.Attracted.{Nested, Attractable, Attracted, listed-ke
 use Rattle.priority_sets.specs.Sorting.{SetsOf, PriorityPlaceable, setOfPriority, set-room}
 use Rattle.promotion_levels.specs.Nesting.{regionOf, Nesting, inside-all, falls-all}
 use Rattle.promotion_levels.specs.Nesting.{drawn-nests, drawn-region, drawn-proper}
-use Rattle.promotion_levels.specs.Layout.{heldAt, wonAt, depthAt, topsAt, levelsAt, levelAt, endAt, depthIn, topIn, levelIn, heldIn, regionIn, entryIn, Ready}
+use Rattle.promotion_levels.specs.Layout.{heldAt, wonAt, depthAt, topsAt, levelAt, endAt, depthIn, topIn, levelIn, heldIn, regionIn, entryIn, Ready}
 use Rattle.promotion_levels.specs.Places.{next-level, level-apart, level-kept, sets-kept, upTo-is, at-region-is}
 use Rattle.promotion_levels.specs.Pulled.{Pulled, pulled-as, attract-pulled}
 use Rattle.set_difference.specs.Without.{WithoutAt, CommonAt}
@@ -144,9 +144,6 @@ module _ (owners priorities : List ℕ) {offsets targets : List ℕ} (ok : Accep
 
     o-low : O + s ≤ H
     o-low = omega (arith, size, set-room (words n) (free n m) p p-small)
-
-    x-low : levelsAt n m s ≤ X
-    x-low = omega arith
 
     part0 : (v : ℕ) → heldIn n m s w0 v ≡ true → L k v ≡ true
     part0 v i = and-left (L k v) _ (sym (ready .held v) ∙ i)

@@ -1,35 +1,22 @@
 -- The region that R is promoted to once it is closed.
-use mathlib.Core.Bool.{Bool, true, false, _&&_, not, cond}
+use mathlib.Core.Bool.{Bool, true, false, _&&_, not}
 use mathlib.Core.List.{List}
-use mathlib.Core.Logic.{_⊎_, inl, inr, ⊎-elim}
-use mathlib.Core.Path.{_≡_, refl, sym, ap, ap₂, _∙_}
-use Prim.Native.Nat.{ℕ, zero, suc, _+_, _*_, _%_, _≤_, _<_}
-use native.Mathlib.Nat.{le-refl}
+use mathlib.Core.Logic.{_⊎_, ⊎-elim}
+use mathlib.Core.Path.{_≡_, refl, sym, _∙_}
+use Prim.Native.Nat.{ℕ, _%_, _≤_, _<_}
 use native.Mathlib.Omega.{arith}
-use borrow.Author.Tests.{eqb-true, eq-eqb, lt-ltb, le-ltb, ltb-true, not-true}
+use borrow.Author.Tests.{eqb-true, eq-eqb, lt-ltb, ltb-true, not-true}
 use lib.Dec.{eqb, ltb}
-use lib.ListN.{length, getD}
-use Rattle.rules.specs.Counting.{Set, count, some, lowest}
-use Rattle.rules.specs.Game.{Player, Even, Odd, Game, Total, parity, same}
-use Rattle.rules.specs.Tables.{Tables, gameOf, words, Accepted, tablesOf}
-use Rattle.rules.specs.Words.{noEntry}
-use Rattle.rules.specs.Promotion.{Regions, regionSet, isOpen, roundOf, afterRounds}
-use Rattle.basics.specs.Basics.{bool-cases, not-true-is-false, and-intro, and-left, and-right, lt-or-ge, some-intro, some-elim}
-use Rattle.basics.specs.Basics.{false-some, someOf-intro, someOf-elim, lowest-none, lowest-unique, count-cong}
+use lib.ListN.{length}
+use Rattle.rules.specs.Counting.{Set, some, lowest}
+use Rattle.rules.specs.Game.{Game, parity, same}
+use Rattle.rules.specs.Tables.{Tables, gameOf, Accepted, tablesOf}
+use Rattle.basics.specs.Basics.{not-true-is-false, and-intro, and-left, and-right, lt-or-ge, some-intro, some-elim}
+use Rattle.basics.specs.Basics.{false-some, someOf-intro, someOf-elim, lowest-none, lowest-unique}
 use Rattle.theory.specs.Players.{same-false, false-same}
-use Rattle.theory.specs.PromotionEntries.{mover, RoundEntries, promotes, AttractedEntries, ClosesEntries}
-use Rattle.theory.specs.PromotionRounds.{attractedRegion}
-use Rattle.theory.specs.PromotionTable.{openAt, leadsUp, nextAbove, open-read, some-way-read, table-promotes, promoted-entries-read}
-use Rattle.area.specs.Area.{setAt}
-use Rattle.area.specs.SetsAt.{set-kept}
-use Rattle.promotion_levels.specs.Nesting.{regionOf}
-use Rattle.promotion_levels.specs.Layout.{heldAt, wonAt, depthAt, levelsAt, levelAt, endAt, depthIn, topIn, levelIn, heldIn, regionIn, entryIn, Ready}
+use Rattle.theory.specs.PromotionTable.{leadsUp, nextAbove}
 use Rattle.promotion_levels.specs.Pulled.{owner-number, number-owner}
-use Rattle.promotion_escape.specs.Highest.{HighestLevel}
-use Rattle.promotion_escape.specs.ByRegions.{LowestAbove, ReachesAbove, regionBefore, highest-lowest}
-use Rattle.promotion_moves.specs.Promotion.{PromotedTo, region-promoted, entry-promoted, ready-promoted, won-promoted, top-promoted, left-promoted}
-use Rattle.promotion_rounds.specs.Shown as shown
-use Rattle.promotion_rounds.specs.Shown.{Shows}
+use Rattle.promotion_escape.specs.ByRegions.{LowestAbove, ReachesAbove}
 
 -- **the lowest region above p that the opponent can go to is the rules'**
 module _ (owners priorities offsets targets : List ℕ) (ok : Accepted (tablesOf owners priorities offsets targets)) (p : ℕ)

@@ -1,5 +1,5 @@
 -- The members of a set lose their entries: what the walk over them asks for and leaves.
-use mathlib.Core.Bool.{true, false}
+use mathlib.Core.Bool.{true}
 use mathlib.Core.List.{List}
 use mathlib.Core.Logic.{inr}
 use mathlib.Core.Path.{_≡_, refl}

@@ -1,12 +1,12 @@
 -- A number put digit by digit: the digits of a tenth first, then the last one.
-use mathlib.Core.List.{List, [], _∷_, _++_}
+use mathlib.Core.List.{List, [], _∷_}
 use mathlib.Core.Path.{_≡_, sym, ap, subst, _∙_}
 use Prim.Native.Nat.{ℕ, suc, _+_, _/_, _%_, _≤_, _<_}
 use native.Mathlib.Numerals.{add-one}
 use native.Mathlib.Omega.{arith}
 use lib.ListN.{length, set, length-append}
 use Rattle.rules.specs.Decimal.{decimal}
-use Rattle.grammar.specs.Decimals.{decimal-small, decimal-large, decimal-short}
+use Rattle.grammar.specs.Decimals.{decimal-small, decimal-large}
 use Rattle.putting.specs.Puts.{Fits, Puts, puts-none, puts-byte}
 
 length-small : (n : ℕ) → n < 10 → length (decimal n) ≡ 1

@@ -3,7 +3,7 @@ use mathlib.Core.Bool.{Bool, true, false, cond}
 use mathlib.Core.Path.{_≡_, sym, ap, _∙_}
 use Prim.Native.Nat.{ℕ, _<_}
 use lib.ListN.{length, getD}
-use Rattle.rules.specs.Counting.{Set, listed}
+use Rattle.rules.specs.Counting.{Set}
 use Rattle.rules.specs.Printing.{winnerDigits}
 use Rattle.basics.specs.Basics.{length-listed, getD-listed}
 

@@ -1,5 +1,4 @@
 // The pieces of a line: a word, a number, the winners.
-ghost use mathlib.Core.Path.{_≡_};
 ghost use Prim.Native.Nat.{_*_, _≤_};
 ghost use lib.ListN.{length};
 ghost use Rattle.rules.specs.Decimal.{decimal};

@@ -1,7 +1,7 @@
 // How sharp an answer is, and how the passes of a solver stand: first passes at half the opponent's precision until one
 // finds nothing, then one at full precision, then passes at half again until one finds nothing.
 ghost use mathlib.Core.Path.{_≡_};
-ghost use Rattle.separation.specs.Stages.{firstStage, precisionAt};
+ghost use Rattle.separation.specs.Stages.{precisionAt};
 ghost use Rattle.quasi_level.specs.Standing.{Began, AfterFound, AfterNothing, LevelEnded};
 
 // An answer keeps all dominions of its own player, and drops all of the other's, whatever their size.

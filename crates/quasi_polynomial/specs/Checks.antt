@@ -5,7 +5,6 @@ use Prim.Native.Nat.{ℕ, _≤_}
 use native.Mathlib.Omega.{arith}
 use borrow.Author.Tests.{ltb-false}
 use lib.Dec.{ltb}
-use lib.ListN.{length}
 use Rattle.rules.specs.Outcome.{Verdict, none, _then_}
 use Rattle.rules.specs.SecondOpinion.{LentSets, opinionWords, opinionCheck10, opinionChecks}
 use Rattle.rules.specs.Tables.{Tables, vertices, edgesIn, words, tableChecks, Accepted, check9}

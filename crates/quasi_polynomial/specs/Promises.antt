@@ -2,7 +2,7 @@
 -- sets are then the winning sets of demand 2, each vertex has one winner, and whatever other words hold winning sets,
 -- Zielonka's and promotion's, are the same words; and any two results that meet the contract are equal.
 use mathlib.Core.Bool.{true}
-use mathlib.Core.List.{List, _++_}
+use mathlib.Core.List.{List}
 use mathlib.Core.Logic.{_⊎_, inl, inr, ⊎-elim}
 use mathlib.Core.Path.{_≡_, sym, ap, _∙_}
 use Prim.Native.Nat.{ℕ, _<_}

@@ -4,14 +4,13 @@ use mathlib.Core.List.{List, _++_}
 use mathlib.Core.Logic.{inl, inr}
 use mathlib.Core.Path.{_≡_, refl, sym, ap, subst, fun-ext, _∙_}
 use Prim.Native.Nat.{ℕ, _+_, _-_, _*_, _%_, _≤_, _<_}
-use native.Mathlib.Nat.{mul-le-mul-left, mul-le-mul-right, one-mul}
+use native.Mathlib.Nat.{mul-le-mul-left, mul-le-mul-right}
 use native.Mathlib.Omega.{arith}
-use borrow.Author.Tests.{ltb-true}
 use lib.ListN.{length, getD, take, drop, replicate, length-take}
 use Rattle.rules.specs.Counting.{Set, without}
 use Rattle.rules.specs.Game.{Player, Even, Odd, playerOf, everywhere}
 use Rattle.rules.specs.Outcome.{Outcome, Verdict, none, refused, outcome, answered}
-use Rattle.rules.specs.SecondOpinion.{LentSets, opinionWords, opinionChecks, OpinionAnswered, OpinionLeaves, GivesOpinion}
+use Rattle.rules.specs.SecondOpinion.{LentSets, opinionWords, opinionChecks, OpinionLeaves, GivesOpinion}
 use Rattle.rules.specs.Tables.{Tables, gameOf, vertices, edgesIn, words, workWords, Accepted}
 use Rattle.rules.specs.Winning.{WinningSets}
 use Rattle.rules.specs.Words.{Narrow, Holds, setOf, bit}

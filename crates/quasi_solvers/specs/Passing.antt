@@ -4,39 +4,39 @@ use mathlib.Core.List.{List}
 use mathlib.Core.Logic.{_⊎_, inl, inr, ⊎-elim}
 use mathlib.Core.Path.{_≡_, refl, sym, ap, ap₂, subst, fun-ext, _∙_}
 use Prim.Native.Nat.{ℕ, zero, suc, _+_, _-_, _*_, _/_, _%_, _≤_, _<_, min}
-use native.Mathlib.Nat.{mul-le-mul-left, mul-add, mul-one, le-trans}
+use native.Mathlib.Nat.{mul-le-mul-left, mul-add, mul-one}
 use native.Mathlib.Numerals.{add-one}
 use native.Mathlib.Omega.{arith}
 use borrow.Author.Tests.{eq-eqb, eqb-true, eqb-false}
 use lib.Dec.{eqb}
 use lib.ListN.{length, getD}
 use Rattle.rules.specs.Counting.{Set, without, count, greatest}
-use Rattle.rules.specs.Game.{Player, Even, Odd, opponent, Game, parity, playerOf}
-use Rattle.rules.specs.Tables.{Tables, gameOf, vertices, edgesIn, words, tablesOf}
+use Rattle.rules.specs.Game.{Player, Even, Odd, opponent, parity, playerOf}
+use Rattle.rules.specs.Tables.{Tables, gameOf, vertices, words}
 use Rattle.rules.specs.Attractor.{attractor}
 use Rattle.rules.specs.Zielonka.{withPriority}
-use Rattle.sets.specs.After.{Combined, Cleared, other}
+use Rattle.sets.specs.After.{Combined, other}
 use Rattle.basics.specs.Basics.{bool-cases, clash, not-true-is-false, and-left}
 use Rattle.basics.specs.Basics.{and-intro, without-left, without-right}
 use Rattle.theory.specs.Players.{opponent-differs, opponent-twice}
-use Rattle.basics.specs.Basics.{count-some, count-zero, count-mono, count-strict, count-le}
+use Rattle.basics.specs.Basics.{count-some, count-zero, count-strict, count-le}
 use Rattle.theory.specs.Attractor.{Fits, attractor-is}
 use Rattle.theory.specs.AttractorComplement.{TotalIn, rest-total}
 use Rattle.theory.specs.Run.{Top, highest-top}
 use Rattle.accepted.specs.Tables.{accepted-sound}
-use Rattle.area.specs.Area.{free, setAt, sizeAt}
+use Rattle.area.specs.Area.{setAt, sizeAt}
 use Rattle.area.specs.Sizes.{size-at}
-use Rattle.area.specs.SetsAt.{set-kept, set-cleared, set-copied-here, set-reduced}
+use Rattle.area.specs.SetsAt.{set-cleared, set-copied-here, set-reduced}
 use Rattle.attractor.specs.Attracted.{listed-kept}
 use Rattle.separation.specs.Separates.{Separates, separates-over, gives-up, gives-up-empty, precision-cut, passed-over}
 use Rattle.separation.specs.Passing.{Pass, found-inside}
-use Rattle.separation.specs.Stages.{raised, precisionAt, nextStage, StagesStanding, stage-begins, stage-found, stage-nothing}
+use Rattle.separation.specs.Stages.{raised, precisionAt, StagesStanding, stage-begins, stage-found, stage-nothing}
 use Rattle.separation.specs.Stages.{stage-found-rises, stage-nothing-rises, cut-enough}
 use Rattle.highest_priority.specs.Parts.{highestOf}
 use Rattle.quasi_level.specs.Level.{nextLevel, onLevel, Held, HeldUnder, OpinionReady, OpinionStays, TopCut}
-use Rattle.quasi_level.specs.Level.{Droppable, Dropped, FoundSome, FoundNothing, Settled, GaveUp, TurnedOver}
+use Rattle.quasi_level.specs.Level.{Droppable, FoundSome, Settled, GaveUp, TurnedOver}
 use Rattle.quasi_level.specs.Pieces.{stays-on, stays-under, level-stays}
-use Rattle.quasi_level.specs.Standing.{Began, AfterFound, AfterNothing, LevelEnded}
+use Rattle.quasi_level.specs.Standing.{Began, LevelEnded}
 use Rattle.quasi_level.specs.declared.passes.Passes.{Passes}
 use Rattle.quasi_level.specs.declared.passes.Sharp.{Sharp}
 use Rattle.quasi_solvers.specs.Calling.{OpinionCalled, SmallDominions}

@@ -1,7 +1,7 @@
 -- 9 and 10 of a call that builds a record, by lengths.
 use mathlib.Core.Bool.{not}
 use mathlib.Core.List.{List}
-use mathlib.Core.Path.{_≡_, refl, sym, ap, _∙_}
+use mathlib.Core.Path.{_≡_, sym, ap, _∙_}
 use Prim.Native.Nat.{ℕ, _<_, _≤_}
 use borrow.Author.Tests.{eqb-true, eq-eqb, ne-eqb, lt-ltb, le-ltb, not-false}
 use lib.Dec.{eqb, ltb}

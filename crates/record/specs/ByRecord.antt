@@ -1,6 +1,5 @@
 -- What a door that takes a record goes by. It calls `check_record` first and tells its refusal; past that it lends its own
 -- function the first n, n, n + 1 and m entries, which are accepted tables, with kept numbers that are a fresh count of them.
-use mathlib.Core.List.{List}
 use mathlib.Core.Path.{_≡_, refl, sym, ap, subst, _∙_}
 use Prim.Native.Nat.{ℕ, _+_, _-_}
 use lib.ListN.{take, drop}
@@ -10,7 +9,7 @@ use Rattle.rules.specs.Tables.{Tables, tablesOf, Accepted}
 use Rattle.parity_game.specs.declared.answer.Answer.{Answer}
 use Rattle.parity_game.specs.Said.{said}
 use Rattle.parity_game.specs.Laws.{zero-none}
-use Rattle.theory.specs.Edits.{Roomy, EditPassing, passing}
+use Rattle.theory.specs.Edits.{Roomy, passing}
 use Rattle.record.specs.Laws.{numbered-record, part-front, part-fronts}
 
 -- the tables as a door lends them: the parts from 0 on

@@ -2,14 +2,14 @@
 -- gives.
 use mathlib.Core.Bool.{not, _||_}
 use mathlib.Core.List.{List, []}
-use mathlib.Core.Path.{_≡_, refl, sym, ap, _∙_}
+use mathlib.Core.Path.{_≡_, refl, ap, _∙_}
 use Prim.Native.Nat.{ℕ, _+_, _-_}
 use native.Mathlib.Nat.{sub-zero}
 use native.Mathlib.Omega.{arith}
 use borrow.Author.Tests.{eq-eqb, ne-eqb}
 use lib.Dec.{eqb, ltb}
 use lib.ListN.{length, take, drop}
-use Rattle.rules.specs.Outcome.{Outcome, Verdict, none, refused, given, outcome, answered, _then_}
+use Rattle.rules.specs.Outcome.{Outcome, Verdict, none, refused, outcome, answered, _then_}
 use Rattle.rules.specs.Record.{Record, recordOf, room2, room3, sizeChecks, recordTables, keptCheck, check47, recordChecks, tablesIn, sameList}
 use Rattle.rules.specs.Record.{freshCount, keptRoom, freshChecks, keptBy, CountsFresh}
 use Rattle.rules.specs.Tables.{tablesOf, check1, tableChecks}

@@ -5,7 +5,7 @@ use mathlib.Core.Path.{_≡_}
 use Prim.Native.Nat.{ℕ}
 use lib.ListN.{length}
 use Rattle.rules.specs.Game.{Game}
-use Rattle.rules.specs.Outcome.{Verdict, none, refused, _then_}
+use Rattle.rules.specs.Outcome.{Verdict, none, refused}
 use Rattle.rules.specs.Tables.{Tables, vertices, edgesIn, tableChecks, check9, check10}
 use Rattle.rules.specs.Tables.{check1, check2, check3, check4, check5, check6, check7, check8}
 use Rattle.rules.specs.Record.{Record, recordTables, check47, recordChecks}

@@ -1,6 +1,6 @@
 -- Mending an incomplete export: each edge whose target is not below n is dropped, then every vertex without an edge gets a self loop
 -- and, as its owner is stuck and loses there, priority 1 if the owner is Even and 0 if Odd. And what the function gives back and leaves.
-use mathlib.Core.Bool.{Bool, _||_, not, cond}
+use mathlib.Core.Bool.{Bool, _||_, cond}
 use mathlib.Core.List.{List, [], _∷_, _++_}
 use mathlib.Core.Path.{_≡_}
 use Prim.Native.Nat.{ℕ, zero, suc, _+_}

@@ -1,6 +1,6 @@
 -- What A1's program prints for its arguments and its input: one line. Each engine has a budget; one that gives 13 prints `-` for its
 -- count, and the winners come from the other, or `-`. A refused text prints the number and the place.
-use mathlib.Core.Bool.{Bool, true, false, _&&_, cond}
+use mathlib.Core.Bool.{_&&_, cond}
 use mathlib.Core.List.{List, [], _∷_, _++_}
 use mathlib.Core.Path.{_≡_}
 use Prim.Native.Nat.{ℕ, _+_, _-_, _*_}
@@ -8,7 +8,7 @@ use lib.Dec.{ltb, leb}
 use lib.ListN.{length}
 use Rattle.rules.specs.Counting.{Set, listed, everyOf}
 use Rattle.rules.specs.Decimal.{decimal}
-use Rattle.rules.specs.Game.{Player, Odd, Game}
+use Rattle.rules.specs.Game.{Odd, Game}
 use Rattle.rules.specs.Outcome.{Verdict, none, refused}
 use Rattle.rules.specs.Pgsolver.{Entry, Header, isDigit}
 use Rattle.rules.specs.Promotion.{afterRounds, roundsNeeded}

@@ -1,6 +1,6 @@
 -- Reading a text: 30 and 32 with their places and which of the two is given, 31, what the tables hold, and what the public function
 -- gives back and leaves, for every input. The grammar itself is in Pgsolver.antt.
-use mathlib.Core.Bool.{Bool, false, true, _||_, not, cond}
+use mathlib.Core.Bool.{Bool, false, _||_, not, cond}
 use mathlib.Core.List.{List, [], _∷_, _++_, map}
 use mathlib.Core.Logic.{_⊎_}
 use mathlib.Core.Path.{_≡_}

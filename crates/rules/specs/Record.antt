@@ -1,7 +1,7 @@
 -- The game record of document 02's A7: sizes, tables with room to spare, and the kept numbers: how many vertices have each priority,
 -- how many different ones there are, and the highest. The three edits of a record, their refusals, and what each function gives
 -- back and leaves, for every input.
-use mathlib.Core.Bool.{Bool, not, cond, _||_, _&&_}
+use mathlib.Core.Bool.{Bool, not, _||_, _&&_}
 use mathlib.Core.List.{List, [], _∷_, _++_}
 use mathlib.Core.Path.{_≡_}
 use Prim.Native.Nat.{ℕ, _+_}

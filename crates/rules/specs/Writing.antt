@@ -1,6 +1,5 @@
 -- Writing a game as PGSolver text, in one form: header, records in identifier order, one space between fields, commas without spaces, no
 -- leading zeros, no name, the header and each record ended by a semicolon and LF. And what the function gives back and leaves.
-use mathlib.Core.Bool.{cond}
 use mathlib.Core.List.{List, [], _∷_, _++_}
 use mathlib.Core.Path.{_≡_}
 use Prim.Native.Nat.{ℕ, zero, suc, _-_}

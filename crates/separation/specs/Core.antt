@@ -2,22 +2,20 @@
 -- the dominion's choice. It is a dominion too, misses what a draws to h, and has a vertex where D has one: else a cycle of D
 -- would have the highest priority h, which is a's.
 use mathlib.Core.Bool.{true, false, cond}
-use mathlib.Core.List.{[], _∷_, List·Memᴰ, List·Memᴰ·head, List·Memᴰ·eq-of-singleton}
-use mathlib.Core.Logic.{_⊎_, inl, inr, ⊎-elim}
-use mathlib.Core.Path.{_≡_, refl, sym, ap, subst, _∙_}
+use mathlib.Core.List.{[], _∷_, List·Memᴰ·head, List·Memᴰ·eq-of-singleton}
+use mathlib.Core.Logic.{_⊎_, ⊎-elim}
+use mathlib.Core.Path.{_≡_, refl, sym, ap, _∙_}
 use Prim.Native.Nat.{ℕ, _≤_, _<_}
-use native.Mathlib.Omega.{arith}
 use borrow.Author.Tests.{eqb-true}
-use lib.Dec.{eqb}
 use Rattle.rules.specs.Counting.{Set, without, some}
 use Rattle.rules.specs.Game.{Player, opponent, Game, Edge, parity, same}
-use Rattle.rules.specs.Winning.{Walk, Cycle, Step}
-use Rattle.rules.specs.Attractor.{Closed, IsAttractor, attractor}
+use Rattle.rules.specs.Winning.{Cycle, Step}
+use Rattle.rules.specs.Attractor.{Closed, attractor}
 use Rattle.rules.specs.Zielonka.{withPriority}
 use Rattle.basics.specs.Basics.{bool-cases, clash, not-true-is-false, not-false-is-true, and-left, and-right, and-intro, Subset}
 use Rattle.basics.specs.Basics.{without-intro, without-left, without-right, some-elim, some-false}
-use Rattle.theory.specs.Players.{opponent-differs, opponent-is-other, other-player, true-same, false-same}
-use Rattle.theory.specs.Walks.{Relation, Among, walk-map, reach-stays, stays, hits, no-falling-cycle, highest-is}
+use Rattle.theory.specs.Players.{opponent-differs, other-player, true-same, false-same}
+use Rattle.theory.specs.Walks.{walk-map, reach-stays, stays, hits, no-falling-cycle, highest-is}
 use Rattle.theory.specs.Orbit.{comes-back}
 use Rattle.theory.specs.Dominion.{Inside, Dominion, owner-cases, dominion-without, held-trap, held-narrower}
 use Rattle.theory.specs.Attractor.{Fits, attractor-is}

@@ -1,15 +1,14 @@
 -- At full precision the set that a solver for Even gives is Even's winning set, and the rest is Odd's: both winning sets are
 -- dominions, and none has more vertices than the game.
-use mathlib.Core.Bool.{true, false}
 use mathlib.Core.Logic.{⊎-elim}
-use mathlib.Core.Path.{_≡_, refl, sym, _∙_}
+use mathlib.Core.Path.{_≡_, sym, _∙_}
 use Prim.Native.Nat.{ℕ, _<_}
 use borrow.Author.Tests.{lt-ltb}
 use Rattle.rules.specs.Counting.{Set, without}
 use Rattle.rules.specs.Game.{Player, Even, Odd, Game, everywhere, Total}
-use Rattle.rules.specs.Winning.{Wins, WinningSets}
+use Rattle.rules.specs.Winning.{WinningSets}
 use Rattle.rules.specs.Zielonka.{zielonkaOn, wonBy}
-use Rattle.basics.specs.Basics.{clash, not-true-is-false, bool-ext, count-le, without-intro, without-left, without-right}
+use Rattle.basics.specs.Basics.{clash, bool-ext, count-le, without-intro, without-right}
 use Rattle.theory.specs.Run.{Run}
 use Rattle.theory.specs.RunSound.{run-sound}
 use Rattle.theory.specs.Zielonka.{rules-run, run-wins, everywhere-below, everywhere-total}

@@ -1,9 +1,8 @@
 -- Sets that part the small dominions of the two players: what a solver for a gives, at a precision for its own dominions and
 -- one for the opponent's. Giving up, a precision above the number of vertices, and a height that no vertex has.
 use mathlib.Core.Bool.{true, false}
-use mathlib.Core.Path.{_≡_, sym, subst, subst₂, fun-ext, _∙_}
+use mathlib.Core.Path.{_≡_, sym, subst, subst₂, fun-ext}
 use Prim.Native.Nat.{ℕ, _≤_, _<_}
-use native.Mathlib.Nat.{le-trans}
 use native.Mathlib.Omega.{arith}
 use Rattle.rules.specs.Counting.{Set, without, count}
 use Rattle.rules.specs.Game.{Player, opponent, Game}

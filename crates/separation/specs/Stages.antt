@@ -1,7 +1,7 @@
 -- The passes of a solver for a, by stages: passes at half the precision until one finds nothing, one pass at full precision, and
 -- passes at half again until one finds nothing. A pass that was sharper than it was asked to be can end them at once.
 use mathlib.Core.Bool.{Bool, true, false, _&&_, _||_, cond}
-use mathlib.Core.Logic.{_⊎_, inl, inr, ⊎-elim}
+use mathlib.Core.Logic.{_⊎_, ⊎-elim}
 use mathlib.Core.Path.{_≡_, refl, sym, subst}
 use Prim.Native.Nat.{ℕ, zero, suc, _+_, _≤_, _<_, min}
 use native.Mathlib.Nat.{le-trans, le-min}
@@ -13,7 +13,7 @@ use Rattle.rules.specs.Game.{Player, opponent, Game}
 use Rattle.rules.specs.Attractor.{attractor}
 use Rattle.basics.specs.Basics.{bool-cases, and-left, and-right, and-intro, Subset, without-left, count-le}
 use Rattle.theory.specs.AttractorComplement.{TotalIn}
-use Rattle.separation.specs.Separates.{Small, Separates, fewer, precision-cut}
+use Rattle.separation.specs.Separates.{Separates, fewer, precision-cut}
 use Rattle.separation.specs.Passing.{both, Narrowed, narrowed-not, narrowed-then}
 use Rattle.separation.specs.Passing.{Barren, Halved, Pass, left-small, barren-none}
 use Rattle.separation.specs.Passing.{pass-narrows, pass-barren, pass-halves, ends-full, ends-half}

@@ -9,7 +9,7 @@ use borrow.Author.Tests.{eq-eqb, ne-eqb}
 use lib.Bits.{bitAnd, bitOr, and-mask}
 use lib.Dec.{eqb, lit<}
 use lib.ListN.{length, getD, set, length-set}
-use lib.Pow.{shl-exact, pow-lt}
+use lib.Pow.{shl-exact}
 use lib.Seq.{getD-set-same, getD-set-other}
 use Rattle.rules.specs.Words.{digit, bit, setOf}
 use Rattle.set_bits.specs.After.{Put}
@@ -81,16 +81,6 @@ digit-insert w i k h =
     ∙ ap (λ (x : ℕ). max (digit w k) x) (digit-one-bit i k) ∙ go (eqb k i)
   where
     go : (t : Bool) → max (digit w k) (cond t 1 0) ≡ cond t 1 (digit w k)
-    go true = omega (arith, digit-lt w k)
-    go false = omega arith
-
--- w & !(1 << i) has digit 0 at i, and else the digits of w
-digit-remove : (w i k : ℕ) → i < 64 → k < 64 → digit (bitAnd w ((2 ^ 64 - 1) - (1 * 2 ^ i) % 2 ^ 64)) k ≡ cond (eqb k i) 0 (digit w k)
-digit-remove w i k h l =
-    ap (λ (x : ℕ). digit (bitAnd w ((2 ^ 64 - 1) - x)) k) (one-shifted i h) ∙ digit-and-not 64 w (2 ^ i) k (pow-lt h) l
-    ∙ ap (λ (x : ℕ). digit w k - x) (digit-one-bit i k) ∙ go (eqb k i)
-  where
-    go : (t : Bool) → digit w k - cond t 1 0 ≡ cond t 0 (digit w k)
     go true = omega (arith, digit-lt w k)
     go false = omega arith
 

@@ -1,22 +1,20 @@
 -- Laws of sets lent as words, for those who call the operations: bits and membership, a part of a longer work area, and what each
 -- operation makes of the set. All hold for any number of words.
 use mathlib.Core.Bool.{Bool, true, false, _&&_, _||_, not, cond}
-use mathlib.Core.List.{List, [], _∷_, _++_}
-use mathlib.Core.Logic.{_⊎_, inl, inr}
-use mathlib.Core.Path.{_≡_, refl, sym, ap, ap₂, _∙_, subst₂}
-use Prim.Native.Nat.{ℕ, zero, suc, _+_, _-_, _*_, _/_, _%_, _≤_, _<_, min, max, zero-le, suc-le-suc}
+use mathlib.Core.List.{List}
+use mathlib.Core.Path.{_≡_, refl, sym, ap, _∙_, subst₂}
+use Prim.Native.Nat.{ℕ, _+_, _-_, _*_, _/_, _%_, _≤_, _<_, max}
 use native.Mathlib.Decide.{ℕ-discrete, decLt}
-use native.Mathlib.Nat.{add-assoc, add-zero, zero-add, le-of-suc-le-suc, le-trans, not-suc-le-zero}
 use native.Mathlib.Omega.{arith}
-use borrow.Author.Tests.{eqb-true, eq-eqb, ne-eqb}
+use borrow.Author.Tests.{eq-eqb}
 use lib.Dec.{eqb, ltb}
-use lib.ListN.{length, getD, take, drop, replicate, length-replicate, getD-replicate, length-append, length-take, length-drop, List·getD-eq-default}
+use lib.ListN.{length, getD, take, drop, replicate, length-replicate, getD-replicate, List·getD-eq-default}
 use lib.Seq.{getD-take, getD-drop, ext-getD}
-use Rattle.rules.specs.Counting.{some, every, count, times, everyOf}
+use Rattle.rules.specs.Counting.{some}
 use Rattle.rules.specs.Words.{digit, bit, setOf}
 use Rattle.set_bits.specs.After.{Put, Combined, Cleared, Filled}
-use Rattle.basics.specs.Basics.{every-elim, some-false, count-cong, count-on, count-first}
-use Rattle.set_bits.specs.Digits.{digit-lt, digit-zero}
+use Rattle.basics.specs.Basics.{some-false}
+use Rattle.set_bits.specs.Digits.{digit-zero}
 use Rattle.sets.specs.Whole.{bit-lt, flag-of-digit}
 
 -- ---- bits and membership

@@ -8,7 +8,7 @@ use native.Mathlib.Nat.{mod-one}
 use native.Mathlib.Numerals.{add-one}
 use native.Mathlib.Decide.{ℕ-discrete}
 use native.Mathlib.Omega.{arith}
-use borrow.Author.Tests.{eqb-true, eqb-false, eq-eqb, ne-eqb}
+use borrow.Author.Tests.{eqb-false, eq-eqb, ne-eqb}
 use lib.Bits.{bitOr, or-add-and, and-le-l, and-le-r}
 use lib.Count.{ones, ones-step}
 use lib.Dec.{eqb, lit<}
@@ -16,7 +16,7 @@ use lib.ListN.{length, getD}
 use lib.Pow.{field, mod-mod-pow}
 use Rattle.rules.specs.Counting.{some, every, count}
 use Rattle.rules.specs.Words.{digit, bit, setOf}
-use Rattle.basics.specs.Basics.{bool-cases, every-intro, every-elim, false-some, some-false, count-cong, count-first}
+use Rattle.basics.specs.Basics.{bool-cases, every-intro, false-some, some-false, count-cong, count-first}
 use Rattle.set_bits.specs.Digits.{digit-lt, digit-low, digit-up, digit-zero, digits-tell}
 
 -- the bits of word i

@@ -1,11 +1,11 @@
 -- What a reader may conclude of `show_loop`, from its contract alone: past the checks it answers exactly where the one owner
 -- wins the vertex by demand 2, and gives 46 exactly where there is no run; and two results that meet the contract differ in the
 -- run alone.
-use mathlib.Core.Bool.{true, false, not}
+use mathlib.Core.Bool.{true, false}
 use mathlib.Core.List.{List}
-use mathlib.Core.Logic.{_⊎_, inl, inr, ⊎-elim}
-use mathlib.Core.Path.{_≡_, refl, sym, ap, _∙_}
-use Prim.Native.Nat.{ℕ, _<_}
+use mathlib.Core.Logic.{_⊎_, ⊎-elim}
+use mathlib.Core.Path.{_≡_, sym, ap, _∙_}
+use Prim.Native.Nat.{ℕ}
 use native.Mathlib.Omega.{arith}
 use lib.ListN.{length}
 use Rattle.rules.specs.Game.{opponent}
@@ -13,7 +13,7 @@ use Rattle.rules.specs.Loop.{Run, LentRun, loopChecks, check46, LoopShown, Loop
 use Rattle.rules.specs.Outcome.{Outcome, Verdict, none, refused}
 use Rattle.rules.specs.Solitaire.{solitaire, soleOwner}
 use Rattle.rules.specs.Solver.{cleared}
-use Rattle.rules.specs.Tables.{Tables, gameOf, vertices}
+use Rattle.rules.specs.Tables.{Tables, gameOf}
 use Rattle.rules.specs.Winning.{Wins}
 use Rattle.basics.specs.Basics.{bool-cases, clash}
 use Rattle.theory.specs.Loop.{run-solitaire, solitaire-run}

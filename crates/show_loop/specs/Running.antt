@@ -1,13 +1,12 @@
 -- From the lists that were written to the rules: a run, or a vertex outside the solitaire set; and what the public function
 -- leaves.
-use mathlib.Core.Bool.{Bool, true, false, not}
+use mathlib.Core.Bool.{true, false}
 use mathlib.Core.List.{List, []}
 use mathlib.Core.Logic.{_⊎_, inl, inr, ⊎-elim}
 use mathlib.Core.Path.{_≡_, refl, sym, ap, subst, _∙_}
 use Prim.Native.Nat.{ℕ, _+_, _-_, _*_, _/_, _%_, _≤_, _<_}
 use native.Mathlib.Omega.{arith}
-use borrow.Author.Tests.{eqb-true, eq-eqb, lt-ltb}
-use lib.Dec.{eqb}
+use borrow.Author.Tests.{eqb-true}
 use lib.ListN.{length, getD, take, drop, replicate, length-take}
 use Rattle.rules.specs.Game.{everywhere, parity, playerOf}
 use Rattle.rules.specs.Loop.{Run, LentRun, loopChecks, check46, LoopLeaves, ShowsLoop}
@@ -16,7 +15,7 @@ use Rattle.rules.specs.Outcome.{Outcome, Verdict, none, refused, outcome, answe
 use Rattle.rules.specs.Solitaire.{inside, atMost, onPart, solitaire, soleOwner, check11}
 use Rattle.rules.specs.Solver.{cleared}
 use Rattle.rules.specs.Tables.{Tables, gameOf, vertices, edgesIn, workWords, Accepted}
-use Rattle.basics.specs.Basics.{not-true-is-false, or-left, and-left}
+use Rattle.basics.specs.Basics.{not-true-is-false, and-left}
 use Rattle.theory.specs.Players.{true-same}
 use Rattle.theory.specs.Chosen.{chosenPart, on-part-chosen}
 use Rattle.theory.specs.Links.{Linked}

@@ -1,5 +1,5 @@
 -- Why the program reads no further than one byte beyond the limit: the line for the first 16,385 bytes is the line for the text.
-use mathlib.Core.List.{List, [], _∷_, _++_}
+use mathlib.Core.List.{List}
 use mathlib.Core.Logic.{⊎-elim}
 use mathlib.Core.Path.{_≡_, refl, sym, ap, subst, _∙_}
 use Prim.Native.Nat.{ℕ, _+_, _≤_, _<_}
@@ -12,7 +12,7 @@ use Rattle.rules.specs.Printing.{PrintsText}
 use Rattle.rules.specs.Reading.{Reads, limitsOfA1}
 use Rattle.basics.specs.Basics.{lt-or-ge}
 use Rattle.grammar.specs.Correct.{machine-reads}
-use Rattle.grammar.specs.Machine.{Run, live, ended, atFirst, next, stepAt, runFrom, Read, readingOf, endOf, nothingRead}
+use Rattle.grammar.specs.Machine.{Run, live, ended, atFirst, next, stepAt, runFrom, Read, readingOf, endOf}
 use Rattle.grammar.specs.OneReading.{reads-one}
 use Rattle.grammar.specs.Runs.{run-snoc, ended-reading}
 

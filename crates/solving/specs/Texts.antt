@@ -12,10 +12,10 @@ use Rattle.rules.specs.Counting.{times}
 use Rattle.rules.specs.Outcome.{Outcome, Verdict, none, refused, given, givenAt, outcome, answered, _then_}
 use Rattle.rules.specs.Pgsolver.{Header, Entry}
 use Rattle.rules.specs.Printing.{refusedLine, solvedLine, lineOf, PrintsText}
-use Rattle.rules.specs.Reading.{Reads, beyond, stuck, whole, limitsOfA1, readChecks, game, check31, wrongHighest, tablesRead}
+use Rattle.rules.specs.Reading.{Reads, beyond, stuck, whole, readChecks, game, check31, wrongHighest, tablesRead}
 use Rattle.rules.specs.Reading.{Limits, Rooms, Written, written, Told, ReadsBy, ReadsText, roomChecks, padded}
 use Rattle.rules.specs.Reading.{entryOf, targetsUpTo}
-use Rattle.rules.specs.Tables.{Tables, tablesOf, vertices, edgesIn, gameOf, tableChecks, Accepted}
+use Rattle.rules.specs.Tables.{Tables, tablesOf, gameOf, tableChecks, Accepted}
 use Rattle.basics.specs.Basics.{length-listed}
 use Rattle.parity_game.specs.Laws.{Numbered, numbered-then, numbered-given, numbered-givenAt, numbered-tables}
 use Rattle.parity_game.specs.Laws.{zero-none, then-none}

@@ -2,20 +2,20 @@
 use mathlib.Core.Bool.{true, false, _&&_}
 use mathlib.Core.List.{List, List·Memᴰ}
 use mathlib.Core.Logic.{_⊎_, inl, inr, ⊎-elim}
-use mathlib.Core.Path.{_≡_, refl, sym, ap, subst, _∙_}
+use mathlib.Core.Path.{_≡_, refl, sym, ap, _∙_}
 use Prim.Native.Nat.{ℕ, _+_, _≤_, _<_}
 use native.Mathlib.Decide.{ℕ-discrete}
 use native.Mathlib.Nat.{le-refl}
 use native.Mathlib.Omega.{arith}
 use borrow.Author.Tests.{eqb-true, eq-eqb}
 use lib.Dec.{eqb}
-use lib.ListN.{length, getD}
+use lib.ListN.{getD}
 use Rattle.rules.specs.Counting.{Set, someOf, lowest}
 use Rattle.rules.specs.Tables.{targetsOf}
 use Rattle.rules.specs.Words.{setOf}
 use Rattle.basics.specs.Basics.{not-true-is-false, and-intro, and-left, and-right, lt-or-ge, someOf-intro, someOf-elim, false-some}
 use Rattle.basics.specs.Basics.{lowest-unique, lowest-none}
-use Rattle.attractor_counters.specs.Counters.{EdgesOf}
+use Rattle.area.specs.EdgesOf.{EdgesOf}
 use Rattle.successors.specs.Edges.{target-place, place-target}
 
 -- w is the end of an edge of v and in S

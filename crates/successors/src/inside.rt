@@ -1,7 +1,7 @@
 // The lowest-numbered successor inside a set.
 use parity_game::VertexIndex;
 ghost use mathlib.Core.Path.{_≡_};
-ghost use Rattle.attractor_counters.specs.Counters.{EdgesOf};
+ghost use Rattle.area.specs.EdgesOf.{EdgesOf};
 ghost use Rattle.successors.specs.Lowest.{lowestEnd};
 
 // The lowest-numbered end of an edge of the vertex inside the set, n where there is none.

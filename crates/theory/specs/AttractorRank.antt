@@ -1,23 +1,22 @@
 -- The attractor's certificate: a rank that sinks along the entries at own vertices and along every inside edge elsewhere, down to T.
 -- The rules' attractor has one; a set that has one is the attractor; cycles in it meet T, and no walk of n steps avoids T.
-use mathlib.Core.Bool.{true, false, cond}
+use mathlib.Core.Bool.{true, false}
 use mathlib.Core.List.{List}
-use mathlib.Core.Logic.{_⊎_, inl, inr, ⊎-elim, by-cases}
+use mathlib.Core.Logic.{_⊎_, ⊎-elim, by-cases}
 use mathlib.Core.Path.{_≡_, refl, ap, fun-ext, sym, subst₃, _∙_}
-use Prim.Native.Nat.{ℕ, zero, suc, _≤_, _<_, zero-le}
-use native.Mathlib.Nat.{le-refl, le-trans, le-of-lt, not-suc-le-zero, lt-irrefl}
+use Prim.Native.Nat.{ℕ, zero, suc, _≤_, _<_}
+use native.Mathlib.Nat.{le-refl, le-of-lt, not-suc-le-zero}
 use native.Mathlib.Omega.{arith}
 use Rattle.rules.specs.Counting.{Set}
 use Rattle.rules.specs.Game.{Player, Game, Edge}
 use Rattle.rules.specs.Words.{noEntry, entry}
-use Rattle.rules.specs.Winning.{Walk, one, more, Cycle}
 use Rattle.rules.specs.Distance.{distance}
 use Rattle.rules.specs.Attractor.{Closed, IsAttractor, attractor}
 use Rattle.theory.specs.Arriving.{Avoids, still, own, other, AttractorEntries}
-use Rattle.basics.specs.Basics.{bool-cases, clash, not-false-is-true}
+use Rattle.basics.specs.Basics.{bool-cases}
 use Rattle.theory.specs.Players.{player-decided}
 use Rattle.theory.specs.Attractor.{by-own, by-other, drawn-so, draws-all, draws-one, Fits}
-use Rattle.theory.specs.Attractor.{attractor-is, attractor-inside, attractor-unique}
+use Rattle.theory.specs.Attractor.{attractor-is, attractor-inside}
 use Rattle.theory.specs.Distance.{grown-near, distance-low, distance-target, distance-draws, nearest, nearest-sinks}
 
 -- S is the attractor of T in V', shown by ranks: T has rank 0, an own vertex outside T has an entry to a lower rank, and from
@@ -114,11 +113,6 @@ pub same-pull :
 unfolding same-certificate certificate-cong
 same-pull g a V' T S fits is v = attractor-pull g a V' T fits v
 
-pub is-certificate :
-    (g : Game) (a : Player) (V' T S : Set) → Fits g V' T → IsAttractor g a V' T S → Ranked g a V' T S
-is-certificate g a V' T S fits is =
-    same-certificate g a V' T S fits (attractor-unique (attractor-is g a V' T fits) is)
-
 module _ {g : Game} {a : Player} {V' T S : Set} (c : Ranked g a V' T S) where
   -- a member outside T has a rank above 0
   pub rank-pos : (v : ℕ) → S v ≡ true → T v ≡ false → 0 < c .rank v
@@ -158,109 +152,7 @@ module _ {g : Game} {a : Player} {V' T S : Set} (c : Ranked g a V' T S) where
   certificate-is =
       record { closed = c .closed; smallest = λ S' is v p. climbs-all S' is (suc (c .rank v)) v (le-refl (suc (c .rank v))) p }
 
--- a certificate from any order in which the members came in, so that entries and inside edges lead to earlier places
-module _
-    {g : Game}
-    {a : Player}
-    {V' T S : Set}
-    (place pull : ℕ → ℕ)
-    (closed : Closed g a V' T S)
-    (inside : (v : ℕ) → S v ≡ true → V' v ≡ true)
-    (low : (v : ℕ) → S v ≡ true → place v < g .size)
-    (pulled :
-    (v : ℕ) →
-    S v ≡ true →
-    T v ≡ false →
-    g .owner v ≡ a →
-    Edge g v (pull v) × (S (pull v) ≡ true) × (place (pull v) < place v))
-    (pushed :
-    (v : ℕ) →
-    S v ≡ true →
-    T v ≡ false →
-    (g .owner v ≡ a → ⊥) →
-    (w : ℕ) →
-    Edge g v w →
-    V' w ≡ true →
-    (S w ≡ true) × (place w < place v))
-    (leads : (v : ℕ) → S v ≡ true → T v ≡ false → (g .owner v ≡ a → ⊥) → (w : ℕ) × Edge g v w × (V' w ≡ true))
-  where
-    -- T has rank 0, the others one more than their place
-    after : ℕ → ℕ
-    after v = cond (T v) 0 (suc (place v))
-
-    after-le : (v : ℕ) → after v ≤ suc (place v)
-    unfolding after
-    after-le v = ⊎-elim (λ t. rw t zero-le) (λ t. rw t (le-refl (suc (place v)))) (bool-cases (T v))
-
-    after-lt : (v w : ℕ) → T v ≡ false → place w < place v → after w < after v
-    unfolding after
-    after-lt v w t l = rw t (let h = after-le w in omega arith)
-
-    after-start : (v : ℕ) → T v ≡ true → after v ≡ 0
-    unfolding after
-    after-start v t = rw t
-
-    pub order-certificate : Ranked g a V' T S
-    order-certificate =
-        record {
-          rank = after;
-          pull = pull;
-          closed = closed;
-          inside = inside;
-          low = λ v p. le-trans (after-le v) (low v p);
-          start = after-start;
-          pulled = λ v p t o. let (e, s, l) = pulled v p t o in (e, s, after-lt v (pull v) t l);
-          pushed = λ v p t o w e i. let (s, l) = pushed v p t o w e i in (s, after-lt v w t l);
-          leads = leads;
-        }
-
--- a move from a member by the certificate: an edge inside V', and from an own vertex outside T the entry
-pub record Drawing {g : Game} {a : Player} {V' T S : Set} (c : Ranked g a V' T S) (v w : ℕ) : Type 0 where
-  pub member : S v ≡ true
-  pub edge : Edge g v w
-  pub inside : V' w ≡ true
-  pub entered : T v ≡ false → g .owner v ≡ a → w ≡ c .pull v
-
--- a walk along R of highest priority m leaves a vertex of T: the vertex, and the move by which it leaves it
-pub record Leaves (priority : ℕ → ℕ) (R : ℕ → ℕ → Type 0) (T : Set) (m : ℕ) : Type 0 where
-  pub vertex : ℕ
-  pub next : ℕ
-  pub move : R vertex next
-  pub met : T vertex ≡ true
-  pub high : priority vertex ≤ m
-
 module _ {g : Game} {a : Player} {V' T S : Set} (c : Ranked g a V' T S) where
-  -- outside T such a move stays in S and sinks
-  pub sinks : {v w : ℕ} → Drawing c v w → T v ≡ false → (S w ≡ true) × (c .rank w < c .rank v)
-  sinks {v} {w} d t =
-      by-cases
-      (player-decided (g .owner v) a)
-      (λ o. let (e, s, r) = c .pulled v (d .member) t o in rw (d .entered t o) (s, r))
-      (λ o. c .pushed v (d .member) t o w (d .edge) (d .inside))
-
-  module _ {priority : ℕ → ℕ} {R : ℕ → ℕ → Type 0} (moves : (v w : ℕ) → R v w → Drawing c v w) where
-    -- a walk of such moves leaves a vertex of T, or sinks
-    pub meets-or-sinks : {v w m : ℕ} → Walk priority R v w m → Leaves priority R T m ⊎ (c .rank w < c .rank v)
-    meets-or-sinks (one {v} {w} r) =
-        ⊎-elim
-        (λ t. inl (record { vertex = v; next = w; move = r; met = t; high = le-refl (priority v) }))
-        (λ t. inr (sinks (moves v w r) t .1))
-        (bool-cases (T v))
-    meets-or-sinks (more {v} {w} {u} {m} r rest) =
-        ⊎-elim
-        (λ t. inl (record { vertex = v; next = w; move = r; met = t; high = omega arith }))
-        (λ t.
-        ⊎-elim
-        (λ old.
-        inl (record { vertex = old .vertex; next = old .next; move = old .move; met = old .met; high = omega arith }))
-        (λ less. let first = sinks (moves v w r) t .1 in inr (omega arith))
-        (meets-or-sinks rest))
-        (bool-cases (T v))
-
-    -- **every cycle of such moves leaves a vertex of T**
-    pub cycle-meets : {v m : ℕ} → Cycle priority R v m → Leaves priority R T m
-    cycle-meets {v} {m} walk = ⊎-elim (λ met. met) (λ less. absurd (lt-irrefl (c .rank v) less)) (meets-or-sinks walk)
-
   module _ (strategy : List ℕ) (follows : (v : ℕ) → S v ≡ true → T v ≡ false → g .owner v ≡ a → entry strategy v ≡ c .pull v) where
     -- a walk that goes by the entries and avoids T is shorter than the rank of the member that it starts at
     pub avoids-short : {k v : ℕ} → S v ≡ true → Avoids g a V' T strategy k v → k < c .rank v

@@ -1,7 +1,7 @@
 -- A fresh count and one changed priority: the old one's count is lowered, the new one's raised, and the other two kept numbers are
 -- functions of the counts alone. And the highest and the different ones that the counts tell are those of the vertices.
-use mathlib.Core.Bool.{Bool, true, false, not, cond, _&&_}
-use mathlib.Core.List.{List, [], _∷_, _++_, List·Memᴰ}
+use mathlib.Core.Bool.{Bool, true, false, not, cond}
+use mathlib.Core.List.{List, [], _∷_}
 use mathlib.Core.Logic.{⊎-elim}
 use mathlib.Core.Path.{_≡_, refl, sym, ap, _∙_}
 use Prim.Native.Nat.{ℕ, zero, suc, _+_, _-_, _≤_, _<_, zero-le}
@@ -12,9 +12,9 @@ use lib.Dec.{eqb}
 use lib.ListN.{length, getD, take, set, length-set, length-append}
 use lib.Seq.{getD-set-same, getD-set-other, take-set-lt, getD-take, ext-getD, take-at}
 use Rattle.rules.specs.Compaction.{used}
-use Rattle.rules.specs.Counting.{Set, every, count, some, times, greatest}
+use Rattle.rules.specs.Counting.{count, times, greatest}
 use Rattle.rules.specs.Record.{countsOf, counted, differentIn, highestIn, keptFor, freshCount, sameList}
-use Rattle.basics.specs.Basics.{bool-cases, clash, bool-ext, and-intro, and-left, and-right, every-intro, every-elim, not-false-is-true}
+use Rattle.basics.specs.Basics.{bool-cases, bool-ext, and-intro, and-left, and-right, every-intro, every-elim}
 use Rattle.basics.specs.Basics.{length-listed, getD-listed, times-pos, times-member, place-member, member-place, count-cong, some-intro, some-elim}
 use Rattle.basics.specs.Greatest.{greatest-bounds, greatest-le}
 

@@ -9,12 +9,12 @@ use native.Mathlib.Nat.{le-refl}
 use native.Mathlib.Omega.{arith}
 use borrow.Author.Tests.{eqb-true, eq-eqb, not-true}
 use lib.Dec.{eqb}
-use Rattle.rules.specs.Counting.{Set, some, someOf, lowest, without}
+use Rattle.rules.specs.Counting.{Set, some, someOf, lowest}
 use Rattle.rules.specs.Game.{Player, Game, Edge, same}
 use Rattle.rules.specs.Words.{noEntry}
 use Rattle.rules.specs.Attractor.{grown, attractor}
 use Rattle.rules.specs.Distance.{outside, leastOf, greatestOf, IsDistance, distance, lowestIn, attractorEntry}
-use Rattle.basics.specs.Basics.{bool-cases, clash, bool-ext, without-intro, without-left, without-right}
+use Rattle.basics.specs.Basics.{bool-cases, clash}
 use Rattle.basics.specs.Basics.{not-true-is-false, and-intro, and-left, and-right, lt-or-ge}
 use Rattle.theory.specs.Players.{player-decided}
 use Rattle.theory.specs.Players.{same-true, true-same}

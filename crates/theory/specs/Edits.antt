@@ -1,18 +1,17 @@
 -- From a record that passes, after any sequence of edits, refused ones included: it passes again, its kept numbers are what a fresh
 -- count of its tables gives, and every entry that no edit names is as it was.
-use mathlib.Core.Bool.{Bool, true, false, not, _||_}
+use mathlib.Core.Bool.{Bool, false, _||_}
 use mathlib.Core.List.{List, [], _∷_}
 use mathlib.Core.Logic.{⊎-elim}
-use mathlib.Core.Path.{_≡_, refl, sym, ap, _∙_}
+use mathlib.Core.Path.{_≡_, refl, sym, _∙_}
 use Prim.Native.Nat.{ℕ, _+_, _≤_, _<_}
-use native.Mathlib.Omega.{arith}
-use borrow.Author.Tests.{ltb-false, leb-false, le-ltb, eq-eqb, eqb-true, eqb-false, not-false}
+use borrow.Author.Tests.{ltb-false, leb-false, le-ltb, eqb-true, eqb-false, not-false}
 use lib.Dec.{eqb, ltb, leb}
 use lib.ListN.{length, getD, take, drop, set, length-set}
 use lib.Seq.{getD-set-same, getD-set-other, take-set-lt, drop-set-lt, length-take-le}
 use Rattle.rules.specs.Outcome.{Verdict, none, refused, given, _then_}
 use Rattle.rules.specs.Tables.{Tables, tablesOf, vertices, edgesIn, check1, tableChecks, Accepted}
-use Rattle.rules.specs.Record.{Record, Edit, setPriority, setOwner, turnEdge, tablesIn, freshCount, sameList, withPriorities, withOwners, withTargets}
+use Rattle.rules.specs.Record.{Record, Edit, setPriority, setOwner, turnEdge, tablesIn, freshCount, withPriorities, withOwners, withTargets}
 use Rattle.rules.specs.Record.{room2, room3, sizeChecks, recordTables, keptCheck, check47, recordChecks, ownChecks, editChecks, changed, leftBy, edited, editedBy}
 use Rattle.basics.specs.Basics.{bool-cases, or-false-both}
 use Rattle.theory.specs.Counts.{same-equal, equal-same}
@@ -165,9 +164,6 @@ module _ (r : Record) (h : EditPassing r) where
 
   p-long : length (take (r .n) (r .priorities)) ≡ r .n
   p-long = length-take-le (r .n) (r .priorities) (h .room .priority-room)
-
-  m-long : edgesIn (tablesIn r) ≡ r .m
-  m-long = length-take-le (r .m) (r .targets) (h .room .target-room)
 
   priority-set : (v p : ℕ) → v < r .n → p ≤ 255 → EditPassing (withPriorities r (set (r .priorities) v p))
   priority-set v p l low =

@@ -14,7 +14,6 @@ pub mod Arriving
 pub mod Distance
 pub mod AttractorRank
 pub mod DistanceEntries
-pub mod AttractorEntries
 pub mod AttractorComplement
 pub mod AttractorLooks
 pub mod AttractorSteps

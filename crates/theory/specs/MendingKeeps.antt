@@ -87,20 +87,6 @@ altered-targets t v l p = mended-targets t v l ∙ rw p
 
 -- ---- the list
 
-dropped-below : (t : Tables) (k e : ℕ) → List·Memᴰ e (droppedUpTo t k) → e < k
-unfolding droppedUpTo
-dropped-below t zero e m = absurd (List·Memᴰ·not-nil m)
-dropped-below t (suc k) e m =
-    ⊎-elim
-    (λ before. let l = dropped-below t k e before in omega arith)
-    (λ here.
-    ⊎-elim
-    (λ (p : isVertex t (getD (t .targets) k 0) ≡ true). absurd (List·Memᴰ·not-nil (rw p at here)))
-    (λ (p : isVertex t (getD (t .targets) k 0) ≡ false).
-    let q = List·Memᴰ·eq-of-singleton (rw p at here) in omega arith)
-    (bool-cases (isVertex t (getD (t .targets) k 0))))
-    (List·Memᴰ·append-cases (droppedUpTo t k) m)
-
 -- an edge that is listed is dropped
 pub listed-dropped : (t : Tables) (k e : ℕ) → List·Memᴰ e (droppedUpTo t k) → isVertex t (getD (t .targets) e 0) ≡ false
 unfolding droppedUpTo

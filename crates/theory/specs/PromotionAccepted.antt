@@ -20,7 +20,7 @@ use Rattle.accepted.specs.Tables.{accepted-total, accepted-few, accepted-priori
 use Rattle.theory.specs.PromotionEntries.{Rounded}
 use Rattle.theory.specs.PromotionRounds.{lowerVertices}
 use Rattle.theory.specs.PromotionInvariant.{Invariant, rounded-invariant}
-use Rattle.theory.specs.PromotionSound.{promotion-sets, promotion-entries}
+use Rattle.theory.specs.PromotionSound.{promotion-sets}
 use Rattle.theory.specs.PromotionExists.{rounds-sets}
 use Rattle.theory.specs.PromotionChosen.{promotion-entries-win}
 use Rattle.theory.specs.PromotionSame.{rounded-strategy}
@@ -87,19 +87,6 @@ module _ (t : Tables) (ok : Accepted t) where
     -- **the sets are exactly the winning sets,**
     pub accepted-promotion-sets : allSolved (gameOf t) s ≡ true → WinningSets (gameOf t) (s .won)
     accepted-promotion-sets = promotion-sets (gameOf t) (accepted-total t ok) small-priorities few-vertices rounded
-
-    -- **and the entries at the winners' own vertices are a winning choice.**
-    pub accepted-promotion-entries :
-        allSolved (gameOf t) s ≡ true →
-        (strategy : List ℕ) →
-        ((a : Player) (v : ℕ) → v < gameOf t .size → s .won a v ≡ true → gameOf t .owner v ≡ a → entry strategy v ≡ σ v) →
-        ((a : Player) (v : ℕ) →
-        v < gameOf t .size →
-        s .won a v ≡ true →
-        (gameOf t .owner v ≡ a → ⊥) →
-        entry strategy v ≡ noEntry) →
-        WinningEntries (gameOf t) (s .won) strategy
-    accepted-promotion-entries = promotion-entries (gameOf t) (accepted-total t ok) small-priorities few-vertices rounded
 
     -- **And a table of them, with none elsewhere, is the table of the state's entries.**
     pub accepted-promotion-strategy :

@@ -1,16 +1,14 @@
 -- Plain laws that the rounds of priority promotion need: what a function is below n, and the vertices of a region or of regions
 -- up to one.
 use mathlib.Core.Bool.{true, false, _&&_}
-use mathlib.Core.Logic.{_⊎_, inl, inr, ⊎-elim}
-use mathlib.Core.Path.{_≡_, refl, fun-ext, subst₂}
-use Prim.Native.Nat.{ℕ, zero, suc, _≤_, _<_}
-use native.Mathlib.Nat.{le-refl, le-step}
-use borrow.Author.Tests.{eqb-true, eqb-false, eq-eqb, leb-true, le-leb, lt-ltb, le-ltb}
+use mathlib.Core.Path.{_≡_, fun-ext, subst₂}
+use Prim.Native.Nat.{ℕ, _≤_}
+use borrow.Author.Tests.{eqb-true, eq-eqb, leb-true, le-leb}
 use lib.Dec.{eqb, leb}
-use Rattle.rules.specs.Counting.{Set, lowest, noted}
+use Rattle.rules.specs.Counting.{Set}
 use Rattle.rules.specs.Game.{Player, Game}
 use Rattle.rules.specs.Attractor.{Closed}
-use Rattle.basics.specs.Basics.{bool-cases, clash, and-intro, and-left, and-right, some-cong}
+use Rattle.basics.specs.Basics.{clash, and-intro, and-left, and-right}
 use Rattle.basics.specs.Basics.{not-true-is-false}
 
 -- regions

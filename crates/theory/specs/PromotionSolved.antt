@@ -6,12 +6,11 @@ use mathlib.Core.Path.{_≡_, refl, sym, _∙_}
 use Prim.Native.Nat.{ℕ, _<_}
 use borrow.Author.Tests.{lt-ltb, ltb-true}
 use Rattle.rules.specs.Counting.{Set, without, union}
-use Rattle.rules.specs.Game.{Player, Game, Edge, Total, everywhere, opponent}
+use Rattle.rules.specs.Game.{Player, Game, Edge, everywhere}
 use Rattle.basics.specs.Basics.{bool-cases, clash, not-true-is-false, without-left, without-right, without-intro}
 use Rattle.theory.specs.Players.{player-decided, other-player}
 use Rattle.basics.specs.Basics.{union-left, union-right}
-use Rattle.theory.specs.OneWinner.{not-both-win}
-use Rattle.theory.specs.Dominion.{HeldOver, Dominion, dominion-cong, dominion-empty, dominion-join, dominion-wins}
+use Rattle.theory.specs.Dominion.{HeldOver, Dominion, dominion-cong, dominion-empty, dominion-join}
 
 -- what the solved vertices are
 pub record SolvedAre (g : Game) (X : Set) (won : Player → Set) (σ : ℕ → ℕ) : Type 0 where
@@ -62,23 +61,6 @@ solved-entries {g} {X} {won} {σ} σ' same solved =
       apart = solved .apart;
       barred = solved .barred;
     }
-
--- no vertex is won by both
-pub solved-disjoint :
-    {g : Game} {X : Set} {won : Player → Set} {σ : ℕ → ℕ} →
-    Total g →
-    SolvedAre g X won σ →
-    (a : Player) (v : ℕ) →
-    won a v ≡ true →
-    won (opponent a) v ≡ false
-solved-disjoint {g} {X} {won} total solved a v m =
-    not-true-is-false
-    (won (opponent a) v)
-    (λ n.
-    not-both-win g total a v
-    (ltb-true v (g .size) (solved .dominion a .within v m))
-    (dominion-wins total (solved .dominion a) v m)
-    (dominion-wins total (solved .dominion (opponent a)) v n))
 
 -- one more dominion D among the unsolved, which draws in nothing more of them
 module _

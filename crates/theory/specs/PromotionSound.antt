@@ -1,20 +1,19 @@
 -- Soundness of priority promotion: once all vertices are solved, the two sets are exactly the winning sets, and the entries at the winners' own
 -- vertices are a winning choice. So the sets are those of any other solver that is right.
-use mathlib.Core.Bool.{true, false}
+use mathlib.Core.Bool.{true}
 use mathlib.Core.List.{List}
 use mathlib.Core.Logic.{_⊎_, inl, inr}
 use mathlib.Core.Path.{_≡_}
 use Prim.Native.Nat.{ℕ, _≤_, _<_}
 use borrow.Author.Tests.{not-true}
 use Rattle.rules.specs.Counting.{Set}
-use Rattle.rules.specs.Game.{Player, Even, Odd, opponent, Game, Total}
+use Rattle.rules.specs.Game.{Player, Even, Odd, Game, Total}
 use Rattle.rules.specs.Winning.{WinningSets, WinningEntries}
 use Rattle.rules.specs.Words.{noEntry, entry}
 use Rattle.rules.specs.Promotion.{Regions, allSolved}
 use Rattle.basics.specs.Basics.{bool-ext, some-false}
 use Rattle.theory.specs.Dominion.{partition-exact, partition-entries}
 use Rattle.theory.specs.PromotionEntries.{remaining, Rounded}
-use Rattle.theory.specs.PromotionSolved.{solved-disjoint}
 use Rattle.theory.specs.PromotionInvariant.{Invariant, rounded-invariant}
 
 -- two pairs of winning sets of a game agree
@@ -44,10 +43,6 @@ module _
     invariant : Invariant g s σ
     invariant = rounded-invariant g total low few rounded
 
-    -- No vertex is won by both, solved or not all solved yet.
-    pub promotion-disjoint : (a : Player) (v : ℕ) → s .won a v ≡ true → s .won (opponent a) v ≡ false
-    promotion-disjoint = solved-disjoint total (invariant .solved)
-
     module _ (done : allSolved g s ≡ true) where
       -- all vertices are solved, so each is won
       all-won : (v : ℕ) → v < g .size → (s .won Even v ≡ true) ⊎ (s .won Odd v ≡ true)
@@ -70,8 +65,3 @@ module _
           WinningEntries g (s .won) strategy
       promotion-entries strategy chosen absent =
           partition-entries g total (s .won) (λ a. σ) strategy (invariant .solved .dominion) chosen absent
-
-      -- **So the sets are those of every other solver that gives the winning sets**, Zielonka's among them.
-      pub promotion-agrees :
-          (won : Player → Set) → WinningSets g won → (a : Player) (v : ℕ) → v < g .size → s .won a v ≡ won a v
-      promotion-agrees won exact = winning-sets-agree g (s .won) won promotion-sets exact

@@ -9,7 +9,7 @@ use native.Mathlib.Omega.{arith}
 use borrow.Author.Tests.{eqb-true, ltb-true, lt-ltb}
 use lib.Dec.{eqb, ltb}
 use Rattle.rules.specs.Counting.{Set, some, someOf, noted, without}
-use Rattle.rules.specs.Game.{parity, Game, Edge, Total, same}
+use Rattle.rules.specs.Game.{Game, Edge, Total, same}
 use Rattle.rules.specs.Promotion.{Regions, solvedRegion, unsolved, highestRegion, atStart, regionSet, isOpen, wayOut, roundOf}
 use Rattle.basics.specs.Basics.{bool-cases, clash, and-intro, and-left, and-right, some-intro, some-elim, lt-or-ge, le-of-not-lt, someOf-false}
 use Rattle.theory.specs.AttractorComplement.{TotalIn, rest-total}
@@ -17,7 +17,7 @@ use Rattle.basics.specs.Greatest.{greatest-bounds, greatest-some}
 use Rattle.basics.specs.Basics.{noted-below}
 use Rattle.theory.specs.PromotionBasics.{at-intro, up-in, up-le}
 use Rattle.theory.specs.PromotionEntries.{mover, remaining, promotedTo, dominionSet}
-use Rattle.theory.specs.PromotionRegions.{Placed, SettledAt, below-total, promoted-player, placed-afresh, placed-attracted, attracted-settled}
+use Rattle.theory.specs.PromotionRegions.{Placed, SettledAt, below-total, placed-afresh, placed-attracted, attracted-settled}
 use Rattle.theory.specs.PromotionRegions.{placed-lower, Promotes, Moved, lifted, reset, stayed, placed-promoted, gained-is}
 use Rattle.theory.specs.PromotionTests.{unsolved-below, unsolved-intro, highest-present, highest-top, highest-small, region-certificate}
 use Rattle.theory.specs.PromotionTests.{region-in, region-out, open-elim, closed-other, way-intro, way-elim, way-at, promoted-lowest}

@@ -16,14 +16,13 @@ use Rattle.rules.specs.Tables.{Tables, vertices, gameOf}
 use Rattle.rules.specs.Winning.{Cycle, Reach, here, Step, Wins, WinningSets}
 use Rattle.rules.specs.Zielonka.{highestIn}
 use Rattle.rules.specs.Solitaire.{inside, reached, atMost, onPart, solitaire, check11}
-use Rattle.basics.specs.Basics.{bool-cases, clash, bool-ext, not-true-is-false, and-intro, and-left, and-right}
+use Rattle.basics.specs.Basics.{bool-cases, clash, bool-ext, and-intro, and-left, and-right}
 use Rattle.basics.specs.Basics.{some-intro, some-elim, some-false, someOf-intro, someOf-elim, within-below, within-member}
 use Rattle.theory.specs.Players.{same-true, true-same, player-cases, opponent-is-other}
 use Rattle.basics.specs.Greatest.{greatest-bounds}
 use Rattle.theory.specs.Walks.{Among, reach-append, reach-map, walk-map, walk-among, reach-walk, hits}
 use Rattle.theory.specs.Walks.{leaves-start, highest-bounds, highest-is, highest-le, no-falling-cycle}
 use Rattle.theory.specs.Orbit.{comes-back}
-use Rattle.theory.specs.OneWinner.{not-both-win}
 use Rattle.theory.specs.Dominion.{Dominion, HeldOver, Inside, dominion-wins, dominion-drawn, ranked-held}
 use Rattle.accepted.specs.Tables.{given-none}
 use Rattle.theory.specs.Links.{Linked, reached-reach, reach-reached, reached-from, cycle-on-cycle}
@@ -370,18 +369,6 @@ module _ (g : Game) (total : Total g) (a : Player) (one : (v : ℕ) → v < g .s
             (λ theirs. theirs)
             (player-cases a (parity m));
       }
-
-  pub solitaire-rest-exact :
-      (won : Player → Set) → WinningSets g won → (v : ℕ) → v < g .size → won (opponent a) v ≡ not (solitaire g a v)
-  solitaire-rest-exact won sets v small =
-      ⊎-elim
-      (λ q.
-      rw q
-      (not-true-is-false
-      (won (opponent a) v)
-      (λ t. not-both-win g total a v small (solitaire-wins v q) (sets (opponent a) v small .0 t))))
-      (λ q. rw q (sets (opponent a) v small .1 (solitaire-rest v small q)))
-      (bool-cases (solitaire g a v))
 
 -- Tables that 11 does not refuse have one owner.
 pub accepted-one-owner :

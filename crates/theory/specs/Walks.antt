@@ -196,27 +196,6 @@ module _ {priority : ℕ → ℕ} where
       {R : Relation} {v m : ℕ} (rank : ℕ → ℕ) → ((x y : ℕ) → R x y → rank y < rank x) → Cycle priority R v m → ⊥
   no-falling-cycle {v} rank sinks c = lt-irrefl (rank v) (falls rank sinks c)
 
-  -- a rank that never rises along an edge does not rise along a walk
-  pub never-rises :
-      {R : Relation} {v w m : ℕ} (rank : ℕ → ℕ) → ((x y : ℕ) → R x y → rank y ≤ rank x) → Walk priority R v w m → rank w ≤ rank v
-  never-rises rank sinks (one e) = sinks _ _ e
-  never-rises rank sinks (more e c) = le-trans (never-rises rank sinks c) (sinks _ _ e)
-
-  -- so a walk that ends no lower than it starts, as a cycle does, lies among vertices of one rank
-  pub one-level :
-      {R : Relation} {v w m : ℕ} (rank : ℕ → ℕ) (k : ℕ) →
-      ((x y : ℕ) → R x y → rank y ≤ rank x) →
-      rank v ≤ k →
-      k ≤ rank w →
-      Walk priority R v w m →
-      Walk priority (Among (λ u. rank u ≡ k) R) v w m
-  one-level rank k sinks low high (one {v} {w} e) =
-      let less = sinks v w e in one (record { edge = e; start = omega arith; end = omega arith })
-  one-level rank k sinks low high (more {v} {w} e c) =
-      let less = sinks v w e in
-      let rest = never-rises rank sinks c in
-      more (record { edge = e; start = omega arith; end = omega arith }) (one-level rank k sinks (le-trans less low) high c)
-
   -- a sequence of vertices along R: from one of them to a later one there is a walk
   pub sequence-walk :
       {R : Relation} (f : ℕ → ℕ) → ((k : ℕ) → R (f k) (f (suc k))) → (i d : ℕ) → (m : ℕ) × Walk priority R (f i) (f (i + suc d)) m

@@ -3,7 +3,7 @@
 use mathlib.Core.Bool.{Bool, true, false, not, _&&_, cond}
 use mathlib.Core.List.{List, [], _∷_}
 use mathlib.Core.Path.{_≡_, refl, subst}
-use Prim.Native.Nat.{ℕ, _+_}
+use Prim.Native.Nat.{ℕ}
 use lib.Dec.{lit≤}
 use Rattle.rules.specs.Counting.{some, every, count, someOf, everyOf, times, lowest, listed, within, noted, greatest}
 use Rattle.rules.specs.Game.{Player, Even, Odd, Game, everywhere, edges, parity}

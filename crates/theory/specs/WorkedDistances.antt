@@ -1,11 +1,10 @@
 -- Distances and entries of three small games, by their definitions: a path, a tie, and a vertex of the opponent's that is drawn in
 -- late. Each is Even's attractor.
-use mathlib.Core.Bool.{true, false, _&&_, not, cond}
 use mathlib.Core.List.{List, [], _∷_}
 use mathlib.Core.Path.{_≡_, refl}
 use Prim.Native.Nat.{ℕ}
 use Rattle.rules.specs.Counting.{some, someOf, everyOf, lowest, listed, within, noted}
-use Rattle.rules.specs.Game.{Even, Game}
+use Rattle.rules.specs.Game.{Even}
 use Rattle.rules.specs.Tables.{Tables, gameOf, degree, targetsOf}
 use Rattle.rules.specs.Words.{digit, bit, setOf}
 use Rattle.rules.specs.Attractor.{drawn, grown, attractor}

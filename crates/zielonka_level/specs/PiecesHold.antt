@@ -3,7 +3,7 @@ use mathlib.Core.Bool.{Bool, true, false, _&&_, _||_, not, cond}
 use mathlib.Core.List.{List}
 use mathlib.Core.Logic.{_⊎_, inl, inr, ⊎-elim}
 use mathlib.Core.Path.{_≡_, refl, sym, ap, ap₂, subst, fun-ext, _∙_}
-use Prim.Native.Nat.{ℕ, zero, suc, _+_, _-_, _*_, _%_, _≤_, _<_, _^_, max}
+use Prim.Native.Nat.{ℕ, zero, suc, _+_, _-_, _*_, _%_, _≤_, _<_, max}
 use native.Mathlib.Omega.{arith}
 use borrow.Author.Tests.{lt-ltb}
 use lib.Dec.{eqb, ltb}
@@ -24,13 +24,13 @@ use Rattle.theory.specs.Run.{Cut, attractor-cut, cut-entry}
 use Rattle.accepted.specs.Tables.{accepted-sound, accepted-few}
 use Rattle.area.specs.Area.{entries, free, wordsAt, setAt}
 use Rattle.attractor.specs.Attracted.{Attractable, Attracted, listed-kept, edges-sound}
-use Rattle.area.specs.Lent.{part-is, part-length, words-few}
+use Rattle.area.specs.Lent.{part-is, part-length}
 use Rattle.priority_sets.specs.Sorting.{setOfPriority, PriorityPlaceable, set-room}
 use Rattle.area.specs.Walked.{Beside}
 use Rattle.successors.specs.Lowest.{lowestEnd}
 use Rattle.set_difference.specs.Without.{WithoutAt, CommonAt}
 use Rattle.area.specs.SetsAt.{set-kept, set-united, set-reduced}
-use Rattle.zielonka_level.specs.Level.{nextLevel, oddPlace, drawnPlace, firstLevel, onLevel, drawnAt, oddAt, goesTo, isOdd, wonOf}
+use Rattle.zielonka_level.specs.Level.{nextLevel, oddPlace, drawnPlace, firstLevel, onLevel, drawnAt, oddAt, isOdd}
 use Rattle.zielonka_level.specs.Level.{entriesOf, Called, Stays}
 use Rattle.zielonka_level.specs.Steps.{CutBy, AllAt, LostBy, Unmoved, stays-on, sorted-kept, level-stays, cut-over}
 use Rattle.highest_priority.specs.Extending.{Extends, Extended}

@@ -18,12 +18,11 @@ use Rattle.rules.specs.Distance.{lowestIn}
 use Rattle.rules.specs.Zielonka.{withPriority}
 use Rattle.area.specs.Area.{free, entries}
 use Rattle.attractor.specs.Attracted.{listed-kept}
-use Rattle.basics.specs.Basics.{bool-cases, clash, not-true-is-false, and-left, and-intro, without-right}
+use Rattle.basics.specs.Basics.{bool-cases, clash, not-true-is-false, and-left, without-right}
 use Rattle.theory.specs.Distance.{lowestIn-found}
 use Rattle.theory.specs.Run.{Top, Cut, empty, all-won, some-lost}
 use Rattle.theory.specs.Run.{cut-inside, cut-total, cut-fewer, first-fewer}
 use Rattle.theory.specs.RunSame.{Needs, needs-one, needs-first, needs-both}
-use Rattle.theory.specs.RunSound.{run-sound}
 use Rattle.area.specs.SetsAt.{set-kept}
 use Rattle.priority_sets.specs.Sorting.{sets-stay}
 use Rattle.zielonka_level.specs.Level.{nextLevel, oddPlace, drawnPlace, firstLevel, onLevel, drawnAt, oddAt, goesTo, isOdd}

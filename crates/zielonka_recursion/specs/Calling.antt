@@ -19,7 +19,7 @@ use Rattle.sets.specs.Laws.{no-member}
 use Rattle.basics.specs.Basics.{clash, and-left, and-intro, without-right, not-true-is-false, some-elim, some-false, count-pos}
 use Rattle.theory.specs.Run.{Top, Cut, highest-top, cut-inside}
 use Rattle.accepted.specs.Tables.{accepted-sound}
-use Rattle.area.specs.Area.{free, setAt, sizeAt, wordsAt}
+use Rattle.area.specs.Area.{setAt, sizeAt, wordsAt}
 use Rattle.area.specs.Sizes.{size-at}
 use Rattle.area.specs.SetsAt.{set-inside}
 use Rattle.area.specs.Walking.{lent-part}

@@ -1,15 +1,14 @@
 -- `compact` meets its contract. Past 9 for the new table and the new kept numbers, what is written is the rule's table and a
 -- fresh count of it.
-use mathlib.Core.List.{List, [], _∷_}
-use mathlib.Core.Path.{_≡_, refl, sym, ap, _∙_}
-use Prim.Native.Nat.{ℕ}
+use mathlib.Core.List.{[]}
+use mathlib.Core.Path.{_≡_, sym, _∙_}
 use native.Mathlib.Omega.{arith}
 use borrow.Author.Needs.{needs}
 use lib.ListN.{length}
 use Rattle.rules.specs.Compaction.{LentCompacted, newTable}
 use Rattle.rules.specs.Outcome.{none, answered}
 use Rattle.rules.specs.Record.{keptRoom}
-use Rattle.rules.specs.Tables.{Tables, tablesOf, vertices, Accepted}
+use Rattle.rules.specs.Tables.{Tables, tablesOf, vertices}
 use Rattle.parity_game.specs.Laws.{Sound, accepted-sound, numbered-check9, check9-table-none}
 use Rattle.parity_game.proofs.Matched.{went-on, stopped, refusal-not-zero}
 use Rattle.parity_game.specs.Said.{said}

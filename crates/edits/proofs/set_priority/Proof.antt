@@ -13,10 +13,6 @@ use Rattle.edits.proofs.Checked.{OwnAsked, record-passes, record-refuse
 use borrow.Author.Needs.{needs}
 use Rattle.edits.proofs.set_priority.Statement.{statement}
 use Rattle.edits.proofs.set_priority.Tie as tie
-use Rattle.edits.proofs.check_own.Reads as check-own-reads
-use Rattle.kept_numbers.proofs.recount.Reads as recount-reads
-use Rattle.parity_game.proofs.answer.Answer.number.Reads as number-reads
-use Rattle.record.proofs.check_record.Reads as check-record-reads
 
 -- the record as lent, and the edit asked for
 abbrev lent : tie.Start → Record

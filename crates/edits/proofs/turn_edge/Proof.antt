@@ -1,6 +1,6 @@
 -- `turn_edge` meets its contract: the record's checks, its own, then one target is written.
 use mathlib.Core.Path.{_≡_, refl}
-use Prim.Native.Nat.{ℕ, _<_}
+use Prim.Native.Nat.{_<_}
 use native.Mathlib.Omega.{arith}
 use Rattle.rules.specs.Outcome.{none}
 use Rattle.rules.specs.Record.{Record, Edit, turnEdge, recordOf, recordChecks}
@@ -10,9 +10,6 @@ use Rattle.edits.proofs.Checked.{OwnAsked, record-passes, record-refuse
 use borrow.Author.Needs.{needs}
 use Rattle.edits.proofs.turn_edge.Statement.{statement}
 use Rattle.edits.proofs.turn_edge.Tie as tie
-use Rattle.edits.proofs.check_own.Reads as check-own-reads
-use Rattle.parity_game.proofs.answer.Answer.number.Reads as number-reads
-use Rattle.record.proofs.check_record.Reads as check-record-reads
 
 -- the record as lent, and the edit asked for
 abbrev lent : tie.Start → Record

@@ -1,7 +1,6 @@
 -- `tells` meets its contract.
 use mathlib.Core.Path.{sym, ap, _∙_}
 use Rattle.good_parts.specs.Noting.{noteTest, tells-nothing, tells-two, tells-priority}
-use native.Mathlib.Omega.{arith}
 use borrow.Author.Needs.{needs}
 use Rattle.good_parts.proofs.tells.Statement.{statement}
 use Rattle.good_parts.proofs.tells.Tie as tie

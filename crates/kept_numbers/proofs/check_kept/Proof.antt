@@ -1,16 +1,15 @@
 -- `check_kept` meets its contract. The loop's invariant: the numbers passed are what the fresh count gives.
 use mathlib.Core.List.{List}
 use mathlib.Core.Path.{_≡_, sym, ap, _∙_}
-use Prim.Native.Nat.{ℕ, _≤_, _-_, _+_}
+use Prim.Native.Nat.{ℕ, _≤_, _-_}
 use native.Mathlib.Omega.{arith}
 use borrow.Author.Needs.{needs}
-use lib.ListN.{length, getD}
+use lib.ListN.{length}
 use Rattle.rules.specs.Outcome.{Verdict, outcome, answered}
 use Rattle.theory.specs.Counts.{length-fresh}
 use Rattle.kept_numbers.specs.Steps.{Agree, agree-more, agree-all, entry-differs, kept-differs, kept-same}
 use Rattle.kept_numbers.proofs.check_kept.Statement.{statement}
 use Rattle.kept_numbers.proofs.check_kept.Tie as tie
-use Rattle.kept_numbers.proofs.fresh.Reads as fresh-reads
 
 abbrev Inv-loop : tie.InvT-loop
 Inv-loop priorities kept count i₀ i = (i ≤ 258) × Agree i kept count

@@ -3,8 +3,6 @@ use Rattle.kept_numbers.specs.Steps.{fresh-summed}
 use borrow.Author.Needs.{needs}
 use Rattle.kept_numbers.proofs.fresh.Statement.{statement}
 use Rattle.kept_numbers.proofs.fresh.Tie as tie
-use Rattle.kept_numbers.proofs.sum_up.Reads as sum-up-reads
-use Rattle.kept_numbers.proofs.tally.Reads as tally-reads
 
 tally-requires : tie.Need-tally-requires
 tally-requires c κs = search needs

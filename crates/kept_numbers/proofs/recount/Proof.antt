@@ -8,7 +8,6 @@ use Rattle.kept_numbers.specs.Steps.{lowered-few}
 use borrow.Author.Needs.{needs}
 use Rattle.kept_numbers.proofs.recount.Statement.{statement}
 use Rattle.kept_numbers.proofs.recount.Tie as tie
-use Rattle.kept_numbers.proofs.sum_up.Reads as sum-up-reads
 
 mul-kept : tie.Need-mul-kept
 mul-kept c = search needs

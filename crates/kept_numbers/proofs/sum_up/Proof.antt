@@ -4,7 +4,6 @@ use mathlib.Core.Path.{_≡_}
 use Prim.Native.Nat.{_≤_, _-_}
 use native.Mathlib.Omega.{arith}
 use borrow.Author.Needs.{needs}
-use lib.ListN.{length, length-set}
 use Rattle.kept_numbers.specs.Steps.{CountsSummed, summed-none, summed-some, summed-zero, summed-all}
 use Rattle.kept_numbers.proofs.sum_up.Statement.{statement}
 use Rattle.kept_numbers.proofs.sum_up.Tie as tie

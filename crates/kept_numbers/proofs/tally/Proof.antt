@@ -5,7 +5,7 @@ use Prim.Native.Nat.{_≤_, _-_}
 use native.Mathlib.Omega.{arith}
 use borrow.Author.Needs.{needs}
 use lib.ListN.{length, getD}
-use Rattle.kept_numbers.specs.Steps.{Tallied, Counts, tallied-none, tallied-few, tallied-more, tallied-other, tallied-all}
+use Rattle.kept_numbers.specs.Steps.{Tallied, tallied-none, tallied-few, tallied-more, tallied-other, tallied-all}
 use Rattle.kept_numbers.proofs.tally.Statement.{statement}
 use Rattle.kept_numbers.proofs.tally.Tie as tie
 

@@ -7,8 +7,6 @@ use Rattle.theory.specs.Counts.{length-fresh}
 use borrow.Author.Needs.{needs}
 use Rattle.kept_numbers.proofs.write_fresh.Statement.{statement}
 use Rattle.kept_numbers.proofs.write_fresh.Tie as tie
-use Rattle.kept_numbers.proofs.fresh.Reads as fresh-reads
-use Rattle.kept_numbers.proofs.put.Reads as put-reads
 
 fresh-requires : tie.Need-fresh-requires
 fresh-requires c κs = search needs

@@ -8,7 +8,6 @@ use Rattle.record.specs.Laws.{part-fronts}
 use borrow.Author.Needs.{needs}
 use Rattle.record.proofs.check_fronts.Statement.{statement}
 use Rattle.record.proofs.check_fronts.Tie as tie
-use Rattle.table_checks.proofs.check_tables.Reads as check-tables-reads
 
 sub-check-tables : tie.Need-sub-check-tables
 sub-check-tables c = search needs

@@ -8,13 +8,10 @@ use Rattle.rules.specs.Record.{Record, recordOf, recordTables, recordChecks, ke
 use Rattle.parity_game.specs.Laws.{outcome-pass}
 use Rattle.parity_game.proofs.Matched.{went-on, stopped}
 use Rattle.theory.specs.Edits.{Roomy, tables-pass}
-use Rattle.record.specs.Laws.{unkept, tables-unkept, numbered-record-tables, part-front}
+use Rattle.record.specs.Laws.{tables-unkept, numbered-record-tables, part-front}
 use borrow.Author.Needs.{needs}
 use Rattle.record.proofs.check_record.Statement.{statement}
 use Rattle.record.proofs.check_record.Tie as tie
-use Rattle.kept_numbers.proofs.check_kept.Reads as check-kept-reads
-use Rattle.parity_game.proofs.answer.Answer.number.Reads as number-reads
-use Rattle.record.proofs.check_room.Reads as check-room-reads
 
 -- the record as lent, from where an answer's number is asked
 abbrev lent : tie.After-number → Record

@@ -11,9 +11,6 @@ use Rattle.record.specs.Laws.{numbered-sizes}
 use borrow.Author.Needs.{needs}
 use Rattle.record.proofs.check_room.Statement.{statement}
 use Rattle.record.proofs.check_room.Tie as tie
-use Rattle.parity_game.proofs.answer.Answer.number.Reads as number-reads
-use Rattle.record.proofs.check_fronts.Reads as check-fronts-reads
-use Rattle.record.proofs.check_sizes.Reads as check-sizes-reads
 
 -- the record as lent, from where an answer's number is asked
 abbrev lent : tie.After-number → Record

@@ -3,20 +3,16 @@ use mathlib.Core.List.{List}
 use mathlib.Core.Path.{_≡_, ap, _∙_}
 use Prim.Native.Nat.{ℕ}
 use native.Mathlib.Omega.{arith}
-use lib.ListN.{length}
 use Rattle.rules.specs.Outcome.{none, answered}
 use Rattle.rules.specs.Record.{Record, recordOf, recordTables, keptRoom, freshCount, freshChecks}
 use Rattle.parity_game.specs.Said.{said}
 use Rattle.parity_game.proofs.Matched.{went-on, stopped, refusal-not-zero}
 use Rattle.theory.specs.Edits.{Roomy, tables-pass}
-use Rattle.record.specs.Laws.{unkept, tables-unkept, numbered-record-tables, part-front}
+use Rattle.record.specs.Laws.{tables-unkept, numbered-record-tables, part-front}
 use Rattle.record.specs.Laws.{fresh-refused, fresh-nine, fresh-passes, fresh-written}
 use borrow.Author.Needs.{needs}
 use Rattle.record.proofs.fresh_count.Statement.{statement}
 use Rattle.record.proofs.fresh_count.Tie as tie
-use Rattle.kept_numbers.proofs.write_fresh.Reads as write-fresh-reads
-use Rattle.parity_game.proofs.answer.Answer.number.Reads as number-reads
-use Rattle.record.proofs.check_room.Reads as check-room-reads
 
 -- the record as lent, from where an answer's number is asked
 abbrev lent : tie.After-number → Record

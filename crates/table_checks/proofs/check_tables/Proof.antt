@@ -3,7 +3,7 @@
 use mathlib.Core.Path.{_≡_, sym, _∙_, ap}
 use borrow.Author.Needs.{needs}
 use Rattle.rules.specs.Outcome.{Verdict, none, outcome, answered}
-use Rattle.rules.specs.Tables.{Tables, tableChecks, tablesOf}
+use Rattle.rules.specs.Tables.{Tables, tablesOf}
 use Rattle.parity_game.specs.Laws.{lengthChecks, from4, tables-grouped, numbered-lengths, lengths-fit}
 use Rattle.parity_game.proofs.Matched.{went-on, stopped}
 use Rattle.table_checks.specs.Well.{well-passes, both-pass}

@@ -1,9 +1,7 @@
 -- `join` meets its contract: the set, the distance and the next layer, one after the other.
 use native.Mathlib.Omega.{arith}
 use borrow.Author.Needs.{needs}
-use mathlib.Core.List.{List}
 use Rattle.area.specs.Lent.{bit-fits}
-use Rattle.sets.specs.After.{Put}
 use Rattle.attractor_look.specs.InAreaLaws.{stored-long, add-ready, state-joined}
 use Rattle.attractor_look.proofs.look.join.Statement.{statement}
 use Rattle.attractor_look.proofs.look.join.Tie as tie

@@ -1,5 +1,5 @@
 -- `touch` meets its contract: by its tests it does nothing, gives an entry and joins, or counts down and joins at 0.
-use mathlib.Core.Bool.{Bool, true, false, _&&_, not}
+use mathlib.Core.Bool.{true, false, _&&_, not}
 use mathlib.Core.Path.{_≡_, sym, ap₂, _∙_}
 use Prim.Native.Nat.{ℕ, _+_}
 use borrow.Author.Needs.{needs}

@@ -1,8 +1,6 @@
 -- `hand_out` meets its contract: the copied result stays while the strategy and the distances are written.
-use mathlib.Core.Path.{_≡_}
-use native.Mathlib.Omega.{arith}
 use borrow.Author.Needs.{needs}
-use Rattle.attractor_run.specs.Out.{part-long, enter-ready, measure-ready, handed}
+use Rattle.attractor_run.specs.Out.{enter-ready, measure-ready, handed}
 use Rattle.attractor_run.proofs.whole.hand_out.Statement.{statement}
 use Rattle.attractor_run.proofs.whole.hand_out.Tie as tie
 

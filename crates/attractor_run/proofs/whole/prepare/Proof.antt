@@ -1,5 +1,4 @@
 -- `prepare` meets its contract: the words copied in stay where they are while the table is built.
-use native.Mathlib.Omega.{arith}
 use borrow.Author.Needs.{needs}
 use Rattle.attractor_run.specs.Preparing.{build-ready, prepared}
 use Rattle.attractor_run.proofs.whole.prepare.Statement.{statement}

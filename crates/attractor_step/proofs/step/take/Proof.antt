@@ -1,6 +1,5 @@
 -- `take` meets its contract: the looks up to entry e were made, and all of them at the end.
 use Prim.Native.Nat.{_-_}
-use native.Mathlib.Omega.{arith}
 use borrow.Author.Needs.{needs}
 use Rattle.attractor_step.specs.TakeLoop.{Looking, looking-none, look-ready, looking-more, looking-all}
 use Rattle.attractor_step.proofs.step.take.Statement.{statement}

@@ -1,7 +1,6 @@
 -- `counted` meets its contract: 13 alone is over the budget.
 use mathlib.Core.Bool.{Bool, cond}
-use mathlib.Core.Path.{_≡_, sym, ap, _∙_}
-use Prim.Native.Nat.{ℕ}
+use mathlib.Core.Path.{sym, ap, _∙_}
 use borrow.Author.Needs.{needs}
 use borrow.Author.Tests.{eq-eqb, ne-eqb}
 use Rattle.parity_game.specs.Said.{said}

@@ -5,7 +5,6 @@ use Prim.Native.Nat.{ℕ, _≤_}
 use native.Mathlib.Omega.{arith}
 use borrow.Author.Needs.{needs}
 use lib.ListN.{length}
-use Rattle.rules.specs.Promotion.{roundsNeeded}
 use Rattle.rules.specs.Solver.{Lent}
 use Rattle.rules.specs.Tables.{Tables, tablesOf, vertices, edgesIn, workWords, gameOf}
 use Rattle.rules.specs.Words.{setOf}

@@ -1,5 +1,4 @@
 -- `solve_tables` meets its contract: its arrays have room for 128 vertices and 512 edges.
-use mathlib.Core.Path.{_≡_, _∙_}
 use Prim.Native.Nat.{_≤_}
 use native.Mathlib.Omega.{arith}
 use borrow.Author.Needs.{needs}

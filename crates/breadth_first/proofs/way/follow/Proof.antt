@@ -1,12 +1,11 @@
 -- `follow` meets its contract. The loop's invariant: the vertices of the way before v are written, whatever the way is.
 use mathlib.Core.List.{List}
-use mathlib.Core.Path.{_≡_, refl, sym, ap, _∙_}
-use Prim.Native.Nat.{ℕ, _+_, _-_, _≤_, _<_}
+use mathlib.Core.Path.{_≡_}
+use Prim.Native.Nat.{ℕ, _-_, _≤_, _<_}
 use lib.ListN.{length, length-set}
 use Rattle.breadth_first.specs.Following.{Way, Following, way-vertex, follow-starts, follow-room, follow-word, follow-on}
 use Rattle.breadth_first.specs.Following.{follow-end}
 use native.Mathlib.Omega.{arith}
-use borrow.Author.Needs.{needs}
 use Rattle.breadth_first.proofs.way.follow.Statement.{statement}
 use Rattle.breadth_first.proofs.way.follow.Tie as tie
 

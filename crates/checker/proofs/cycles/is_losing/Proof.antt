@@ -1,7 +1,6 @@
 -- `is_losing` meets its contract.
 use mathlib.Core.Path.{sym, _∙_}
 use Rattle.checker.specs.Cycles.{losing-even, losing-odd}
-use native.Mathlib.Omega.{arith}
 use borrow.Author.Needs.{needs}
 use Rattle.checker.proofs.cycles.is_losing.Statement.{statement}
 use Rattle.checker.proofs.cycles.is_losing.Tie as tie

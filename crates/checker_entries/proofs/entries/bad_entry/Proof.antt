@@ -2,7 +2,6 @@
 use mathlib.Core.Bool.{true, false}
 use mathlib.Core.Path.{ap}
 use Prim.Native.Nat.{ℕ}
-use borrow.Author.Tests.{not-true, not-false}
 use Rattle.parity_game.specs.Said.{refusal}
 use Rattle.checker_entries.specs.Entries.{number-is}
 use borrow.Author.Needs.{needs}

@@ -1,7 +1,6 @@
 -- `is_own` meets its contract.
 use mathlib.Core.Path.{sym, _∙_}
 use Rattle.checker_entries.specs.Entries.{own-even, own-odd}
-use native.Mathlib.Omega.{arith}
 use borrow.Author.Needs.{needs}
 use Rattle.checker_entries.proofs.entries.is_own.Statement.{statement}
 use Rattle.checker_entries.proofs.entries.is_own.Tie as tie

@@ -3,7 +3,6 @@ use mathlib.Core.Bool.{not}
 use mathlib.Core.Path.{sym, ap, _∙_}
 use borrow.Author.Tests.{le-leb}
 use Rattle.checker_partition.specs.Partition.{stray-in-past, stray-in, stray-out, stray-out-past}
-use native.Mathlib.Omega.{arith}
 use borrow.Author.Needs.{needs}
 use Rattle.checker_partition.proofs.partition.is_stray.Statement.{statement}
 use Rattle.checker_partition.proofs.partition.is_stray.Tie as tie

@@ -2,7 +2,6 @@
 use mathlib.Core.Bool.{not}
 use mathlib.Core.Path.{sym, ap, _∙_}
 use Rattle.checker_sides.specs.Sides.{side-even, side-odd}
-use native.Mathlib.Omega.{arith}
 use borrow.Author.Needs.{needs}
 use Rattle.checker_sides.proofs.sides.stays.Statement.{statement}
 use Rattle.checker_sides.proofs.sides.stays.Tie as tie

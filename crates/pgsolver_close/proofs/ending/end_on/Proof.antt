@@ -8,7 +8,7 @@ use Rattle.parity_game.specs.Said.{said}
 use Rattle.pgsolver_acts.specs.declared.state.State.{State}
 use Rattle.pgsolver_finish.specs.Finishing.{writtenOf}
 use Rattle.pgsolver_end.specs.Told.{EndsText}
-use Rattle.pgsolver_words.specs.Words.{stateIn, placeIn, Gives}
+use Rattle.pgsolver_words.specs.Words.{placeIn, Gives}
 use Rattle.pgsolver_serial.specs.Stands.{SerialLengths}
 use Rattle.pgsolver_close.specs.Ending.{ends-on}
 use borrow.Author.Needs.{needs}

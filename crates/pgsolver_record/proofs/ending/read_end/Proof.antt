@@ -11,10 +11,6 @@ use Rattle.reading_kept.specs.Rooms.{sizesOf, stateSize, kept-fits-end}
 use borrow.Author.Needs.{needs}
 use Rattle.pgsolver_record.proofs.ending.read_end.Statement.{statement}
 use Rattle.pgsolver_record.proofs.ending.read_end.Tie as tie
-use Rattle.parity_game.proofs.answer.Answer.number.Reads as number-reads
-use Rattle.pgsolver_close.proofs.read_end.Reads as read-end-reads
-use Rattle.reading_kept.proofs.write_beside.Reads as write-beside-reads
-use Rattle.reading_kept.proofs.check_end_rooms.Reads as check-end-rooms-reads
 
 abbrev start : tie.After-check-end-rooms → tie.Start
 start c = c .before .before .before .before .before .before .before .before

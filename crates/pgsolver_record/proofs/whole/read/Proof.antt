@@ -10,10 +10,6 @@ use Rattle.reading_kept.specs.Rooms.{sizesOf, kept-fits}
 use borrow.Author.Needs.{needs}
 use Rattle.pgsolver_record.proofs.whole.read.Statement.{statement}
 use Rattle.pgsolver_record.proofs.whole.read.Tie as tie
-use Rattle.parity_game.proofs.answer.Answer.number.Reads as number-reads
-use Rattle.pgsolver.proofs.read.Reads as read-reads
-use Rattle.reading_kept.proofs.write_beside.Reads as write-beside-reads
-use Rattle.reading_kept.proofs.check_record_rooms.Reads as check-record-rooms-reads
 
 abbrev start : tie.After-check-record-rooms → tie.Start
 start c = c .before .before .before .before .before .before .before .before

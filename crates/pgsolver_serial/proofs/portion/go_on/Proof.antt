@@ -1,12 +1,11 @@
 -- `go_on` meets its contract: the portion is read, or one of its bytes is refused.
 use mathlib.Core.List.{List}
-use mathlib.Core.Path.{_≡_, sym, subst}
-use Prim.Native.Nat.{ℕ, _+_, _≤_, _<_}
+use mathlib.Core.Path.{_≡_, subst}
+use Prim.Native.Nat.{ℕ, _+_, _≤_}
 use native.Mathlib.Omega.{arith}
-use lib.ListN.{length, getD}
+use lib.ListN.{length}
 use Rattle.pgsolver_acts.specs.declared.state.State.{State}
 use Rattle.pgsolver_portion.specs.declared.take.Taken.{Taken}
-use Rattle.pgsolver_portion.specs.declared.take.Taken.the-variants.{On}
 use Rattle.pgsolver_portion.specs.Reached.{FitsAs, Takes}
 use Rattle.pgsolver_words.specs.Words.{stateIn, mostIn, placeIn, KeepsReading}
 use Rattle.pgsolver_serial.specs.Stands.{SerialLengths, goes-on, goes-over}

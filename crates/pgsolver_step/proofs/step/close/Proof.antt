@@ -1,6 +1,4 @@
 -- `close` meets its contract: within the room each table has the record at its identifier, past it none changes.
-use mathlib.Core.Bool.{Bool, cond}
-use mathlib.Core.List.{List}
 use mathlib.Core.Path.{ap}
 use Prim.Native.Nat.{ℕ}
 use borrow.Author.Tests.{lt-ltb, le-ltb}

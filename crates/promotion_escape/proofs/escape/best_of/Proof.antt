@@ -106,7 +106,8 @@ shared-slice-read-e-end c =
 
 cast-e-end : tie.Need-cast-e-end Inv-loop μ-loop
 cast-e-end c =
-    omega (arith, c .shared-slice-known5 .given (c .before .before .before .before .before .before .args .v .0 + 1))
+    let g = c .before .before .before .before .before .before in
+    omega (arith, c .shared-slice-known5 .given (g .args .v .0 + 1))
 
 loop-holds : tie.Need-loop-holds Inv-loop μ-loop
 loop-holds c =

@@ -1,5 +1,4 @@
 -- `turn_over` meets its contract: the next level stands apart from V.
-use native.Mathlib.Omega.{arith}
 use mathlib.Core.Logic.{inl}
 use mathlib.Core.Path.{refl}
 use borrow.Author.Needs.{needs}

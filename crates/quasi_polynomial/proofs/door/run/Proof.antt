@@ -1,11 +1,11 @@
 -- `run` meets its contract: each call asks for what the calls before it left, and what is copied out are the winning sets.
 use mathlib.Core.Logic.{inl, inr}
 use mathlib.Core.Path.{_≡_, sym, ap, _∙_}
-use Prim.Native.Nat.{ℕ, _+_, _≤_, _<_, _^_}
+use Prim.Native.Nat.{_+_, _≤_, _<_, _^_}
 use native.Mathlib.Omega.{arith}
 use borrow.Author.Needs.{needs}
 use lib.ListN.{length}
-use Rattle.rules.specs.Tables.{Tables, words, tablesOf}
+use Rattle.rules.specs.Tables.{Tables, tablesOf}
 use Rattle.accepted.specs.Tables.{accepted-sound}
 use Rattle.area.specs.Area.{free}
 use Rattle.area.specs.Lent.{part-is, part-length, words-few}

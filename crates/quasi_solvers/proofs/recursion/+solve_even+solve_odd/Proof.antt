@@ -1,16 +1,15 @@
 -- `solve_even` and `solve_odd` meet their contracts together. The number that falls from call to call is the height; in the
 -- loop of passes it is made of the size of V and the stages that are left. Each answer cites the law of the piece, for
 -- either player.
-use mathlib.Core.List.{List}
-use mathlib.Core.Logic.{inl, inr}
-use mathlib.Core.Path.{_≡_, refl, ap, _∙_}
-use Prim.Native.Nat.{ℕ, _+_, _*_, _/_, _≤_, _<_, _^_}
+use mathlib.Core.Logic.{inr}
+use mathlib.Core.Path.{_≡_, refl, ap}
+use Prim.Native.Nat.{ℕ, _+_, _*_, _≤_, _<_, _^_}
 use native.Mathlib.Omega.{arith}
 use lib.ListN.{length}
 use Rattle.rules.specs.Game.{Even, Odd, opponent, parity, playerOf}
 use Rattle.rules.specs.Tables.{Tables, gameOf, vertices, words, tablesOf}
 use Rattle.theory.specs.Run.{Top}
-use Rattle.quasi_level.specs.Level.{onLevel, Held}
+use Rattle.quasi_level.specs.Level.{onLevel}
 use Rattle.quasi_solvers.specs.Calling.{OpinionCalled}
 use Rattle.quasi_solvers.specs.Passing.{PassesGoing, toGo, called-held, called-searched, called-gives-up}
 use Rattle.quasi_solvers.specs.Passing.{called-top, top-lower, called-high, parity-even, parity-odd}

@@ -7,7 +7,6 @@ use Rattle.reading_kept.specs.Beside.{beside-refused, beside-answered, b
 use borrow.Author.Needs.{needs}
 use Rattle.reading_kept.proofs.beside.count_beside.Statement.{statement}
 use Rattle.reading_kept.proofs.beside.count_beside.Tie as tie
-use Rattle.kept_numbers.proofs.fresh.Reads as fresh-reads
 
 returns : tie.Need-returns
 returns c =

@@ -7,8 +7,6 @@ use Rattle.reading_kept.specs.Beside.{length-beside}
 use borrow.Author.Needs.{needs}
 use Rattle.reading_kept.proofs.beside.write_beside.Statement.{statement}
 use Rattle.reading_kept.proofs.beside.write_beside.Tie as tie
-use Rattle.kept_numbers.proofs.put.Reads as put-reads
-use Rattle.reading_kept.proofs.beside.count_beside.Reads as count-beside-reads
 
 count-beside-requires : tie.Need-count-beside-requires
 count-beside-requires c κs = search needs

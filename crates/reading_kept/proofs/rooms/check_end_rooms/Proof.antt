@@ -5,7 +5,6 @@ use Rattle.reading_kept.specs.Rooms.{keptSize, stateSize, state-unfit, s
 use borrow.Author.Needs.{needs}
 use Rattle.reading_kept.proofs.rooms.check_end_rooms.Statement.{statement}
 use Rattle.reading_kept.proofs.rooms.check_end_rooms.Tie as tie
-use Rattle.reading_kept.proofs.rooms.check_record_rooms.Reads as check-record-rooms-reads
 
 -- what the first checks give
 abbrev first : tie.Start → Verdict

@@ -1,11 +1,10 @@
 -- `check_record_rooms` meets its contract: each return goes by the test or the variant that led there.
 use borrow.Author.Tests.{eq-eqb, ne-eqb}
-use mathlib.Core.Path.{_≡_, sym, ap, _∙_}
+use mathlib.Core.Path.{sym, ap, _∙_}
 use Rattle.reading_rooms.specs.Said.{fitsSaid}
 use borrow.Author.Needs.{needs}
 use Rattle.reading_kept.proofs.rooms.check_record_rooms.Statement.{statement}
 use Rattle.reading_kept.proofs.rooms.check_record_rooms.Tie as tie
-use Rattle.reading_rooms.proofs.check_rooms.Reads as check-rooms-reads
 
 returns : tie.Need-returns
 returns c = simp (ne-eqb _ _ (c .if1 .taken))

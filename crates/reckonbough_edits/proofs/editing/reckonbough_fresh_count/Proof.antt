@@ -4,8 +4,6 @@ use Rattle.rules.specs.Record.{CountsFresh}
 use borrow.Author.Needs.{needs}
 use Rattle.reckonbough_edits.proofs.editing.reckonbough_fresh_count.Statement.{statement}
 use Rattle.reckonbough_edits.proofs.editing.reckonbough_fresh_count.Tie as tie
-use Rattle.record.proofs.fresh_count.Reads as fresh-count-reads
-use Rattle.telling.proofs.tell.Reads as tell-reads
 
 fresh-count-requires : tie.Need-fresh-count-requires
 fresh-count-requires c κs = search needs

@@ -4,8 +4,6 @@ use Rattle.rules.specs.Record.{Edits}
 use borrow.Author.Needs.{needs}
 use Rattle.reckonbough_edits.proofs.editing.reckonbough_set_owner.Statement.{statement}
 use Rattle.reckonbough_edits.proofs.editing.reckonbough_set_owner.Tie as tie
-use Rattle.edits.proofs.set_owner.Reads as set-owner-reads
-use Rattle.telling.proofs.tell.Reads as tell-reads
 
 set-owner-requires : tie.Need-set-owner-requires
 set-owner-requires c κs = search needs

@@ -4,8 +4,6 @@ use Rattle.rules.specs.Record.{Edits}
 use borrow.Author.Needs.{needs}
 use Rattle.reckonbough_edits.proofs.editing.reckonbough_set_priority.Statement.{statement}
 use Rattle.reckonbough_edits.proofs.editing.reckonbough_set_priority.Tie as tie
-use Rattle.edits.proofs.set_priority.Reads as set-priority-reads
-use Rattle.telling.proofs.tell.Reads as tell-reads
 
 set-priority-requires : tie.Need-set-priority-requires
 set-priority-requires c κs = search needs

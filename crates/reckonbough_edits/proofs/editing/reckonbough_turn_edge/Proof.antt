@@ -4,8 +4,6 @@ use Rattle.rules.specs.Record.{Edits}
 use borrow.Author.Needs.{needs}
 use Rattle.reckonbough_edits.proofs.editing.reckonbough_turn_edge.Statement.{statement}
 use Rattle.reckonbough_edits.proofs.editing.reckonbough_turn_edge.Tie as tie
-use Rattle.edits.proofs.turn_edge.Reads as turn-edge-reads
-use Rattle.telling.proofs.tell.Reads as tell-reads
 
 turn-edge-requires : tie.Need-turn-edge-requires
 turn-edge-requires c κs = search needs

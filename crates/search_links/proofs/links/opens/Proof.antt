@@ -2,7 +2,6 @@
 use mathlib.Core.Bool.{false}
 use mathlib.Core.Path.{_≡_, sym, _∙_}
 use borrow.Author.Tests.{not-true, not-false}
-use native.Mathlib.Omega.{arith}
 use borrow.Author.Needs.{needs}
 use Rattle.search_links.proofs.links.opens.Statement.{statement}
 use Rattle.search_links.proofs.links.opens.Tie as tie

@@ -1,5 +1,4 @@
 -- `write_run` meets its contract: nothing is written where no priority has a way, and both lists where one has.
-use native.Mathlib.Omega.{arith}
 use borrow.Author.Needs.{needs}
 use Rattle.show_loop.specs.Writing.{went-none, lists-writable, went-there}
 use Rattle.show_loop.proofs.lists.write_run.Statement.{statement}

@@ -1,9 +1,8 @@
 -- `are_well` meets its contract: past all tests each part of `Well` was told by one of them.
-use mathlib.Core.Path.{_≡_}
 use native.Mathlib.Omega.{arith}
 use borrow.Author.Needs.{needs}
 use lib.ListN.{length}
-use Rattle.table_checks.specs.Well.{Well, never}
+use Rattle.table_checks.specs.Well.{never}
 use Rattle.table_checks.proofs.scan.are_well.Statement.{statement}
 use Rattle.table_checks.proofs.scan.are_well.Tie as tie
 

@@ -1,7 +1,6 @@
 -- `odd_at` meets its contract.
 use native.Mathlib.Omega.{arith}
 use Rattle.priority_sets.specs.Sorting.{placed-few}
-use borrow.Author.Needs.{needs}
 use Rattle.zielonka_level.proofs.places.odd_at.Statement.{statement}
 use Rattle.zielonka_level.proofs.places.odd_at.Tie as tie
 
