@@ -8,7 +8,7 @@ use compare::hard::{climb, Solver};
 
 use crate::layered;
 
-/// A family with games of every size: its name, and its k-th game of n vertices. The tables have the one with k = 0.
+/// A family with games of every size: its name, and its k-th game of n vertices.
 pub struct Family {
     pub name: &'static str,
     pub game: fn(usize, u64) -> Game,
@@ -30,25 +30,41 @@ pub const FAMILIES: [Family; 9] = [
 impl Family {
     /// Different games of n vertices, 4,096 vertices in all; a family with one game for each n has one.
     pub fn games(&self, n: usize) -> Vec<Game> {
-        let mut games: Vec<Game> = (0..4_096 / n as u64).map(|k| (self.game)(n, k)).collect();
-        games.dedup();
-        games
+        first(self.game, n, 4_096 / n as u64)
     }
 }
 
-/// The games of the tables: those of full size first, then the smaller ones.
-pub fn timed() -> Vec<(&'static str, Game)> {
-    let full = |family: &Family| (family.name, (family.game)(4_096, 0));
-    let mut games: Vec<(&str, Game)> = FAMILIES.iter().filter(|family| family.name != "random").map(full).collect();
-    games.extend([
-        ("near neighbours", near(1_024, 0)),
-        ("random", random(200, 0)),
-        ("random", random(40, 0)),
-        ("hard 44", hard_44()),
-        ("hard 39", hard_39()),
-        ("hard for Zielonka", hard(Solver::Zielonka).clone()),
-        ("hard for promotion", hard(Solver::Promotion).clone()),
+/// The games of a row of the tables, all of one size.
+pub struct Timed {
+    pub name: &'static str,
+    pub games: Vec<Game>,
+}
+
+/// How many games a row of a random family has: what one costs, beside the Rust, hangs on its seed.
+const SEEDS: u64 = 12;
+
+/// The rows of the tables: those of full size first, then the smaller ones.
+pub fn timed() -> Vec<Timed> {
+    let row = |name, game, n| Timed { name, games: first(game, n, SEEDS) };
+    let one = |name, game| Timed { name, games: vec![game] };
+    let full = FAMILIES.iter().filter(|family| family.name != "random");
+    let mut rows: Vec<Timed> = full.map(|family| row(family.name, family.game, 4_096)).collect();
+    rows.extend([
+        row("near neighbours", near, 1_024),
+        row("random", random, 200),
+        row("random", random, 40),
+        one("hard 44", hard_44()),
+        one("hard 39", hard_39()),
+        one("hard for Zielonka", hard(Solver::Zielonka).clone()),
+        one("hard for promotion", hard(Solver::Promotion).clone()),
     ]);
+    rows
+}
+
+/// The first games of n vertices; one where the family has no more.
+fn first(game: fn(usize, u64) -> Game, n: usize, many: u64) -> Vec<Game> {
+    let mut games: Vec<Game> = (0..many).map(|k| game(n, k)).collect();
+    games.dedup();
     games
 }
 

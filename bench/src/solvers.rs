@@ -4,28 +4,28 @@
 use compare::game::Game;
 use compare::hard::Solver;
 
-use crate::timing::{measure, Row};
+use crate::timing::{measure_each, Row};
 use crate::{families, figure, mark, milliseconds, targets, SOLVERS};
 
-/// A game, its solver, and what was measured; none where the oracle was stopped at the cap.
+/// A row's games, the solver, and what was measured; none where the oracle was stopped at the cap.
 struct Measured<'a> {
     name: &'a str,
-    game: &'a Game,
+    games: &'a [Game],
     solver: Solver,
     row: Option<Row>,
 }
 
-/// Two Markdown tables, one row a game and solver in each; of all families, or of those whose name has the word `only`.
+/// Two Markdown tables, one row a family and solver in each; of all families, or of those whose name has the word `only`.
 pub fn print(only: Option<&String>) {
-    let mut games = families::timed();
-    games.retain(|(name, _)| only.map_or(true, |word| name.contains(word.as_str())));
-    let pairs = games.iter().flat_map(|(name, game)| SOLVERS.map(|solver| (*name, game, solver)));
+    let mut families = families::timed();
+    families.retain(|row| only.map_or(true, |word| row.name.contains(word.as_str())));
+    let pairs = families.iter().flat_map(|row| SOLVERS.map(|solver| (row.name, row.games.as_slice(), solver)));
     let rows: Vec<Measured> = pairs
-        .map(|(name, game, solver)| Measured { name, game, solver, row: measure(std::slice::from_ref(game), solver) })
+        .map(|(name, games, solver)| Measured { name, games, solver, row: measure_each(games, solver) })
         .collect();
     println!("\n## What a user meets\n");
-    println!("| family | n | m | solver | calls or rounds | Rust ms | port ms | ratio |");
-    println!("|---|---|---|---|---|---|---|---|");
+    println!("| family | games | n | m | solver | calls or rounds | Rust ms | port ms | ratio |");
+    println!("|---|---|---|---|---|---|---|---|---|");
     rows.iter().for_each(print_whole);
     println!("\n## Without zeroing\n");
     println!("| family | n | solver | zeroing ms | port ms less zeroing | ratio | C program's | at most | |");
@@ -36,8 +36,9 @@ pub fn print(only: Option<&String>) {
     }
 }
 
-fn print_whole(Measured { name, game, solver, row }: &Measured) {
-    print!("| {name} | {} | {} | {} |", game.n(), game.m(), solver.name());
+fn print_whole(Measured { name, games, solver, row }: &Measured) {
+    let edges = games.iter().map(Game::m).sum::<usize>() / games.len();
+    print!("| {name} | {} | {} | {edges} | {} |", games.len(), games[0].n(), solver.name());
     match row {
         Some(row) => {
             let port = row.port.as_ref().map(|port| port.ms);
@@ -49,19 +50,19 @@ fn print_whole(Measured { name, game, solver, row }: &Measured) {
 }
 
 /// True where the row misses what it is to reach.
-fn print_net(Measured { name, game, solver, row }: &Measured) -> bool {
+fn print_net(Measured { name, games, solver, row }: &Measured) -> bool {
+    let n = games[0].n();
     let port = row.as_ref().and_then(|row| row.port.as_ref());
     let ratio = row.as_ref().and_then(Row::net_ratio);
-    let at_most = targets::at_most(name, game.n(), *solver);
+    let at_most = targets::at_most(name, n, *solver);
     let missed = ratio.is_some_and(|ratio| ratio > at_most);
     println!(
-        "| {name} | {} | {} | {} | {} | {} | {} | {at_most:.3} | {} |",
-        game.n(),
+        "| {name} | {n} | {} | {} | {} | {} | {} | {at_most:.3} | {} |",
         solver.name(),
         milliseconds(port.map(|port| port.zeroing_ms)),
         milliseconds(port.map(|port| port.net_ms())),
         figure(ratio, 3),
-        figure(targets::c_share(name, game.n(), *solver), 3),
+        figure(targets::c_share(name, n, *solver), 3),
         mark(missed),
     );
     missed

@@ -63,6 +63,19 @@ pub fn measure(games: &[Game], solver: Solver) -> Option<Row> {
     Some(Row { count, work: each(work as f64), rust_ms: each(rust.ms()), port: port.done() })
 }
 
+/// Each game timed by itself; of them all the mean, of a game.
+pub fn measure_each(games: &[Game], solver: Solver) -> Option<Row> {
+    let rows: Vec<Row> = games.iter().map(|game| measure(std::slice::from_ref(game), solver)).collect::<Option<_>>()?;
+    let mean = |of: fn(&Row) -> Option<f64>| Some(rows.iter().map(of).sum::<Option<f64>>()? / rows.len() as f64);
+    let port = mean(|row| Some(row.port.as_ref()?.ms)).zip(mean(|row| Some(row.port.as_ref()?.zeroing_ms)));
+    Some(Row {
+        count: rows.iter().map(|row| row.count).sum::<u64>() / rows.len() as u64,
+        work: mean(|row| Some(row.work))?,
+        rust_ms: mean(|row| Some(row.rust_ms))?,
+        port: port.map(|(ms, zeroing_ms)| Port { ms, zeroing_ms }),
+    })
+}
+
 /// The most work words that one of the games needs.
 pub fn most_words(games: &[Game]) -> usize {
     games.iter().map(words).max().expect("there are games")
