@@ -22,6 +22,7 @@ use Rattle.theory.specs.PromotionEntries.{starts}
 use Rattle.area.specs.Area.{setAt}
 use Rattle.kept_numbers.specs.Reading.{FreshlyCounted, kept-bounds, kept-small}
 use Rattle.promotion_levels.specs.Layout.{heldAt, levelsAt, levelAt, endAt, deep, levelIn, regionIn}
+use Rattle.promotion_levels.specs.Newcomers.{whole-newcomers}
 use Rattle.promotion_begin.specs.FirstLevel.{StartBeginnable, Begun, BegunOf}
 use Rattle.promotion_rounds.specs.SolveAll.{RoundsReached}
 
@@ -143,6 +144,7 @@ module _ (owners priorities offsets targets : List ℕ) (ok : Accepted (tablesOf
             shows =
                 record {
                   ready = b .ready;
+                  newcomers = whole-newcomers n m s w1 (b .whole);
                   current = current-is;
                   top = b .top;
                   region = region-is;

@@ -19,11 +19,11 @@ use Rattle.area.specs.SetsAt.{set-kept, set-zeros}
 use Rattle.attractor.specs.Attracted.{Listed, listed-kept}
 use Rattle.priority_sets.specs.Sorting.{Sortable, Sorts}
 use Rattle.promotion_levels.specs.Layout.{heldAt, wonAt, depthAt, levelsAt, levelAt, endAt, deep, depthIn, topIn, levelIn}
-use Rattle.promotion_levels.specs.Layout.{regionIn, entryIn, Ready}
+use Rattle.promotion_levels.specs.Layout.{regionIn, entryIn, Whole, Ready}
 use Rattle.promotion_levels.specs.Places.{level-high}
 use Rattle.promotion_levels.specs.Descending.{Descends, Descended}
 use Rattle.promotion_levels.specs.Going.{won-words}
-use Rattle.promotion_levels.specs.Afresh.{afresh-ready, afresh-regions, afresh-entries, afresh-top}
+use Rattle.promotion_levels.specs.Afresh.{afresh-ready, afresh-whole, afresh-regions, afresh-entries, afresh-top}
 
 -- what `begin` asks for: the first level stands, no priority is above `top`, and there is room
 pub record StartBeginnable (priorities : List ℕ) (m s held levels top : ℕ) (work : List ℕ) : Type 0 where
@@ -41,6 +41,7 @@ pub record StartBeginnable (priorities : List ℕ) (m s held levels top : ℕ) (
 pub record BegunOf (n : ℕ) (priorities offsets targets : List ℕ) (s p : ℕ) (before after : List ℕ) : Type 0 where
   pub long : length after ≡ length before
   pub ready : Ready n priorities offsets targets s after
+  pub whole : Whole n (length targets) s after
   pub highest : p ≡ greatest n (levelIn n (length targets) s before 0) (λ v. getD priorities v 0)
   pub top : p ≡ topIn n (length targets) s after (depthIn n (length targets) s after)
   pub first : (v : ℕ) → levelIn n (length targets) s after 0 v ≡ levelIn n (length targets) s before 0 v
@@ -181,6 +182,7 @@ module _ {priorities : List ℕ} {m s held levels top : ℕ} {w0 : List ℕ} (gi
                 record {
                   long = c .long ∙ same-long;
                   ready = afresh-ready priorities offsets targets given2 edges listed2 c2;
+                  whole = afresh-whole priorities offsets targets given2 edges listed2 c2;
                   highest =
                       c2 .highest ∙
                       greatest-cong n (levelIn n (length targets) s w2 0) (levelIn n (length targets) s w0 0)

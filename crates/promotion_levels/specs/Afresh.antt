@@ -17,7 +17,7 @@ use Rattle.area.specs.Area.{entries}
 use Rattle.attractor.specs.Attracted.{Listed}
 use Rattle.promotion_places.specs.Nesting.{regionOf}
 use Rattle.promotion_places.specs.Nesting.{afresh-nests, afresh-region, afresh-proper}
-use Rattle.promotion_places.specs.Layout.{heldAt, levelsAt, depthIn, topIn, levelIn, regionIn, entryIn, Ready}
+use Rattle.promotion_places.specs.Layout.{heldAt, levelsAt, depthIn, topIn, levelIn, regionIn, entryIn, Whole, Ready}
 use Rattle.promotion_levels.specs.Descending.{Descends, Descended}
 use Rattle.promotion_levels.specs.Going.{listed-again, sorted-again, last-is, held-again, most-is, met-is}
 
@@ -71,8 +71,11 @@ module _ (priorities offsets targets : List ℕ) {s p : ℕ} {w0 w1 : List ℕ}
               rw (c .depth)
               (afresh-nests n (levelIn n m s w1) (topIn n m s w1) pr X p top-small (given .below) highest (c .top) first1 last1);
           proper = rw (c .depth) (afresh-proper (levelIn n m s w1) pr X p met first1 last1);
-          held = λ v. rw (c .depth) (held-again priorities offsets targets (given .size) (given .room) c v);
         }
+
+    -- all of its region is new
+    pub afresh-whole : Whole n m s w1
+    afresh-whole v = rw (c .depth) (held-again priorities offsets targets (given .size) (given .room) c v)
 
     pub afresh-regions : (v : ℕ) → regionIn n m s priorities w1 v ≡ cond (levelIn n m s w0 0 v) (getD priorities v 0) 256
     afresh-regions v =

@@ -9,7 +9,7 @@ use Rattle.area.specs.Area.{free}
 use Rattle.area.specs.SetsAt.{set-kept}
 use Rattle.attractor.specs.Attracted.{listed-kept}
 use Rattle.promotion_places.specs.Nesting.{regionOf, Nesting, Proper}
-use Rattle.promotion_places.specs.Layout.{heldAt, depthAt, topsAt, levelAt, depthIn, topIn, levelIn, heldIn, regionIn, Ready}
+use Rattle.promotion_places.specs.Layout.{heldAt, depthAt, topsAt, levelAt, depthIn, topIn, levelIn, heldIn, regionIn, Whole, Ready}
 use Rattle.promotion_places.specs.Places.{sets-kept}
 
 module _ {n : ℕ} {priorities offsets targets : List ℕ} {s : ℕ} {w0 : List ℕ} (w1 : List ℕ)
@@ -59,8 +59,9 @@ module _ {n : ℕ} {priorities offsets targets : List ℕ} {s : ℕ} {w0 : List 
               (subst₂ (λ (L : ℕ → Set) (P : ℕ → ℕ). Nesting n (depthIn n m s w0) L P (λ v. getD priorities v 0))
               (sym levels-are) (sym tops-are) (ready .nests));
           proper = rw depth-same (subst (λ (L : ℕ → Set). Proper (depthIn n m s w0) L) (sym levels-are) (ready .proper));
-          held =
-              λ v.
-              held-same v ∙ ready .held v ∙
-              sym (rw (depth-same, level-same (depthIn n m s w0) v, level-same (suc (depthIn n m s w0)) v));
         }
+
+    pub whole-kept : Whole n m s w0 → Whole n m s w1
+    whole-kept whole v =
+        held-same v ∙ whole v ∙
+        sym (rw (depth-same, level-same (depthIn n m s w0) v, level-same (suc (depthIn n m s w0)) v))

@@ -14,7 +14,7 @@ use Rattle.basics.specs.Basics.{bool-cases}
 use Rattle.area.specs.Area.{entries}
 use Rattle.promotion_places.specs.Nesting.{regionOf, Nesting, Proper, inside-all, few-levels, levels-below, lowered-nests, lowered-region}
 use Rattle.promotion_places.specs.Nesting.{lowered-proper}
-use Rattle.promotion_places.specs.Layout.{depthIn, topIn, levelIn, regionIn, entryIn, Ready}
+use Rattle.promotion_places.specs.Layout.{depthIn, topIn, levelIn, regionIn, entryIn, Whole, Ready}
 use Rattle.promotion_levels.specs.Descending.{Descended}
 use Rattle.promotion_levels.specs.Going.{deeper, listed-again, sorted-again, last-is, held-again, most-is, met-is}
 
@@ -91,8 +91,11 @@ module _ (priorities offsets targets : List ℕ) {s p : ℕ} {w0 w1 : List ℕ}
           sorted = sorted-again priorities offsets targets (ready .size) (ready .room) c (ready .sorted);
           nests = rw (c .depth) nests1;
           proper = rw (c .depth) proper1;
-          held = λ v. rw (c .depth) (held-again priorities offsets targets (ready .size) (ready .room) c v);
         }
+
+    -- all of its region is new
+    pub lowered-whole : Whole n m s w1
+    lowered-whole v = rw (c .depth) (held-again priorities offsets targets (ready .size) (ready .room) c v)
 
     pub lowered-regions : (v : ℕ) → regionIn n m s priorities w1 v ≡ regionIn n m s priorities w0 v
     lowered-regions v =

@@ -1,8 +1,8 @@
 -- R goes over to level j: what `promote` leaves, and that the regions and the entries are then as a round of the rules asks.
 use mathlib.Core.Bool.{Bool, true, false, _&&_, not, cond, and-false}
 use mathlib.Core.List.{List}
-use mathlib.Core.Logic.{_⊎_, inl, inr, ⊎-elim}
-use mathlib.Core.Path.{_≡_, sym, ap, ap₂, _∙_}
+use mathlib.Core.Logic.{_⊎_, inl, inr}
+use mathlib.Core.Path.{_≡_, refl, sym, ap, _∙_}
 use Prim.Native.Nat.{ℕ, suc, _+_, _-_, _≤_, _<_}
 use native.Mathlib.Nat.{le-refl}
 use native.Mathlib.Omega.{arith}
@@ -10,19 +10,23 @@ use borrow.Author.Tests.{not-true}
 use lib.Dec.{ltb}
 use lib.ListN.{length, getD, set, length-set}
 use lib.Seq.{getD-set-same, getD-set-other}
-use Rattle.rules.specs.Counting.{Set}
-use Rattle.rules.specs.Game.{Even}
+use Rattle.rules.specs.Counting.{Set, without}
+use Rattle.rules.specs.Game.{Player, Even, Game}
 use Rattle.rules.specs.Tables.{words}
 use Rattle.rules.specs.Words.{noEntry}
-use Rattle.basics.specs.Basics.{bool-cases, and-right}
+use Rattle.rules.specs.Attractor.{Closed}
+use Rattle.basics.specs.Basics.{bool-cases, and-left, and-right}
+use Rattle.theory.specs.PromotionBasics.{closed-cong}
 use Rattle.area.specs.Area.{entries, free, setAt}
 use Rattle.area.specs.SetsAt.{set-kept, set-reduced}
+use Rattle.area.specs.Walked.{Beside}
 use Rattle.sets.specs.After.{Combined}
 use Rattle.attractor.specs.Attracted.{listed-kept}
-use Rattle.promotion_levels.specs.Nesting.{regionOf, Nesting, outside-all, below-is, promoted-nests, promoted-region, promoted-proper}
-use Rattle.promotion_levels.specs.Layout.{heldAt, wonAt, depthAt, topsAt, levelAt, depthIn, topIn, levelIn, heldIn, regionIn, entryIn, Ready}
+use Rattle.promotion_levels.specs.Nesting.{regionOf, Nesting, inside-all, outside-all, below-is, promoted-nests, promoted-region, promoted-proper}
+use Rattle.promotion_levels.specs.Layout.{heldAt, wonAt, depthAt, topsAt, levelAt, depthIn, topIn, levelIn, heldIn}
+use Rattle.promotion_levels.specs.Layout.{regionIn, entryIn, Whole, Ready}
 use Rattle.promotion_levels.specs.Places.{next-level, level-apart, level-high, level-kept, sets-kept}
-use Rattle.promotion_levels.specs.Without.{WithoutAt}
+use Rattle.promotion_levels.specs.Newcomers.{Newcomers}
 
 -- what it asks for: the places lie in the work area, R's before the level word, and that before the levels
 pub record Promotable (s held depth level : ℕ) (work : List ℕ) : Type 0 where
@@ -30,68 +34,47 @@ pub record Promotable (s held depth level : ℕ) (work : List ℕ) : Type 0 wher
   pub depth-low : depth < level
   pub high : level + s + s ≤ length work
 
--- what it leaves: the level after has lost R and is the last, and R is the region of the level now
+-- what it leaves: the level after has lost R and is the last, and R stays
 pub record PromotedTo (n s held depth level j : ℕ) (before after : List ℕ) : Type 0 where
   pub long : length after ≡ length before
   pub next :
       (v : ℕ) → setAt n (level + s) after v ≡ (setAt n (level + s) before v && not (setAt n held before v))
-  pub region : (v : ℕ) → setAt n held after v ≡ (setAt n level before v && not (setAt n (level + s) after v))
   pub depth-is : getD after depth 0 ≡ j
   pub rest :
       (i : ℕ) →
       (i ≡ depth → ⊥) →
-      (i < held) ⊎ (held + s ≤ i) →
-      (i < level + s) ⊎ (level + s + s ≤ i) →
+      Beside s (level + s) i →
       getD after i 0 ≡ getD before i 0
 
--- **its three writes leave that**
+-- **its two writes leave that**
 pub promoted-made :
-    {n s held depth level below j : ℕ} {w0 w1 w2 : List ℕ} →
+    {n s held depth level below j : ℕ} {w0 w1 : List ℕ} →
     s ≡ words n →
     Promotable s held depth level w0 →
     below ≡ level + s →
     Combined _-_ below held s w0 w1 →
-    WithoutAt n held level below (set w1 depth j) w2 →
-    PromotedTo n s held depth level j w0 w2
-promoted-made {n} {s} {held} {depth} {level} {below} {j} {w0} {w1} {w2} size given behind c1 c2 =
+    PromotedTo n s held depth level j w0 (set w1 depth j)
+promoted-made {n} {s} {held} {depth} {level} {below} {j} {w0} {w1} size given behind c =
     record {
-      long = c2 .long ∙ length-set w1 depth j ∙ c1 .long;
-      next = λ v. rw (← behind) (after-next v ∙ reduced v);
-      region =
-          λ v. rw (← behind) (c2 .made v ∙ ap₂ (λ (x y : Bool). x && not y) (level-same v) (after-set v ∙ sym (after-next v)));
-      depth-is =
-          c2 .rest depth (inr (omega (arith, size, given .held-low))) ∙
-          getD-set-same w1 depth j 0 (omega (arith, c1 .long, given .depth-low, given .high));
-      rest =
-          λ i d o x.
-          c2 .rest i (⊎-elim (λ l. inl l) (λ l. inr (omega (arith, size))) o) ∙ getD-set-other w1 depth i j 0 d ∙
-          c1 .rest i (rw behind x);
+      long = length-set w1 depth j ∙ c .long;
+      next = λ v. rw (← behind) (after-next v ∙ set-reduced n below held w0 w1 (rw size at c) v);
+      depth-is = getD-set-same w1 depth j 0 (omega (arith, c .long, given .depth-low, given .high));
+      rest = λ i d x. getD-set-other w1 depth i j 0 d ∙ c .rest i (rw behind x);
     }
   where
-    combined : Combined _-_ below held (words n) w0 w1
-    combined = rw size at c1
-
-    reduced : (v : ℕ) → setAt n below w1 v ≡ (setAt n below w0 v && not (setAt n held w0 v))
-    reduced v = set-reduced n below held w0 w1 combined v
-
     -- the level after is not touched again
-    after-set : (v : ℕ) → setAt n below (set w1 depth j) v ≡ setAt n below w1 v
-    after-set =
+    after-next : (v : ℕ) → setAt n below (set w1 depth j) v ≡ setAt n below w1 v
+    after-next =
         set-kept n below w1 (set w1 depth j)
         (λ i low high. getD-set-other w1 depth i j 0 (λ e. omega (arith, given .depth-low)))
 
-    after-next : (v : ℕ) → setAt n below w2 v ≡ setAt n below w1 v
-    after-next v =
-        set-kept n below (set w1 depth j) w2
-        (λ i low high. c2 .rest i (inr (omega (arith, size, given .held-low, given .depth-low)))) v ∙
-        after-set v
-
-    -- nor is level j
-    level-same : (v : ℕ) → setAt n level (set w1 depth j) v ≡ setAt n level w0 v
-    level-same =
-        set-kept n level w0 (set w1 depth j)
-        (λ i low high.
-        getD-set-other w1 depth i j 0 (λ e. omega (arith, given .depth-low)) ∙ c1 .rest i (inl (omega (arith, size))))
+-- b lies in y, which loses it: beside b, x without y is as before
+beside-lost : (x y b : Bool) → (b ≡ true → y ≡ true) → ((x && not (y && not b)) && not b) ≡ (x && not y)
+beside-lost false y b part = refl
+beside-lost true true true part = refl
+beside-lost true true false part = refl
+beside-lost true false true part = part refl
+beside-lost true false false part = refl
 
 module _ {n : ℕ} {priorities offsets targets : List ℕ} {s : ℕ} {w0 : List ℕ}
     (ready : Ready n priorities offsets targets s w0) (j : ℕ)
@@ -129,29 +112,26 @@ module _ {n : ℕ} {priorities offsets targets : List ℕ} {s : ℕ} {w0 : List 
       pub promote-ready : Promotable s H (depthAt n m s) X w0
       promote-ready = record { held-low = omega arith; depth-low = omega arith; high = y-high }
 
-      module _ {w1 : List ℕ} (c : PromotedTo n s H (depthAt n m s) X j w0 w1) where
+      module _ (whole : Whole n m s w0) {w1 : List ℕ} (c : PromotedTo n s H (depthAt n m s) X j w0 w1) where
         abbrev L1 : ℕ → Set
         L1 = levelIn n m s w1
 
-        -- words that are not changed
-        same1 :
-            (i : ℕ) → (i ≡ depthAt n m s → ⊥) → (i < H) ⊎ (H + s ≤ i) → (i < X + s) ⊎ (X + s + s ≤ i) →
-            getD w1 i 0 ≡ getD w0 i 0
-        same1 i d o x = c .rest i d o x
+        -- words before the number of the current level are not changed
+        low1 : (i : ℕ) → i < depthAt n m s → getD w1 i 0 ≡ getD w0 i 0
+        low1 i l = c .rest i (λ e. omega arith) (inl (omega arith))
 
-        low1 : (i : ℕ) → i < H → getD w1 i 0 ≡ getD w0 i 0
-        low1 i l = same1 i (λ e. omega arith) (inl l) (inl (omega arith))
+        held1 : (v : ℕ) → heldIn n m s w1 v ≡ R v
+        held1 = set-kept n H w0 w1 (λ i low high. low1 i (omega (arith, size)))
 
         level1 : (i v : ℕ) → i ≤ j → L1 i v ≡ L i v
         level1 i v l =
             level-kept n m s i w0 w1
             (λ x low high.
             let a = level-apart n m s i (suc j) (omega arith) in
-            same1 x (λ e. omega arith) (inr (omega arith)) (inl (omega (arith, y-is, size)))) v
+            c .rest x (λ e. omega arith) (inl (omega (arith, y-is, size)))) v
 
         top1 : (i : ℕ) → i ≤ j → topIn n m s w1 i ≡ topIn n m s w0 i
-        top1 i l =
-            same1 (topsAt n m s + i) (λ e. omega arith) (inr (omega arith)) (inl (omega (arith, ready .depth)))
+        top1 i l = c .rest (topsAt n m s + i) (λ e. omega arith) (inl (omega (arith, ready .depth)))
 
         place : X + s ≡ levelAt n m s (suc j)
         place = sym y-is
@@ -163,7 +143,7 @@ module _ {n : ℕ} {priorities offsets targets : List ℕ} {s : ℕ} {w0 : List 
         depth1 = c .depth-is
 
         nests1 : Nesting n j L1 (topIn n m s w1) (λ v. getD priorities v 0)
-        nests1 = promoted-nests (ready .nests) {R = R} j down (ready .held) level1 top1 last1
+        nests1 = promoted-nests (ready .nests) {R = R} j down whole level1 top1 last1
 
         q : ℕ
         q = topIn n m s w0 j
@@ -180,7 +160,7 @@ module _ {n : ℕ} {priorities offsets targets : List ℕ} {s : ℕ} {w0 : List 
             (regionIn n m s priorities w0 v))
         region-promoted v =
             ap (λ (i : ℕ). regionOf L1 (topIn n m s w1) (λ u. getD priorities u 0) i v) depth1 ∙
-            promoted-region (ready .nests) {R = R} j down (ready .held) level1 top1 last1 v
+            promoted-region (ready .nests) {R = R} j down whole level1 top1 last1 v
 
         entry-word : (v : ℕ) → v < n → getD w1 (entries n m + v) 0 ≡ getD w0 (entries n m + v) 0
         entry-word v l = low1 (entries n m + v) (omega arith)
@@ -201,7 +181,7 @@ module _ {n : ℕ} {priorities offsets targets : List ℕ} {s : ℕ} {w0 : List 
                 cond (R v) (entryIn n m s w0 v)
                 (cond (ltb (regionIn n m s priorities w0 v) (topIn n m s w0 j)) noEntry (entryIn n m s w0 v))
             go (inl r) x =
-                let out : L (suc k) v ≡ false = not-true (L (suc k) v) (and-right (L k v) _ (sym (ready .held v) ∙ r)) in
+                let out : L (suc k) v ≡ false = not-true (L (suc k) v) (and-right (L k v) _ (sym (whole v) ∙ r)) in
                 let gone : L1 (suc j) v ≡ false = last1 v ∙ rw r (and-false (L (suc j) v)) in
                 rw (gone, r, out) (entry-word v l)
             go (inr r) (inl i) = rw (last1 v, i, r, below-is (ready .nests) j v (omega arith) ∙ i)
@@ -221,11 +201,39 @@ module _ {n : ℕ} {priorities offsets targets : List ℕ} {s : ℕ} {w0 : List 
               sorted = sets-kept n (free n m) priorities w0 w1 (λ i low high. low1 i (omega (arith, size))) (ready .sorted);
               nests = rw depth1 nests1;
               proper = rw depth1 (promoted-proper k L L1 (ready .proper) R j down level1 last1);
-              held = λ v. rw depth1 (c .region v ∙ rw (place, sym (level1 j v (le-refl j))));
+            }
+
+        -- R lies in the level after, which loses it
+        held-next : (v : ℕ) → R v ≡ true → L (suc j) v ≡ true
+        held-next v r = inside-all (ready .nests) (suc j) k v down (omega arith) (and-left (L k v) _ (sym (whole v) ∙ r))
+
+        -- **R are the newcomers of the region of level j**: the others are all that it had
+        pub newcomers-promoted :
+            {g : Game} {a : Player} →
+            Closed g a (levelIn n m s w0 j) (without (levelIn n m s w0 j) (levelIn n m s w0 (suc j)))
+            (without (levelIn n m s w0 j) (levelIn n m s w0 (suc j))) →
+            Newcomers g a n m s w1
+        newcomers-promoted closed =
+            record {
+              part =
+                  λ v i.
+                  let r : R v ≡ true = sym (held1 v) ∙ i in
+                  let here = ready .nests .inside j v (omega arith) (held-next v r) in
+                  rw (depth1, level1 j v (le-refl j), here, last1 v, r, and-false (L (suc j) v));
+              settled =
+                  rw depth1
+                  (closed-cong (L j) (L1 j) (without (L j) (L (suc j)))
+                  (without (without (L1 j) (L1 (suc j))) (heldIn n m s w1))
+                  (λ v. sym (level1 j v (le-refl j)))
+                  (λ v.
+                  sym
+                  (rw (level1 j v (le-refl j), last1 v, held1 v)
+                  (beside-lost (L j v) (L (suc j) v) (R v) (held-next v))))
+                  closed);
             }
 
         pub won-promoted : (i : ℕ) → wonAt n m s Even ≤ i → i < depthAt n m s → getD w1 i 0 ≡ getD w0 i 0
-        won-promoted i low high = same1 i (λ e. omega arith) (inr (omega arith)) (inl (omega arith))
+        won-promoted i low high = low1 i high
 
         pub top-promoted : topIn n m s w1 (depthIn n m s w1) ≡ topIn n m s w0 j
         top-promoted = rw depth1 (top1 j (le-refl j))

@@ -6,7 +6,7 @@ ghost use Rattle.rules.specs.Tables.{words};
 ghost use Rattle.promotion_moves.specs.Promotion.{Promotable, PromotedTo};
 
 // Level j, at `level`, is the current one: the level after it loses R and is the last, so that all else in it goes back
-// to its priorities; R, at `held`, becomes the region of level j.
+// to its priorities. R, at `held`, are the newcomers of the region of level j.
 pub fn promote(s: usize, work: &mut [u64], held: usize, depth: usize, level: usize, j: usize)
     requires { ⌜ Promotable s held depth level (now work) ⌝ }
     ensures { λ r.
@@ -16,5 +16,4 @@ pub fn promote(s: usize, work: &mut [u64], held: usize, depth: usize, level: usi
     let below = next_set(level, s);
     sets::difference_with(work, below, held, s);
     work[depth] = j as u64;
-    promotion_levels::without(s, work, held, level, below);
 }

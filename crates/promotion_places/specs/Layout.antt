@@ -1,11 +1,11 @@
 -- Where priority promotion's own words stand behind the attractor's and the priorities' sets: R, what Even and Odd have won, the number of
 -- the current level, the levels' priorities, and the levels, which are sets.
-use mathlib.Core.Bool.{_&&_, not, cond}
+use mathlib.Core.Bool.{cond}
 use mathlib.Core.List.{List}
 use mathlib.Core.Path.{_≡_}
 use Prim.Native.Nat.{ℕ, suc, _+_, _*_, _≤_, min}
 use lib.ListN.{length, getD}
-use Rattle.rules.specs.Counting.{Set}
+use Rattle.rules.specs.Counting.{Set, without}
 use Rattle.rules.specs.Game.{Player, Even, Odd}
 use Rattle.rules.specs.Tables.{words}
 use Rattle.rules.specs.Words.{noEntry}
@@ -69,6 +69,15 @@ regionIn n m s priorities work =
 abbrev pub entryIn : ℕ → ℕ → ℕ → List ℕ → ℕ → ℕ
 entryIn n m s work v = cond (levelIn n m s work (suc (depthIn n m s work)) v) noEntry (getD work (entries n m + v) 0)
 
+-- the region of the current level: what the level after does not hold
+abbrev pub currentIn : ℕ → ℕ → ℕ → List ℕ → Set
+currentIn n m s work =
+    without (levelIn n m s work (depthIn n m s work)) (levelIn n m s work (suc (depthIn n m s work)))
+
+-- R's place has all of it
+abbrev pub Whole : ℕ → ℕ → ℕ → List ℕ → Type 0
+Whole n m s work = (v : ℕ) → heldIn n m s work v ≡ currentIn n m s work v
+
 -- what holds between two steps of a round
 pub record Ready (n : ℕ) (priorities offsets targets : List ℕ) (s : ℕ) (work : List ℕ) : Type 0 where
   pub size : s ≡ words n
@@ -81,9 +90,3 @@ pub record Ready (n : ℕ) (priorities offsets targets : List ℕ) (s : ℕ) (wo
       Nesting n (depthIn n (length targets) s work) (levelIn n (length targets) s work) (topIn n (length targets) s work)
       (λ v. getD priorities v 0)
   pub proper : Proper (depthIn n (length targets) s work) (levelIn n (length targets) s work)
-  -- R is the region of the current level
-  pub held :
-      (v : ℕ) →
-      heldIn n (length targets) s work v ≡
-      (levelIn n (length targets) s work (depthIn n (length targets) s work) v &&
-      not (levelIn n (length targets) s work (suc (depthIn n (length targets) s work)) v))

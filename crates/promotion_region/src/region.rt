@@ -4,13 +4,17 @@ use parity_game::Player;
 use parity_game::Priority;
 ghost use mathlib.Core.List.{List};
 ghost use Prim.Native.Nat.{ℕ};
-ghost use Rattle.rules.specs.Tables.{Accepted, tablesOf};
+ghost use Rattle.rules.specs.Game.{parity};
+ghost use Rattle.rules.specs.Tables.{Accepted, gameOf, tablesOf};
 ghost use Rattle.promotion_region.specs.Query.{QueryReady, Queried};
 ghost use Rattle.promotion_levels.specs.Layout.{Ready};
+ghost use Rattle.promotion_levels.specs.Newcomers.{Newcomers};
 ghost use lib.ListN.{length};
 
-// R, at `held`, is the attractor of region p within the current level, at `base`, and leaves the level after it. Its
-// heads, of priority p, stand in the place of the level after that, which is not in use.
+// R, at `held`, is the attractor of region p within the current level, at `base`, and leaves the level after it. At first
+// only the newcomers of region p stand there: nothing can be drawn into the others, so what is drawn in lies in the
+// level after and leads to a newcomer. R's heads, of priority p, stand where the level after that would, which is not
+// in use.
 pub fn query(
     owners: &[u8],
     offsets: &[u16],
@@ -27,14 +31,18 @@ pub fn query(
         Accepted (tablesOf (now (owners .entry)) priorities (now (offsets .entry)) (now (targets .entry))) →
         Ready (length (now (owners .entry))) priorities (now (offsets .entry)) (now (targets .entry)) s
         (now (work .entry)) →
+        Newcomers (gameOf (tablesOf (now (owners .entry)) priorities (now (offsets .entry)) (now (targets .entry))))
+        (parity (p .0)) (length (now (owners .entry))) (length (now (targets .entry))) s (now (work .entry)) →
         Queried (now (owners .entry)) priorities (now (offsets .entry)) (now (targets .entry)) s (p .0)
         (now (work .entry)) (now (work .exit))) ⌝ }
 {
     let below = next_set(base, s);
     let heads = next_set(below, s);
     let alpha = Player::from_priority(p).index();
-    attractor::attract(owners, offsets, targets, alpha, work, base, held);
-    set_difference::without(s, work, below, base, held);
+    sets::union_with(work, below, held, s);
+    attractor::attract(owners, offsets, targets, alpha, work, below, held);
+    sets::difference_with(work, below, held, s);
+    set_difference::without(s, work, held, base, below);
     let of = priority_sets::set_at(owners.len(), targets.len(), s, p.0);
     set_difference::meet(s, work, heads, held, of);
 }

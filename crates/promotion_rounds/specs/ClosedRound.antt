@@ -14,9 +14,10 @@ use Rattle.rules.specs.Promotion.{Regions, regionSet, isOpen, afterRounds}
 use Rattle.basics.specs.Basics.{and-left}
 use Rattle.theory.specs.PromotionEntries.{mover, AttractedEntries, ClosesEntries}
 use Rattle.theory.specs.PromotionRounds.{attractedRegion}
+use Rattle.theory.specs.PromotionStanding.{Standing}
 use Rattle.theory.specs.PromotionTable.{openAt, nextAbove, open-read}
 use Rattle.promotion_levels.specs.Nesting.{inside-all, here-is}
-use Rattle.promotion_levels.specs.Layout.{wonAt, depthAt, depthIn, topIn, levelIn, heldIn, regionIn, entryIn, Ready}
+use Rattle.promotion_levels.specs.Layout.{wonAt, depthAt, depthIn, topIn, levelIn, heldIn, regionIn, entryIn, Whole, Ready}
 use Rattle.promotion_escape.specs.Highest.{HighestLevel}
 use Rattle.promotion_escape.specs.ByRegions.{LowestAbove, regionBefore, highest-lowest}
 use Rattle.promotion_rounds.specs.Shown as shown
@@ -31,6 +32,7 @@ pub record ClosedRound (owners priorities offsets targets : List ℕ) (s made cu
       Shows owners priorities offsets targets s (afterRounds (gameOf (tablesOf owners priorities offsets targets)) made) current
       left w0
   pub ready : Ready (length owners) priorities offsets targets s w2
+  pub whole : Whole (length owners) (length targets) s w2
   pub agrees :
       let g = gameOf (tablesOf owners priorities offsets targets) in
       (v : ℕ) → v < g .size →
@@ -81,19 +83,22 @@ module _ {owners priorities offsets targets : List ℕ} {s made current left : �
     pub total : Total g
     total = shown.total (c .accepted) made (c .shows)
 
+    pub standing : Standing g r
+    standing = shown.standing (c .accepted) made (c .shows)
+
     pub small : p < 256
     small = shown.small (c .accepted) made (c .shows)
 
     -- R are the vertices of region p
     pub held-is : (v : ℕ) → heldIn n m s w2 v ≡ eqb (T v) p
     held-is v =
-        c .ready .held v ∙ sym (here-is (c .ready .nests) k v (le-refl k)) ∙ ap (λ (x : ℕ). eqb (T v) x) (c .top)
+        c .whole v ∙ sym (here-is (c .ready .nests) k v (le-refl k)) ∙ ap (λ (x : ℕ). eqb (T v) x) (c .top)
 
     -- all of them stand in the first level
     pub held-first : (v : ℕ) → heldIn n m s w2 v ≡ true → levelIn n m s w2 0 v ≡ true
     held-first v i =
         inside-all (c .ready .nests) 0 k v (omega arith) (omega arith)
-        (and-left (levelIn n m s w2 k v) _ (sym (c .ready .held v) ∙ i))
+        (and-left (levelIn n m s w2 k v) _ (sym (c .whole v) ∙ i))
 
     pub not-open : some (g .size) (openAt g T p) ≡ false
     not-open = sym (open-read g total r small T (c .agrees)) ∙ c .closed

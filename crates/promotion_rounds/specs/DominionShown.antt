@@ -19,7 +19,8 @@ use Rattle.basics.specs.Basics.{clash, not-true-is-false, and-left, and-right}
 use Rattle.theory.specs.PromotionEntries.{mover, RoundEntries}
 use Rattle.theory.specs.PromotionTable.{nextAbove, some-way-read}
 use Rattle.area.specs.Area.{setAt}
-use Rattle.promotion_levels.specs.Layout.{heldAt, wonAt, depthAt, levelsAt, levelAt, depthIn, levelIn, heldIn, regionIn, entryIn, Ready, topIn}
+use Rattle.promotion_levels.specs.Layout.{heldAt, wonAt, depthAt, levelsAt, levelAt, depthIn, levelIn, heldIn, regionIn, entryIn, Whole, Ready}
+use Rattle.promotion_levels.specs.Layout.{topIn}
 use Rattle.promotion_escape.specs.Highest.{HighestLevel}
 use Rattle.promotion_escape.specs.ByRegions.{regionBefore}
 use Rattle.promotion_rounds.specs.Shown.{Shows}
@@ -35,10 +36,11 @@ use Rattle.promotion_levels.specs.Nesting.{outside-all, unsolved-is}
 use Rattle.promotion_levels.specs.Places.{level-high}
 use Rattle.predecessors.specs.Table.{SoundEdges}
 use Rattle.promotion_levels.specs.Places.{left-is, at-region-is}
+use Rattle.promotion_levels.specs.Newcomers.{whole-newcomers}
 use Rattle.promotion_levels.specs.Pulled.{Pulled, pulled-as}
 use Rattle.promotion_levels.specs.Descending.{Descends, Descended}
 use Rattle.promotion_levels.specs.Going.{won-words}
-use Rattle.promotion_levels.specs.Afresh.{afresh-ready, afresh-regions, afresh-entries, afresh-top}
+use Rattle.promotion_levels.specs.Afresh.{afresh-ready, afresh-whole, afresh-regions, afresh-entries, afresh-top}
 use Rattle.promotion_moves.specs.Dominion.{DominionReady, Dominated}
 use Rattle.attractor.specs.Attracted.{Listed, listed-kept}
 use Rattle.promotion_levels.specs.Places.{sets-kept}
@@ -173,7 +175,7 @@ module _ {owners priorities offsets targets : List ℕ} {s made current left : �
             pulled-as
             (λ v. sym (first-in w2 v) ∙ sym (left-is owners priorities offsets targets (round .ready .nests) v))
             (λ v.
-            round .ready .held v ∙ sym (at-region-is owners priorities offsets targets (round .ready .nests) v) ∙
+            round .whole v ∙ sym (at-region-is owners priorities offsets targets (round .ready .nests) v) ∙
             ap (λ (x : ℕ). atRegion (unsolved g T) T x v) (round .top))
             (λ v. refl) (c3 .pulled)
 
@@ -206,6 +208,9 @@ module _ {owners priorities offsets targets : List ℕ} {s made current left : �
 
           ready4 : Ready n priorities offsets targets s w4
           ready4 = rw (← each) (afresh-ready priorities offsets targets given4 edges3 listed3 c4)
+
+          whole4 : Whole n m s w4
+          whole4 = rw (← each) (afresh-whole priorities offsets targets given4 edges3 listed3 c4)
 
           region4 : (v : ℕ) → regionIn n m s priorities w4 v ≡ cond (levelIn n m s w3 0 v) (getD priorities v 0) 256
           region4 v = rw (← each) (afresh-regions priorities offsets targets given4 edges3 listed3 c4 v)
@@ -290,6 +295,7 @@ module _ {owners priorities offsets targets : List ℕ} {s made current left : �
               λ v l. region-now v l ∙ sym (region v l) in (
                 record {
                   ready = ready4;
+                  newcomers = whole-newcomers n m s w4 whole4;
                   current =
                       next-is ∙
                       greatest-cong n (unsolved g (regionIn n m s priorities w4)) (unsolved g (roundOf g r .region))
@@ -343,7 +349,7 @@ module _ {owners priorities offsets targets : List ℕ} {s made current left : �
               kept-here v l e =
                   let i : heldIn n m s w2 v ≡ true = held-is round v ∙ eq-eqb (T v) p e in
                   let d = c3 .pulled .certificate .closed .target v i in
-                  let out = not-true (L (suc k) v) (and-right (L k v) _ (sym (round .ready .held v) ∙ i)) in
+                  let out = not-true (L (suc k) v) (and-right (L k v) _ (sym (round .whole v) ∙ i)) in
                   entry4 v l ∙ rw (gone v d)
                   (c3 .pulled .kept v l (λ x no. absurd (clash i no)) ∙ sym (entry2 v out))
 

@@ -19,13 +19,14 @@ use Rattle.theory.specs.PromotionEntries.{ClosesEntries}
 use Rattle.area.specs.Area.{entries, free, setAt}
 use Rattle.successors.specs.Lowest.{endIn}
 use Rattle.promotion_levels.specs.Nesting.{inside-all}
-use Rattle.promotion_levels.specs.Layout.{heldAt, depthIn, levelIn, heldIn, regionIn, entryIn, Ready}
+use Rattle.promotion_levels.specs.Layout.{heldAt, depthIn, levelIn, heldIn, regionIn, entryIn, Whole, Ready}
 use Rattle.promotion_levels.specs.Kept as kept
 use Rattle.promotion_levels.specs.Pulled.{owner-number}
 use Rattle.promotion_moves.specs.Filling.{FillAll, FilledAll}
 
 module _ (owners : List ℕ) {priorities offsets targets : List ℕ} (ok : Accepted (tablesOf owners priorities offsets targets)) {s : ℕ}
     (p : ℕ) {w1 : List ℕ} (ready : Ready (length owners) priorities offsets targets s w1)
+    (whole : Whole (length owners) (length targets) s w1)
   where
     abbrev n : ℕ
     n = length owners
@@ -47,10 +48,10 @@ module _ (owners : List ℕ) {priorities offsets targets : List ℕ} (ok : Accep
 
     -- R lies in the current level, and not in the last
     held-level : (v : ℕ) → heldIn n m s w1 v ≡ true → levelIn n m s w1 k v ≡ true
-    held-level v i = and-left (levelIn n m s w1 k v) _ (sym (ready .held v) ∙ i)
+    held-level v i = and-left (levelIn n m s w1 k v) _ (sym (whole v) ∙ i)
 
     held-out : (v : ℕ) → heldIn n m s w1 v ≡ true → levelIn n m s w1 (suc k) v ≡ false
-    held-out v i = not-true (levelIn n m s w1 (suc k) v) (and-right (levelIn n m s w1 k v) _ (sym (ready .held v) ∙ i))
+    held-out v i = not-true (levelIn n m s w1 (suc k) v) (and-right (levelIn n m s w1 k v) _ (sym (whole v) ∙ i))
 
     pub held-small : (v : ℕ) → heldIn n m s w1 v ≡ true → v < n
     held-small v i = ready .nests .below v (inside-all (ready .nests) 0 k v (omega arith) (omega arith) (held-level v i))
@@ -88,6 +89,9 @@ module _ (owners : List ℕ) {priorities offsets targets : List ℕ} (ok : Accep
 
         pub filled-ready : Ready (length owners) priorities offsets targets s w2
         filled-ready = kept.ready-kept w2 ready filled-long filled-table filled-rest
+
+        pub filled-whole : Whole (length owners) (length targets) s w2
+        filled-whole = kept.whole-kept w2 ready filled-long filled-table filled-rest whole
 
         pub filled-region :
             (v : ℕ) →

@@ -22,10 +22,11 @@ use Rattle.theory.specs.PromotionStanding.{open-goes-down}
 use Rattle.theory.specs.PromotionTable.{open-read, table-opens, attracts-table}
 use Rattle.area.specs.Area.{setAt}
 use Rattle.promotion_levels.specs.Nesting.{inside-all, region-fresh, few-levels, levels-below}
-use Rattle.promotion_levels.specs.Layout.{heldAt, wonAt, levelsAt, depthIn, topIn, levelIn, regionIn, entryIn, Ready}
+use Rattle.promotion_levels.specs.Layout.{heldAt, wonAt, levelsAt, depthIn, topIn, levelIn, regionIn, entryIn, Whole, Ready}
+use Rattle.promotion_levels.specs.Newcomers.{whole-newcomers}
 use Rattle.promotion_levels.specs.Descending.{Descends, Descended}
 use Rattle.promotion_levels.specs.Going.{deeper, won-words}
-use Rattle.promotion_levels.specs.Lowered.{lowered-ready, lowered-regions, lowered-entries, lowered-top}
+use Rattle.promotion_levels.specs.Lowered.{lowered-ready, lowered-whole, lowered-regions, lowered-entries, lowered-top}
 use Rattle.promotion_region.specs.Query.{Queried}
 use Rattle.promotion_rounds.specs.Shown as shown
 use Rattle.promotion_rounds.specs.Shown.{Shows}
@@ -148,6 +149,9 @@ module _ {owners priorities offsets targets : List ℕ} (ok : Accepted (tablesOf
         ready2 : Ready N priorities offsets targets s w2
         ready2 = lowered-ready priorities offsets targets ready′ (lower .0) lower-last′ c2
 
+        whole2 : Whole N m s w2
+        whole2 = lowered-whole priorities offsets targets ready′ (lower .0) lower-last′ c2
+
         region2 : (v : ℕ) → regionIn N m s priorities w2 v ≡ regionIn N m s priorities w1 v
         region2 = lowered-regions priorities offsets targets ready′ (lower .0) lower-last′ c2
 
@@ -202,6 +206,7 @@ module _ {owners priorities offsets targets : List ℕ} (ok : Accepted (tablesOf
             table-opens g total r small T agrees1 (shown.standing ok made shows) (sym (open-read g total r small T agrees1) ∙ opens) in (
               record {
                 ready = rw (← each) ready2;
+                newcomers = whole-newcomers n m s w2 (rw (← each) whole2);
                 current = next-is ∙ sym now;
                 top = rw (← each) (sym (lowered-top priorities offsets targets ready′ (lower .0) lower-last′ c2));
                 region = λ v l. (rw (← each) (region2 v)) ∙ sym (region v l);

@@ -33,7 +33,7 @@ use Rattle.area.specs.Walking.{lent-part}
 use Rattle.priority_sets.specs.Sorting.{PriorityPlaceable}
 use Rattle.attractor.specs.Attracted.{own-is}
 use Rattle.promotion_levels.specs.Layout.{heldAt, wonAt, depthAt, topsAt, levelsAt, levelAt, endAt, deep, depthIn, topIn, levelIn}
-use Rattle.promotion_levels.specs.Layout.{heldIn, regionIn, entryIn, Ready}
+use Rattle.promotion_levels.specs.Layout.{heldIn, regionIn, entryIn, Whole, Ready}
 use Rattle.promotion_levels.specs.Nesting.{few-levels, levels-below}
 use Rattle.promotion_levels.specs.Places.{next-level, level-high, upTo-is}
 use Rattle.promotion_levels.specs.Going.{deeper}
@@ -212,13 +212,14 @@ descended-rest {priorities} {m} {s} {k} l c i high =
 held-escapes :
     (owners : List ℕ) {priorities offsets targets : List ℕ} (ok : Accepted (tablesOf owners priorities offsets targets))
     {s held : ℕ} {work : List ℕ} → Ready (length owners) priorities offsets targets s work →
+    Whole (length owners) (length targets) s work →
     held ≡ heldAt (length owners) (length targets) s → Escapes owners offsets targets s held work
-held-escapes owners {priorities} {offsets} {targets} ok {s} {held} {work} ready held-is =
+held-escapes owners {priorities} {offsets} {targets} ok {s} {held} {work} ready whole held-is =
     record {
       size = ready .size;
       edges = ready .edges;
       high = omega (arith, held-is, ready .room, ready .size);
-      below = λ v i. filled.held-small owners ok 0 ready v (ap (λ (x : ℕ). setAt (length owners) x work v) (sym held-is) ∙ i);
+      below = λ v i. filled.held-small owners ok 0 ready whole v (ap (λ (x : ℕ). setAt (length owners) x work v) (sym held-is) ∙ i);
     }
 
 module _ {owners priorities offsets targets : List ℕ} (ok : Accepted (tablesOf owners priorities offsets targets)) {s : ℕ}
@@ -299,6 +300,7 @@ module _ {owners priorities offsets targets : List ℕ} (ok : Accepted (tablesOf
               priorities = priorities;
               accepted = ok;
               ready = shows .ready;
+              newcomers = shows .newcomers;
               current = shows .top;
               held-is = held-is;
               base-is = at .base-is;
@@ -312,6 +314,9 @@ module _ {owners priorities offsets targets : List ℕ} (ok : Accepted (tablesOf
           ready1 : Ready n priorities offsets targets s w1
           ready1 = c1 .ready
 
+          whole1 : Whole n m s w1
+          whole1 = c1 .whole
+
           entries1 : AttractedEntries g r (entryIn n m s w0) (entryIn n m s w1)
           entries1 = attracts-table g r (regionIn n m s priorities w0) (shown.agrees0 ok made shows) (c1 .attracts)
 
@@ -320,7 +325,7 @@ module _ {owners priorities offsets targets : List ℕ} (ok : Accepted (tablesOf
           head-is v = ap (λ (x : ℕ). setAt n x w1 v) heads-is ∙ c1 .heads v
 
           head-small : (v : ℕ) → setAt n heads w1 v ≡ true → v < n
-          head-small v i = filled.held-small owners ok 0 ready1 v (and-left (heldIn n m s w1 v) _ (sym (head-is v) ∙ i))
+          head-small v i = filled.held-small owners ok 0 ready1 whole1 v (and-left (heldIn n m s w1 v) _ (sym (head-is v) ∙ i))
 
           pub round-openable :
               Openable owners offsets targets s heads held below w1
@@ -333,7 +338,7 @@ module _ {owners priorities offsets targets : List ℕ} (ok : Accepted (tablesOf
                       high = omega (arith, heads-room, c1 .long, ready1 .size);
                       below = head-small;
                     };
-                held-room = held-escapes owners ok ready1 held-is .high;
+                held-room = held-escapes owners ok ready1 whole1 held-is .high;
                 room = omega (arith, heads-room, at .heads-is, c1 .long, ready1 .size);
               }
 
@@ -388,7 +393,7 @@ module _ {owners priorities offsets targets : List ℕ} (ok : Accepted (tablesOf
               FillAll owners offsets targets s heads held (entries (length owners) (length targets)) w1
           round-fill =
               subst (λ (x : ℕ). FillAll owners offsets targets s heads x (entries n m) w1) (sym held-is)
-              (filled.fill-ready owners ok p ready1 (omega (arith, heads-is)) (omega (arith, heads-room, c1 .long)) head-small)
+              (filled.fill-ready owners ok p ready1 whole1 (omega (arith, heads-is)) (omega (arith, heads-room, c1 .long)) head-small)
 
           module _ {w2 : List ℕ}
               (made2 :
@@ -402,13 +407,16 @@ module _ {owners priorities offsets targets : List ℕ} (ok : Accepted (tablesOf
                   held-is made2
 
               ready2 : Ready n priorities offsets targets s w2
-              ready2 = filled.filled-ready owners ok p ready1 c2
+              ready2 = filled.filled-ready owners ok p ready1 whole1 c2
+
+              whole2 : Whole n m s w2
+              whole2 = filled.filled-whole owners ok p ready1 whole1 c2
 
               same2 : (i : ℕ) → free n m ≤ i → getD w2 i 0 ≡ getD w1 i 0
-              same2 = filled.filled-rest owners ok p ready1 c2
+              same2 = filled.filled-rest owners ok p ready1 whole1 c2
 
               long2 : length w2 ≡ length w1
-              long2 = filled.filled-long owners ok p ready1 c2
+              long2 = filled.filled-long owners ok p ready1 whole1 c2
 
               depth2 : depthIn n m s w2 ≡ depthIn n m s w1
               depth2 = same2 (depthAt n m s) (omega arith)
@@ -417,7 +425,7 @@ module _ {owners priorities offsets targets : List ℕ} (ok : Accepted (tablesOf
               k2-is = k-is ∙ sym (depth2 ∙ c1 .depth)
 
               agrees2 : (v : ℕ) → v < g .size → regionIn n m s priorities w2 v ≡ attractedRegion g r v
-              agrees2 v l = filled.filled-region owners ok p ready1 c2 v ∙ shown.agrees1 ok made shows c1 v l
+              agrees2 v l = filled.filled-region owners ok p ready1 whole1 c2 v ∙ shown.agrees1 ok made shows c1 v l
 
               top2 : topIn n m s w2 (depthIn n m s w2) ≡ p
               top2 =
@@ -430,7 +438,7 @@ module _ {owners priorities offsets targets : List ℕ} (ok : Accepted (tablesOf
 
               left2 : (v : ℕ) → levelIn n m s w2 0 v ≡ levelIn n m s w0 0 v
               left2 v =
-                  kept.level-same w2 ready1 long2 (filled.filled-table owners ok p ready1 c2) same2 0 v ∙
+                  kept.level-same w2 ready1 long2 (filled.filled-table owners ok p ready1 whole1 c2) same2 0 v ∙
                   c1 .levels 0 v (omega arith)
 
               entered0 : EntriesInside g (remaining g r) (r .region) p (entryIn n m s w0)
@@ -440,7 +448,7 @@ module _ {owners priorities offsets targets : List ℕ} (ok : Accepted (tablesOf
 
               fills2 : ClosesEntries g (mover r) (regionSet g r) (entryIn n m s w1) (entryIn n m s w2)
               fills2 =
-                  filled.filled-entries owners ok p ready1 c2 alpha-is
+                  filled.filled-entries owners ok p ready1 whole1 c2 alpha-is
                   (shown.R-is ok made shows c1) head-is
                   (entry-but-heads (shown.total ok made shows) (accepted-few (tablesOf owners priorities offsets targets) ok) r
                   (shown.standing ok made shows .placed) entered0 entries1)
@@ -455,7 +463,7 @@ module _ {owners priorities offsets targets : List ℕ} (ok : Accepted (tablesOf
               pub round-escapable : Escapable owners offsets targets s held levels k w2
               round-escapable =
                   record {
-                    escapes = held-escapes owners ok ready2 held-is;
+                    escapes = held-escapes owners ok ready2 whole2 held-is;
                     room = omega (arith, base-at, heads-room, at .heads-is, at .below-is, same-all .0);
                     nested =
                         subst₂ (λ (l x : ℕ). Nested (levelFrom n s l w2) x)
@@ -482,6 +490,7 @@ module _ {owners priorities offsets targets : List ℕ} (ok : Accepted (tablesOf
               accepted = ok;
               shows = shows;
               ready = ready2 at (esc .queried) (esc .filled);
+              whole = whole2 at (esc .queried) (esc .filled);
               agrees = agrees2 at (esc .queried) (esc .filled);
               top = top2 at (esc .queried) (esc .filled);
               won-kept = won2 at (esc .queried) (esc .filled);
@@ -544,7 +553,7 @@ module _ {owners priorities offsets targets : List ℕ} (ok : Accepted (tablesOf
                 λ i l.
                     let most = level-high n m s (suc (j - 1)) (omega (arith, down, closed-round .ready .depth)) in
                     let next = next-level n m s (j - 1) in
-                    c3 .rest i (λ e. omega arith) (inr (omega arith)) (inr (omega (arith, most, next))) ∙ kept-all .1 i l,
+                    c3 .rest i (λ e. omega arith) (inr (omega (arith, most, next))) ∙ kept-all .1 i l,
               )
 
               pub round-promotes :

@@ -8,7 +8,7 @@ use native.Mathlib.Nat.{le-refl}
 use lib.Dec.{eqb, ltb}
 use lib.ListN.{length, getD}
 use Rattle.rules.specs.Counting.{Set, count, some}
-use Rattle.rules.specs.Game.{Player, Game, Total}
+use Rattle.rules.specs.Game.{Player, Game, Total, parity}
 use Rattle.rules.specs.Tables.{Tables, gameOf, Accepted, tablesOf}
 use Rattle.rules.specs.Promotion.{Regions, regionSet, isOpen, afterRounds}
 use Rattle.basics.specs.Basics.{lt-or-ge}
@@ -24,6 +24,7 @@ use Rattle.area.specs.Area.{setAt}
 use Rattle.promotion_levels.specs.Nesting.{regionOf, Nesting, here-is, below-is}
 use Rattle.promotion_levels.specs.Layout.{heldAt, wonAt, levelAt, depthIn, topIn, levelIn, heldIn, regionIn, Ready}
 use Rattle.promotion_levels.specs.Places.{solved-above}
+use Rattle.promotion_levels.specs.Newcomers.{Newcomers}
 use Rattle.promotion_levels.specs.Pulled.{owner-test}
 use Rattle.promotion_region.specs.Query.{Queried}
 use Rattle.promotion_open.specs.Opening.{isOpenIn}
@@ -37,6 +38,8 @@ head-first false false c = refl
 -- the work area and the small state show a state of the rules
 pub record Shows (owners priorities offsets targets : List ℕ) (s : ℕ) (r : Regions) (at many : ℕ) (work : List ℕ) : Type 0 where
   pub ready : Ready (length owners) priorities offsets targets s work
+  pub newcomers :
+      Newcomers (gameOf (tablesOf owners priorities offsets targets)) (parity at) (length owners) (length targets) s work
   pub current : at ≡ r .current
   pub top :
       at ≡ topIn (length owners) (length targets) s work (depthIn (length owners) (length targets) s work)
@@ -134,7 +137,7 @@ module _ {owners priorities offsets targets : List ℕ} (ok : Accepted (tablesOf
       -- R are the vertices of region p, and the last level those below
       pub held-is : (v : ℕ) → R v ≡ eqb (T v) p
       held-is v =
-          (rw depth1 at (c1 .ready .held v)) ∙ sym (here-is nests1 k v (le-refl k)) ∙
+          (rw depth1 at (c1 .whole v)) ∙ sym (here-is nests1 k v (le-refl k)) ∙
           ap₂ (λ (x y : ℕ). eqb x y) (sym (T-is v)) top1
 
       pub last-is : (v : ℕ) → L (suc k) v ≡ ltb (T v) p

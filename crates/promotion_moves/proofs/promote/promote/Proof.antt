@@ -1,5 +1,5 @@
 -- `promote` meets its contract.
-use mathlib.Core.Logic.{inl, inr}
+use mathlib.Core.Logic.{inr}
 use mathlib.Core.Path.{_∙_}
 use native.Mathlib.Omega.{arith}
 use lib.ListN.{length-set}
@@ -31,38 +31,16 @@ mul-work c = search needs
 slice-write-work : tie.Need-slice-write-work
 slice-write-work c = search needs
 
-without-requires : tie.Need-without-requires
-without-requires c κs =
-    let lost = c .before .before .before in
-    let next = lost .before .before .next-set .ensures in
-    let given = start-of lost .pre in
-    let args = start-of lost .args in
-    let long = length-set (lost .difference-with .last .0) (args .depth) (args .j) ∙ lost .difference-with .ensures .long in (
-      record {
-        into-fits = omega (arith, given .held-low, given .depth-low, given .high);
-        from-fits = omega (arith, given .high);
-        apart = inl (omega (arith, given .held-low, given .depth-low));
-      },
-      record {
-        into-fits = omega (arith, given .held-low, given .depth-low, given .high);
-        from-fits = omega (arith, given .high);
-        apart = inl (omega (arith, given .held-low, given .depth-low));
-      },
-    )
-
 same-length : tie.Need-same-length
 same-length c =
-    let made = c .before .before in
-    let lost = made .before .before .before .before in
+    let lost = c .before .before in
     let args = start-of lost .args in
-    made .without .kept .1 .0 ∙ length-set (lost .difference-with .last .0) (args .depth) (args .j) ∙ lost .difference-with .kept .0
+    length-set (lost .difference-with .last .0) (args .depth) (args .j) ∙ lost .difference-with .kept .0
 
 returns : tie.Need-returns
 returns c n size =
-    let made = c .before .before in
-    let lost = made .before .before .before .before in
-    promoted-made size (start-of lost .pre) (lost .before .before .next-set .ensures)
-    (lost .difference-with .ensures) (made .without .ensures n size)
+    let lost = c .before .before in
+    promoted-made size (start-of lost .pre) (lost .before .before .next-set .ensures) (lost .difference-with .ensures)
 
 pub promote-spec : {M : Type 1} → statement M
 promote-spec =
@@ -72,6 +50,5 @@ promote-spec =
     difference-with-requires
     mul-work
     slice-write-work
-    without-requires
     same-length
     returns)

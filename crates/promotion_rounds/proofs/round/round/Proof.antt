@@ -126,7 +126,8 @@ queried :
     Queried (a .owners .now) (a .priorities .now) (a .offsets .now) (a .targets .now) (a .s) (a .state .current .0) (a .work .now)
     (drawn q)
 queried q =
-    let g = query-start q in q .query .ensures (g .args .priorities .now) (g .pre .accepted) (g .pre .shows .ready)
+    let g = query-start q in
+    q .query .ensures (g .args .priorities .now) (g .pre .accepted) (g .pre .shows .ready) (g .pre .shows .newcomers)
 
 held-at-requires : tie.Need-held-at-requires
 held-at-requires c κs =
