@@ -15,6 +15,7 @@ use Rattle.rules.specs.Counting.{Set}
 use Rattle.rules.specs.Solver.{cleared}
 use Rattle.rules.specs.Tables.{Tables, vertices, edgesIn, words, workWords}
 use Rattle.rules.specs.Words.{setOf}
+use Rattle.basics.specs.Frame.{Beside, Unchanged}
 use Rattle.sets.specs.After.{Put}
 use Rattle.sets.specs.Laws.{put-set}
 use Rattle.area.specs.Area.{setAt, wordsAt}
@@ -129,7 +130,7 @@ module _ (n s base v : ℕ) (work ys : List ℕ) (size : s ≡ words n) (high : 
     pub inserted-long : length (back base s work ys) ≡ length work
     inserted-long = back-long base s work ys fits as-long
 
-    pub inserted-rest : (i : ℕ) → (i < base) ⊎ (base + words n ≤ i) → getD (back base s work ys) i 0 ≡ getD work i 0
+    pub inserted-rest : Unchanged (Beside (words n) base) work (back base s work ys)
     inserted-rest i (inl l) = back-front base s work ys fits as-long i l
     inserted-rest i (inr l) = back-behind base s work ys fits as-long i (omega arith)
 

@@ -3,6 +3,7 @@
 pub mod Area
 pub mod EdgesOf
 -- laws: what other crates cite
+pub mod Regions
 pub mod Lent
 pub mod SetsAt
 pub mod Walking

@@ -12,6 +12,7 @@ use lib.Seq.{getD-set-same, getD-set-other}
 use Rattle.rules.specs.Counting.{times}
 use Rattle.rules.specs.Tables.{words}
 use Rattle.basics.specs.Basics.{clash}
+use Rattle.basics.specs.Frame.{Beside, Unchanged}
 use Rattle.sets.specs.Laws.{member-bit}
 use Rattle.walk.specs.MemberLaws.{times-members}
 use Rattle.parity_game.specs.declared.player.VertexIndex.{VertexIndex}
@@ -34,7 +35,7 @@ pub record Walkable (n s base : ℕ) (Out : ℕ → Type 0) (work : List ℕ) : 
 -- the work area after a change: the words outside stay, and what is good stays good
 pub record Keeps (Out : ℕ → Type 0) (Good : List ℕ → Type 0) (before after : List ℕ) : Type 0 where
   pub long : length after ≡ length before
-  pub rest : (i : ℕ) → Out i → getD after i 0 ≡ getD before i 0
+  pub rest : Unchanged Out before after
   pub good : Good after
 
 pub keeps-none : {Out : ℕ → Type 0} {Good : List ℕ → Type 0} {work : List ℕ} → Good work → Keeps Out Good work work
@@ -63,10 +64,6 @@ pub record Turn {C : Type 0} (n : ℕ) (Out : ℕ → Type 0) (Good : List ℕ �
 -- nothing more is asked of the work area
 abbrev pub Always : List ℕ → Type 0
 Always work = Unit {0}
-
--- a word outside the k words at a place
-abbrev pub Beside : ℕ → ℕ → ℕ → Type 0
-Beside k place i = (i < place) ⊎ (place + k ≤ i)
 
 -- the word of a vertex, of those at a place
 abbrev pub wordOf : ℕ → List ℕ → ℕ → ℕ

@@ -1,17 +1,18 @@
 -- From what `attract` asks for to what holds where its loop begins: nothing is taken and no entry was met.
 use mathlib.Core.Bool.{Bool, true, false, _&&_, _||_, not}
 use mathlib.Core.List.{List}
-use mathlib.Core.Logic.{_⊎_, inl, inr}
+use mathlib.Core.Logic.{inl, inr}
 use mathlib.Core.Path.{_≡_, refl, sym, ap, subst, fun-ext, _∙_}
-use Prim.Native.Nat.{ℕ, _+_, _-_, _≤_, _<_, zero-le}
+use Prim.Native.Nat.{ℕ, _+_, _-_, zero-le}
 use native.Mathlib.Omega.{arith}
-use lib.ListN.{length, getD}
+use lib.ListN.{length}
 use Rattle.rules.specs.Counting.{Set}
 use Rattle.rules.specs.Game.{playerOf}
 use Rattle.rules.specs.Tables.{gameOf, words, targetsOf, tablesOf}
 use Rattle.theory.specs.Steps.{atFirst, Takes, stop}
 use Rattle.basics.specs.Basics.{clash}
 use Rattle.basics.specs.Sums.{countOf}
+use Rattle.basics.specs.Frame.{Outside, Unchanged}
 use Rattle.area.specs.Area.{entries, layers, layerWords, metAt, free, setAt}
 use Rattle.area.specs.Lent.{set-alike, words-few}
 use Rattle.area.specs.SetsAt.{set-zeros}
@@ -58,7 +59,7 @@ module _ {owners offsets targets : List ℕ} {alpha within set s : ℕ} {work : 
       second = layers n m + words n + 1
 
       -- what stands before the layers and in the free part is as it was
-      same : (i : ℕ) → (i < layers n m) ⊎ (free n m ≤ i) → getD after i 0 ≡ getD work i 0
+      same : Unchanged (Outside (layers n m) (free n m)) work after
       same i (inl l) = begun .rest i (inl l)
       same i (inr l) = begun .rest i (inr (omega arith))
 

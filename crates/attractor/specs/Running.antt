@@ -16,6 +16,7 @@ use Rattle.theory.specs.Steps.{atFirst, Takes, Finished}
 use Rattle.rules.specs.Distance.{distance, attractorEntry}
 use Rattle.basics.specs.Basics.{clash, not-true-is-false, and-intro}
 use Rattle.basics.specs.Sums.{countOf}
+use Rattle.basics.specs.Frame.{Below, Behind, Unchanged}
 use Rattle.theory.specs.Players.{same-true, true-same}
 use Rattle.theory.specs.Bits.{Bits}
 use Rattle.theory.specs.AttractorSteps.{steps-members, steps-looks}
@@ -240,8 +241,8 @@ pub record SameAreas (n m within set : ℕ) (x y : List ℕ) : Type 0 where
   pub inside : setAt n within y ≡ setAt n within x
   pub target : setAt n set y ≡ setAt n set x
   pub entry : (v : ℕ) → v < n → getD y (entries n m + v) 0 ≡ getD x (entries n m + v) 0
-  pub table : (i : ℕ) → i < counters n m → getD y i 0 ≡ getD x i 0
-  pub rest : (i : ℕ) → free n m ≤ i → getD y i 0 ≡ getD x i 0
+  pub table : Unchanged (Below (counters n m)) x y
+  pub rest : Unchanged (Behind (free n m)) x y
 
 -- what an attractor leaves of the one it leaves of the other
 pub attracted-moved :

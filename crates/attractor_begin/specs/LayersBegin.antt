@@ -10,8 +10,9 @@ use lib.Bits.{bitOr}
 use lib.ListN.{length, getD, take, drop, set, length-set, length-take}
 use lib.Seq.{ext-getD, getD-take, getD-drop, getD-set-same, getD-set-other}
 use Rattle.rules.specs.Words.{setOf}
+use Rattle.basics.specs.Frame.{Beside, Unchanged}
 use Rattle.area.specs.Lent.{part-length}
-use Rattle.area.specs.Walked.{Beside, wordOf}
+use Rattle.area.specs.Walked.{wordOf}
 use Rattle.layer.specs.Layer.{LentLayer, Layer, inLayer, room, marks}
 use Rattle.layer.specs.Laws.{zeros-layer, unmarked-empty}
 use Rattle.attractor_begin.specs.Marking.{Marking, marking-none, marking-word, marking-zero, marking-layer}
@@ -29,7 +30,7 @@ layerOf s base work = take (s + 1) (drop base work)
 -- what it leaves
 pub record LayersBegun (first set s : ℕ) (before after : List ℕ) : Type 0 where
   pub long : length after ≡ length before
-  pub rest : (i : ℕ) → Beside (2 * (s + 1) + s) first i → getD after i 0 ≡ getD before i 0
+  pub rest : Unchanged (Beside (2 * (s + 1) + s) first) before after
   pub layer : Layer (layerOf s first after)
   pub is : inLayer (layerOf s first after) ≡ setOf (take s (drop set before))
   pub next-layer : Layer (layerOf s (first + s + 1) after)
@@ -93,7 +94,7 @@ stored-next {at} {k} {word} {work} x fits new h = record { is = λ j l. go j l (
 pub record Beginning (first target s i so-far : ℕ) (before work : List ℕ) : Type 0 where
   pub within : i ≤ s
   pub long : length work ≡ length before
-  pub rest : (j : ℕ) → Beside (roomFor s) first j → getD work j 0 ≡ getD before j 0
+  pub rest : Unchanged (Beside (roomFor s) first) before work
   pub copied : Stand first i (wordOf target before) work
   pub second : Stand (nextAt first s) i (λ j. 0) work
   pub met : Stand (metAt first s) i (λ j. 0) work

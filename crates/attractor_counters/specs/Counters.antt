@@ -17,6 +17,7 @@ use Rattle.rules.specs.Tables.{words, degree, targetsOf}
 use Rattle.rules.specs.Words.{setOf}
 use Rattle.basics.specs.Basics.{lt-or-ge}
 use Rattle.basics.specs.Sums.{countOf}
+use Rattle.basics.specs.Frame.{Beside, Unchanged}
 use Rattle.predecessors.specs.Table.{SoundEdges}
 use Rattle.sets.specs.After.{Put}
 use Rattle.area.specs.EdgesOf.{EdgesOf, edges-of}
@@ -24,7 +25,6 @@ use Rattle.area.specs.Area.{counters, distances, metAt, free, setAt}
 use Rattle.area.specs.Lent.{back, part-is, part-set, part-length, bit-fits}
 use Rattle.area.specs.Lent.{inserted-long, inserted-rest, inserted-set, inserted-other}
 use Rattle.area.specs.SetsAt.{set-kept}
-use Rattle.area.specs.Walked.{Beside}
 use Rattle.attractor_counters.specs.Tally.{flag}
 
 -- the vertices of player alpha
@@ -259,7 +259,7 @@ module _ {offsets targets : List ℕ} {n s within : ℕ} {work : List ℕ} {v : 
                     outside (counters n m + u) (inl (omega arith)));
               })
             where
-              outside : (i : ℕ) → Beside (words n) (metAt n m) i → getD mid i 0 ≡ getD work i 0
+              outside : Unchanged (Beside (words n) (metAt n m)) work mid
               outside i o =
                   inserted-rest n s met v work ys (given .size) met-fits new i
                   (⊎-elim (λ l. inl (omega (arith, place))) (λ l. inr (omega (arith, place))) o)

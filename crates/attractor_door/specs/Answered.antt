@@ -2,8 +2,7 @@
 -- work asks for is there.
 use mathlib.Core.List.{List, [], _∷_}
 use mathlib.Core.Path.{_≡_, refl, sym, ap, subst, _∙_}
-use Prim.Native.Nat.{ℕ, _+_, _-_, _*_, _≤_}
-use native.Mathlib.Nat.{mul-le-mul-right}
+use Prim.Native.Nat.{ℕ, _+_, _-_, _≤_}
 use native.Mathlib.Omega.{arith}
 use lib.ListN.{length, take, drop, length-take}
 use Rattle.rules.specs.Game.{Player}
@@ -13,6 +12,7 @@ use Rattle.rules.specs.Attractor.{check12, looksOf}
 use Rattle.parity_game.specs.Laws.{then-none, then-assoc, Numbered, numbered-then, numbered-givenAt, numbered-tables, numbered-check9, numbered-check10}
 use Rattle.parity_game.specs.Laws.{check9-set, check9-set-none, check9-table, check9-table-none, check10-none}
 use Rattle.area.specs.Area.{free}
+use Rattle.area.specs.Regions.{free-words}
 use Rattle.rules.specs.Solver.{cleared}
 use Rattle.rules.specs.Attracts.{LentResult, attractorChecks, wanted, AttractorLeaves, Attracts}
 use Rattle.attractor_run.specs.Work.{AttractorRunnable, AttractorRan}
@@ -141,10 +141,7 @@ checks-passed t V' T result strategy distances work e =
 
 -- W words have room for the predecessor table, the counters, the distances, the entries, the layers, those met and two sets
 work-room : (n m : ℕ) → free n m + words n + words n ≤ workWords n m
-unfolding workWords
-work-room n m =
-    let sets : 4 * words n ≤ 8 * (n + 2) * words n = mul-le-mul-right (words n) (omega arith) in
-    omega arith
+work-room n m = omega (arith, free-words n m)
 
 pub run-ready :
     (t : Tables) (alpha w : ℕ) (V' T result strategy distances work : List ℕ) →

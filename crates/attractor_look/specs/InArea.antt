@@ -7,9 +7,9 @@ use Prim.Native.Nat.{ℕ, _+_, _≤_, _<_}
 use lib.Dec.{ltb}
 use lib.ListN.{length, getD, take, drop}
 use Rattle.rules.specs.Tables.{words}
+use Rattle.basics.specs.Frame.{Beside}
 use Rattle.predecessors.specs.Table.{SoundEdges}
 use Rattle.area.specs.Area.{counters, distances, entries, layers, layerWords, metAt, free, setAt}
-use Rattle.area.specs.Walked.{Beside}
 use Rattle.layer.specs.Layer.{Layer, inLayer}
 use Rattle.attractor_counters.specs.Counters.{ownBy, insideCount, counterAt}
 use Rattle.attractor_look.specs.State.{State}

@@ -11,12 +11,12 @@ use lib.ListN.{length, getD, take, drop, set, length-set}
 use lib.Seq.{getD-set-same, getD-set-other}
 use Rattle.rules.specs.Tables.{words}
 use Rattle.basics.specs.Basics.{lt-or-ge}
+use Rattle.basics.specs.Frame.{Beside, Unchanged}
 use Rattle.sets.specs.After.{Put}
 use Rattle.area.specs.Area.{counters, distances, entries, layers, layerWords, metAt, setAt}
 use Rattle.area.specs.Lent.{set-alike, slice-alike, part-is, part-length, words-enough}
 use Rattle.area.specs.Lent.{back, back-long, back-front, back-behind, back-part}
 use Rattle.area.specs.Lent.{inserted-set}
-use Rattle.area.specs.Walked.{Beside}
 use Rattle.layer.specs.Layer.{Layer, inLayer, Addable, Added}
 use Rattle.attractor_counters.specs.Counters.{counterAt, counter-alike, CountedDown}
 use Rattle.attractor_look.specs.State.{State, put, withOne, joined, entered, counted}
@@ -75,7 +75,7 @@ cells-put n base v x work l fits = fun-ext (λ u. go u (ℕ-discrete u v))
 
 pub record Changes (place k : ℕ) (before after : List ℕ) : Type 0 where
   pub long : length after ≡ length before
-  pub rest : (i : ℕ) → Beside k place i → getD after i 0 ≡ getD before i 0
+  pub rest : Unchanged (Beside k place) before after
 
 module _ {place k : ℕ} {before after : List ℕ} (c : Changes place k before after) where
   pub changes-cells : (n base : ℕ) → (base + n ≤ place) ⊎ (place + k ≤ base) → cells n base after ≡ cells n base before

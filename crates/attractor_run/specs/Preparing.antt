@@ -5,6 +5,7 @@ use Prim.Native.Nat.{ℕ, _+_, _-_, _≤_}
 use native.Mathlib.Omega.{arith}
 use lib.ListN.{length, getD, take, drop}
 use lib.Seq.{getD-drop}
+use Rattle.basics.specs.Frame.{Behind, Unchanged}
 use Rattle.predecessors.specs.Table.{TableReady, Predecessors}
 use Rattle.area.specs.Lent.{back, back-long, back-front, back-part, slice-alike}
 use Rattle.attractor.specs.Attracted.{built-listed}
@@ -49,7 +50,7 @@ module _ (n : ℕ) (offsets targets within target work : List ℕ) (base : ℕ)
       three-long = built .long ∙ two-long
 
       -- words past the table are as they were
-      past : (i : ℕ) → n + 1 + m ≤ i → getD three i 0 ≡ getD two i 0
+      past : Unchanged (Behind (n + 1 + m)) two three
       past i l =
           let at : n + 1 + m + (i - (n + 1 + m)) ≡ i = omega arith in
           ap (λ (k : ℕ). getD three k 0) (sym at) ∙

@@ -15,12 +15,12 @@ use Rattle.rules.specs.Tables.{Tables, gameOf, vertices, edgesIn, words, target
 use Rattle.rules.specs.Attractor.{attractor, looksOf}
 use Rattle.rules.specs.Distance.{distance, attractorEntry}
 use Rattle.basics.specs.Basics.{member-place, lt-or-ge}
+use Rattle.basics.specs.Frame.{Beside, Below, Unchanged}
 use Rattle.theory.specs.Bits.{Bits}
 use Rattle.parity_game.specs.Laws.{accepted-sound, never-falls}
 use Rattle.predecessors.specs.Table.{start, row, SoundEdges, Predecessors}
 use Rattle.area.specs.Area.{free, wordsAt, setAt, entryAt, distanceAt}
 use Rattle.area.specs.Lent.{slice-alike}
-use Rattle.area.specs.Walked.{Beside}
 use Rattle.attractor_counters.specs.Counters.{ownBy}
 use Rattle.attractor_step.specs.Taking.{Row}
 pub use Rattle.attractor_look.specs.InArea.{SetsPlaced}
@@ -85,7 +85,7 @@ pub record Attracted (t : Tables) (a : Player) (within set : ℕ) (before after 
       (Pulled t a within set before v → ⊥) →
       entryAt (vertices t) (edgesIn t) after v ≡ entryAt (vertices t) (edgesIn t) before v
   -- the predecessor table is as it was, and so is every free word outside the set
-  pub table : (i : ℕ) → i < vertices t + 1 + edgesIn t → getD after i 0 ≡ getD before i 0
+  pub table : Unchanged (Below (vertices t + 1 + edgesIn t)) before after
   pub rest : (i : ℕ) → free (vertices t) (edgesIn t) ≤ i → Beside (words (vertices t)) set i → getD after i 0 ≡ getD before i 0
 
 -- ---- laws for callers
@@ -94,7 +94,7 @@ pub record Attracted (t : Tables) (a : Player) (within set : ℕ) (before after 
 pub listed-kept :
     (n : ℕ) (offsets targets before after : List ℕ) →
     length after ≡ length before →
-    ((i : ℕ) → i < n + 1 + length targets → getD after i 0 ≡ getD before i 0) →
+    (Unchanged (Below (n + 1 + length targets)) before after) →
     Listed n offsets targets before →
     Listed n offsets targets after
 listed-kept n offsets targets before after long same listed =

@@ -13,12 +13,12 @@ use Rattle.rules.specs.Game.{playerOf}
 use Rattle.rules.specs.Tables.{gameOf, words, targetsOf, Accepted, tablesOf}
 use Rattle.theory.specs.Steps.{atFirst, TakesOne, Takes}
 use Rattle.basics.specs.Basics.{count-le, count-strict, or-left, or-right}
+use Rattle.basics.specs.Frame.{Beside, Below, Unchanged}
 use Rattle.theory.specs.Attractor.{Fits}
 use Rattle.theory.specs.AttractorSteps.{takes-then}
 use Rattle.predecessors.specs.Table.{start, row}
 use Rattle.area.specs.Area.{counters, entries, layers, layerWords, metAt, free, setAt}
 use Rattle.area.specs.Lent.{set-alike, slice-alike}
-use Rattle.area.specs.Walked.{Beside}
 use Rattle.layer.specs.Layer.{Layer, inLayer}
 use Rattle.attractor_counters.specs.Counters.{ownBy, insideCount}
 use Rattle.attractor_look.specs.State.{State, looked}
@@ -53,7 +53,7 @@ stateIn owners offsets targets within set before next after =
 pub record Going (owners offsets targets : List ℕ) (alpha within set : ℕ) (before : List ℕ) (this next far looks : ℕ)
     (now : Set) (after : List ℕ) : Type 0 where
   pub long : length after ≡ length before
-  pub table : (i : ℕ) → i < counters (length owners) (length targets) → getD after i 0 ≡ getD before i 0
+  pub table : Unchanged (Below (counters (length owners) (length targets))) before after
   pub rest :
       (i : ℕ) → free (length owners) (length targets) ≤ i → Beside (words (length owners)) set i →
       getD after i 0 ≡ getD before i 0

@@ -1,4 +1,5 @@
 // Both engines on one game of at most 128 vertices and 512 edges, and the line for what they gave.
+use kept_numbers::KEPT;
 use parity_game::Answer;
 use printing::Counted;
 ghost use mathlib.Core.Path.{_≡_};
@@ -100,7 +101,7 @@ pub fn solve_tables(
 {
     let n = owners.len();
     let s = parity_game::set_words(n);
-    let mut kept = [0u64; 258];
+    let mut kept = [0u64; KEPT];
     kept_numbers::write_fresh(priorities, &mut kept);
     let mut even = [0u64; 2];
     let mut odd = [0u64; 2];

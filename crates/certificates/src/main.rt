@@ -1,6 +1,7 @@
 // The checker on the worked games: C10 and C11, results without a strategy, and right results of C6 and C7. Each line
 // is a name, then the number and place given back.
 use libc::STDOUT_FILENO;
+use record::KEPT;
 
 // Checks by the door a result for a game, whose kept numbers are counted first.
 fn check(
@@ -13,7 +14,7 @@ fn check(
     odd: &[u64],
     strategy: &[u16],
 ) {
-    let mut kept = [0u64; 258];
+    let mut kept = [0u64; KEPT];
     let mut work = [0u64; 318];
     let mut place = 0;
     let mut count = 0;

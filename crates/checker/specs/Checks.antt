@@ -24,6 +24,7 @@ use Rattle.theory.specs.Checker.{after22}
 use Rattle.theory.specs.Chosen.{chosenPart, check24-chosen, givenAt-cong}
 use Rattle.theory.specs.Dominion.{owner-cases}
 use Rattle.basics.specs.Greatest.{greatest-le}
+use Rattle.basics.specs.Frame.{Behind, Unchanged}
 use Rattle.accepted.specs.Tables.{accepted-total, accepted-priority}
 use Rattle.parity_game.specs.Laws.{accepted-sound, outcome-pass}
 use Rattle.parity_game.specs.Laws.{Numbered, numbered-givenAt}
@@ -46,7 +47,7 @@ pub record CyclesReady (t : Tables) (even strategy work : List ℕ) : Type 0 whe
 pub record CyclesTold (t : Tables) (even strategy before after : List ℕ) (o : Outcome) : Type 0 where
   pub gives : o ≡ outcome (check24 (gameOf t) even strategy) (answered 0)
   pub long : length after ≡ length before
-  pub beyond : (i : ℕ) → workWords (vertices t) (edgesIn t) ≤ i → getD after i 0 ≡ getD before i 0
+  pub beyond : Unchanged (Behind (workWords (vertices t) (edgesIn t))) before after
 
 pub record Certifiable (t : Tables) (even odd strategy work : List ℕ) : Type 0 where
   pub accepted : Accepted t
@@ -58,7 +59,7 @@ pub record Certifiable (t : Tables) (even odd strategy work : List ℕ) : Type 0
 pub record Certifies (t : Tables) (even odd strategy before after : List ℕ) (o : Outcome) : Type 0 where
   pub gives : o ≡ outcome (certificateChecks (gameOf t) even odd strategy) (answered 0)
   pub long : length after ≡ length before
-  pub beyond : (i : ℕ) → workWords (vertices t) (edgesIn t) ≤ i → getD after i 0 ≡ getD before i 0
+  pub beyond : Unchanged (Behind (workWords (vertices t) (edgesIn t))) before after
 
 -- ---- 24
 

@@ -13,6 +13,7 @@ use Rattle.rules.specs.Counting.{Set, some}
 use Rattle.rules.specs.Game.{Edge}
 use Rattle.rules.specs.Tables.{Tables, vertices, gameOf, Accepted, tablesOf}
 use Rattle.rules.specs.Words.{setOf, entry, noEntry}
+use Rattle.basics.specs.Frame.{Behind, Unchanged}
 use Rattle.theory.specs.Chosen.{chosenPart}
 use Rattle.parity_game.specs.Laws.{accepted-sound}
 use Rattle.predecessors.specs.Table.{TableReady, Predecessors}
@@ -51,8 +52,7 @@ pub record MarksReady (owners priorities offsets targets strategy work : List �
 pub record CyclesMarked (owners priorities offsets targets strategy before after : List ℕ) : Type 0 where
   pub long : length after ≡ length before
   pub beyond :
-      (i : ℕ) → behind (length priorities) (length targets) + length priorities + length priorities ≤ i →
-      getD after i 0 ≡ getD before i 0
+      Unchanged (Behind (behind (length priorities) (length targets) + length priorities + length priorities)) before after
   pub evens :
       (v : ℕ) → v < length priorities →
       marked (length priorities) (behind (length priorities) (length targets)) after v ≡
@@ -86,7 +86,7 @@ module _ {owners priorities offsets targets strategy w0 : List ℕ}
           }
 
       module _ {w2 : List ℕ} (built : Predecessors n offsets targets w1 w2) where
-        beyond2 : (i : ℕ) → n + 1 + length targets ≤ i → getD w2 i 0 ≡ getD w1 i 0
+        beyond2 : Unchanged (Behind (n + 1 + length targets)) w1 w2
         beyond2 i l =
             let k = n + 1 + length targets in
             let at : k + (i - k) ≡ i = omega arith in

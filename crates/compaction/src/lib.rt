@@ -3,6 +3,7 @@
 use compaction_numbers::mark;
 use compaction_numbers::number;
 use compaction_numbers::write;
+use kept_numbers::KEPT;
 use parity_game::Answer;
 use parity_game::BAD_SIZE;
 ghost use Rattle.rules.specs.Compaction.{Compacts};
@@ -31,7 +32,7 @@ pub fn compact(
     if sized.number() != 0 {
         return sized;
     }
-    if new_kept.len() != 258 {
+    if new_kept.len() != KEPT {
         return Answer::Refused(BAD_SIZE);
     }
     let numbers = number(mark(priorities));

@@ -12,9 +12,10 @@ use Rattle.rules.specs.Tables.{words}
 use Rattle.sets.specs.After.{Put}
 use Rattle.walk.specs.declared.members.Members.{Members}
 use Rattle.basics.specs.Basics.{bool-cases, lt-or-ge}
+use Rattle.basics.specs.Frame.{Beside}
 use Rattle.area.specs.Area.{setAt}
 use Rattle.area.specs.Lent.{bit-fits, back, inserted-long, inserted-rest, inserted-here, inserted-there}
-use Rattle.area.specs.Walked.{Walkable, Keeps, Turn, Beside, same-turn, WalkedTo, Walked}
+use Rattle.area.specs.Walked.{Walkable, Keeps, Turn, same-turn, WalkedTo, Walked}
 use Rattle.highest_priority.specs.Parts.{Collects, Collected}
 
 -- no bit at n or above

@@ -11,12 +11,13 @@ use Rattle.rules.specs.Game.{playerOf, parity}
 use Rattle.rules.specs.Tables.{words}
 use Rattle.walk.specs.declared.members.Members.{Members}
 use Rattle.basics.specs.Basics.{bool-cases}
+use Rattle.basics.specs.Frame.{Beside}
 use Rattle.predecessors.specs.Table.{SoundEdges}
 use Rattle.area.specs.EdgesOf.{EdgesOf, edges-of}
 use Rattle.successors.specs.Lowest.{lowestEnd}
 use Rattle.area.specs.Area.{entries, free, setAt, wordsAt, entryAt}
 use Rattle.area.specs.Lent.{part-length, words-alike}
-use Rattle.area.specs.Walked.{Walkable, Keeps, Turn, Always, Beside, same-turn, store-turn, WalkedTo, Walked}
+use Rattle.area.specs.Walked.{Walkable, Keeps, Turn, Always, same-turn, store-turn, WalkedTo, Walked}
 use Rattle.area.specs.Walking.{lent-part}
 
 -- what the walk asks for

@@ -1,13 +1,13 @@
 -- What the functions below a call ask for and leave behind: the highest priority, and the vertices that have it.
 use mathlib.Core.Bool.{true, false, _&&_}
 use mathlib.Core.List.{List}
-use mathlib.Core.Logic.{_⊎_}
 use mathlib.Core.Path.{_≡_}
-use Prim.Native.Nat.{ℕ, _+_, _≤_, _<_}
+use Prim.Native.Nat.{ℕ, _≤_, _<_}
 use lib.Dec.{eqb}
 use lib.ListN.{length, getD}
 use Rattle.rules.specs.Counting.{Set, greatest}
 use Rattle.rules.specs.Tables.{words}
+use Rattle.basics.specs.Frame.{Beside, Unchanged}
 use Rattle.sets.specs.After.{Parts}
 use Rattle.area.specs.Area.{setAt}
 use Rattle.area.specs.Walked.{Walkable, anything}
@@ -35,4 +35,4 @@ pub record Collected (priorities : List ℕ) (p within into : ℕ) (before after
   pub set :
       (v : ℕ) →
       setAt (length priorities) into after v ≡ (setAt (length priorities) within before v && eqb (getD priorities v 0) p)
-  pub rest : (i : ℕ) → (i < into) ⊎ (into + words (length priorities) ≤ i) → getD after i 0 ≡ getD before i 0
+  pub rest : Unchanged (Beside (words (length priorities)) into) before after

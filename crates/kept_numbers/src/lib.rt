@@ -16,11 +16,14 @@ pub const DIFFERENT: usize = 256;
 
 pub const HIGHEST: usize = 257;
 
+// How many they are.
+pub const KEPT: usize = 258;
+
 // How many vertices have each priority up to 255; the last two entries are 0.
-fn tally(priorities: &[u16]) -> [u64; 258]
+fn tally(priorities: &[u16]) -> [u64; KEPT]
     ensures { λ r. ⌜ Counts (now (priorities .entry)) r ⌝ }
 {
-    let mut counts = [0u64; 258];
+    let mut counts = [0u64; KEPT];
     for v in 0..priorities.len() {
         let p = priorities[v] as usize;
         if p < PRIORITIES {
@@ -48,7 +51,7 @@ fn sum_up(kept: &mut [u64])
 }
 
 // The fresh count, of any priorities.
-pub fn fresh(priorities: &[u16]) -> [u64; 258]
+pub fn fresh(priorities: &[u16]) -> [u64; KEPT]
     ensures { λ r. ⌜ r ≡ freshCount (now (priorities .entry)) ⌝ }
 {
     let mut kept = tally(priorities);
@@ -60,11 +63,11 @@ pub fn fresh(priorities: &[u16]) -> [u64; 258]
 pub fn check_kept(priorities: &[u16], kept: &[u64]) -> Answer
     ensures { λ r. ⌜ said r ≡ outcome (keptCheck (now (priorities .entry)) (now (kept .entry))) (answered 0) ⌝ }
 {
-    if kept.len() != 258 {
+    if kept.len() != KEPT {
         return Answer::Refused(KEPT_DIFFER);
     }
     let count = fresh(priorities);
-    for i in 0..258 {
+    for i in 0..KEPT {
         if kept[i] != count[i] {
             return Answer::Refused(KEPT_DIFFER);
         }
@@ -73,11 +76,11 @@ pub fn check_kept(priorities: &[u16], kept: &[u64]) -> Answer
 }
 
 // Writes kept numbers.
-pub fn put(count: &[u64; 258], kept: &mut [u64])
+pub fn put(count: &[u64; KEPT], kept: &mut [u64])
     requires { ⌜ (length (now count) ≡ 258) × (length (now kept) ≡ 258) ⌝ }
     ensures { λ _. ⌜ now (kept .exit) ≡ now (count .entry) ⌝ }
 {
-    for i in 0..258 {
+    for i in 0..KEPT {
         kept[i] = count[i];
     }
 }

@@ -1,12 +1,13 @@
 // Document 01's run list for Zielonka on C6, whose W is 8·4·1 + 4·2 + 2·2 + 272 = 316 words: each line is a name,
 // then the number, place and count given back.
 use libc::STDOUT_FILENO;
+use record::KEPT;
 
 fn report(name: &[u8], budget: u64, work: &mut [u64]) {
     let mut even = [0u64; 1];
     let mut odd = [0u64; 1];
     let mut strategy = [0u16; 2];
-    let mut kept = [0u64; 258];
+    let mut kept = [0u64; KEPT];
     let mut place = 0;
     let mut count = 0;
     record::fresh_count(2, 2, &[0, 1], &[2, 1], &[0, 1, 2], &[1, 1], &mut kept);

@@ -1,6 +1,7 @@
 // C5's attractor run: the number, place and looks given back, then the set as a word, the two entries and the two
 // distances.
 use libc::STDOUT_FILENO;
+use record::KEPT;
 
 fn put(n: u64) {
     io::print_decimal(STDOUT_FILENO, n);
@@ -16,7 +17,7 @@ fn main() {
     let mut strategy = [0u16; 2];
     let mut distances = [7u16; 2];
     let mut work = [7u64; 318];
-    let mut kept = [0u64; 258];
+    let mut kept = [0u64; KEPT];
     let mut place = 0;
     let mut count = 0;
     record::fresh_count(2, 3, &[1, 0], &[1, 2], &[0, 2, 3], &[1, 1, 1], &mut kept);

@@ -12,6 +12,7 @@ use lib.Dec.{eqb}
 use lib.ListN.{length, getD}
 use Rattle.rules.specs.Counting.{Set, some}
 use Rattle.basics.specs.Basics.{some-cong, place-member}
+use Rattle.basics.specs.Frame.{Outside, Beside, Below, Unchanged}
 use Rattle.theory.specs.Chosen.{chosenPart}
 use Rattle.theory.specs.DepthFirst.{dfs-done-order}
 use Rattle.theory.specs.Kosaraju.{Assigned}
@@ -35,8 +36,8 @@ pub record PartsMarkable (G : Graph) (work : List ℕ) (base : ℕ) : Type 0 whe
 -- the row at base also has the vertices of good parts; the predecessor table and the words behind, but for that row, are as they were
 pub record PartsMarked (G : Graph) (base : ℕ) (before after : List ℕ) : Type 0 where
   pub long : length after ≡ length before
-  pub table : (i : ℕ) → i < marks (size G) (edgeCount G) → getD after i 0 ≡ getD before i 0
-  pub rest : (i : ℕ) → behind (size G) (edgeCount G) ≤ i → (i < base) ⊎ (base + size G ≤ i) → getD after i 0 ≡ getD before i 0
+  pub table : Unchanged (Below (marks (size G) (edgeCount G))) before after
+  pub rest : (i : ℕ) → behind (size G) (edgeCount G) ≤ i → Beside (size G) base i → getD after i 0 ≡ getD before i 0
   pub found :
       (v : ℕ) → v < size G →
       marked (size G) base after v ≡ (marked (size G) base before v || chosenPart (gameIn G) (G .entries) (G .top) v)
@@ -238,9 +239,9 @@ module _ (G : Graph) (w0 : List ℕ) (base : ℕ) (given : PartsMarkable G w0 ba
                       (ap₂ (λ (a b : Bool). a && b) (lt-ltb v n l) (good5 v l));
                 }
               where
-                to5 : (i : ℕ) → (i < marks n m) ⊎ (behind n m ≤ i) → getD w5 i 0 ≡ getD w0 i 0
+                to5 : Unchanged (Outside (marks n m) (behind n m)) w0 w5
                 to5 i o =
-                    let far : (i < hits n m) ⊎ (behind n m ≤ i) = ⊎-elim (λ l. inl (omega arith)) inr o in
-                    let second-far : (i < queue n m) ⊎ (hits n m ≤ i) = ⊎-elim (λ l. inl (omega arith)) (λ l. inr (omega arith)) o in
-                    let first-far : (i < marks n m) ⊎ (labels n m ≤ i) = ⊎-elim inl (λ l. inr (omega arith)) o in
+                    let far : Outside (hits n m) (behind n m) i = ⊎-elim (λ l. inl (omega arith)) inr o in
+                    let second-far : Outside (queue n m) (hits n m) i = ⊎-elim (λ l. inl (omega arith)) (λ l. inr (omega arith)) o in
+                    let first-far : Outside (marks n m) (labels n m) i = ⊎-elim inl (λ l. inr (omega arith)) o in
                     kept45 .rest i far ∙ second .within .rest i second-far ∙ first .further .within .rest i first-far ∙ cleared .within .rest i o

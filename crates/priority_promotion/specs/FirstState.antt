@@ -5,7 +5,7 @@ use mathlib.Core.List.{List}
 use mathlib.Core.Logic.{_⊎_, inl, inr}
 use mathlib.Core.Path.{_≡_, refl, sym, ap, subst, _∙_}
 use Prim.Native.Nat.{ℕ, zero, suc, _+_, _*_, _≤_, _<_}
-use native.Mathlib.Nat.{le-refl, le-step, mul-le-mul-left, mul-le-mul-right, mul-assoc, add-mul}
+use native.Mathlib.Nat.{le-refl, le-step, mul-le-mul-left, mul-le-mul-right, add-mul}
 use native.Mathlib.Omega.{arith}
 use borrow.Author.Tests.{lt-ltb, ltb-true}
 use lib.Dec.{ltb}
@@ -20,6 +20,7 @@ use Rattle.basics.specs.Greatest.{greatest-cong}
 use Rattle.basics.specs.Basics.{noted-below}
 use Rattle.theory.specs.PromotionEntries.{starts}
 use Rattle.area.specs.Area.{setAt}
+use Rattle.area.specs.Regions.{two-words, free-words}
 use Rattle.kept_numbers.specs.Reading.{FreshlyCounted, kept-bounds, kept-small}
 use Rattle.promotion_levels.specs.Layout.{heldAt, levelsAt, levelAt, endAt, deep, levelIn, regionIn}
 use Rattle.promotion_levels.specs.Newcomers.{whole-newcomers}
@@ -32,15 +33,11 @@ unfolding count
 count-full zero S all = refl
 count-full (suc n) S all = rw (count-full n S (λ v l. all v (le-step l)), all n (le-refl (suc n))) (omega arith)
 
--- a set of two words or more is one of many vertices, so that the levels that are never used have room for the priorities' sets
-two-words : (n : ℕ) → 2 ≤ words n → 65 ≤ n
-unfolding words
-two-words n l = omega arith
-
 few-levels : (n : ℕ) → (deep n ≤ n + 2) × (deep n ≤ 258)
 unfolding deep
 few-levels n = (omega arith, omega arith)
 
+-- a set of two words or more is one of many vertices, so that the levels that are never used have room for the priorities' sets
 spare : (n : ℕ) → 248 * words n + deep n ≤ 7 * (n * words n) + 268
 spare n = go (lt-or-ge 0 (words n)) (lt-or-ge (words n) 2)
   where
@@ -52,15 +49,10 @@ spare n = go (lt-or-ge 0 (words n)) (lt-or-ge (words n) 2)
 
 -- W words have room for the promotion's tables
 pub tables-room : (n m : ℕ) → endAt n m (words n) ≤ workWords n m
-unfolding workWords
 tables-room n m =
     let deepest : deep n * words n ≤ (n + 2) * words n = mul-le-mul-right (words n) (few-levels n .0) in
     let two : (n + 2) * words n ≡ n * words n + 2 * words n = add-mul n 2 (words n) in
-    let wide : 8 * (n + 2) ≡ 8 * n + 16 = omega arith in
-    let all : 8 * (n + 2) * words n ≡ (8 * n + 16) * words n = ap (λ (x : ℕ). x * words n) wide in
-    let both : (8 * n + 16) * words n ≡ 8 * n * words n + 16 * words n = add-mul (8 * n) 16 (words n) in
-    let same : 8 * n * words n ≡ 8 * (n * words n) = mul-assoc 8 n (words n) in
-    omega (arith, spare n)
+    omega (arith, free-words n m, spare n)
 
 module _ (owners priorities offsets targets : List ℕ) (ok : Accepted (tablesOf owners priorities offsets targets)) (s : ℕ)
     (size : s ≡ words (length owners)) (w0 : List ℕ) {levels : ℕ}

@@ -1,7 +1,7 @@
 -- The first level begins with nothing won: each of its vertices has its priority as region and no entry.
 use mathlib.Core.Bool.{Bool, true, false, cond}
 use mathlib.Core.List.{List}
-use mathlib.Core.Logic.{_⊎_, inl, inr}
+use mathlib.Core.Logic.{inl, inr}
 use mathlib.Core.Path.{_≡_, refl, sym, ap, subst, _∙_}
 use Prim.Native.Nat.{ℕ, _+_, _-_, _*_, _≤_, _<_}
 use native.Mathlib.Nat.{le-refl}
@@ -12,6 +12,7 @@ use Rattle.rules.specs.Counting.{greatest}
 use Rattle.rules.specs.Tables.{words}
 use Rattle.rules.specs.Words.{noEntry}
 use Rattle.basics.specs.Greatest.{greatest-cong}
+use Rattle.basics.specs.Frame.{Outside, Behind, Unchanged}
 use Rattle.sets.specs.After.{Cleared}
 use Rattle.predecessors.specs.Table.{SoundEdges}
 use Rattle.area.specs.Area.{entries, free, setAt}
@@ -52,7 +53,7 @@ pub record BegunOf (n : ℕ) (priorities offsets targets : List ℕ) (s p : ℕ)
   pub entry :
       (v : ℕ) → v < n → levelIn n (length targets) s before 0 v ≡ true → entryIn n (length targets) s after v ≡ noEntry
   pub won : (b : Player) (v : ℕ) → setAt n (wonAt n (length targets) s b) after v ≡ false
-  pub rest : (i : ℕ) → endAt n (length targets) s ≤ i → getD after i 0 ≡ getD before i 0
+  pub rest : Unchanged (Behind (endAt n (length targets) s)) before after
 
 abbrev pub Begun : List ℕ → List ℕ → List ℕ → ℕ → ℕ → List ℕ → List ℕ → Type 0
 Begun priorities = BegunOf (length priorities) priorities
@@ -91,7 +92,7 @@ module _ {priorities : List ℕ} {m s held levels top : ℕ} {w0 : List ℕ} (gi
         same-long = sorts .long ∙ cleared .long
 
         -- the words of the tables before the sets, and those from the levels on
-        outside : (i : ℕ) → (i < free n m) ⊎ (depthAt n m s ≤ i) → getD w2 i 0 ≡ getD w0 i 0
+        outside : Unchanged (Outside (free n m) (depthAt n m s)) w0 w2
         outside i (inl l) = sorts .rest i (inl l) ∙ cleared .rest i (inl (omega (arith, given .held-is)))
         outside i (inr h) =
             sorts .rest i (inr (omega (arith, given .size))) ∙ cleared .rest i (inr (omega (arith, given .held-is)))
@@ -131,7 +132,7 @@ module _ {priorities : List ℕ} {m s held levels top : ℕ} {w0 : List ℕ} (gi
             cleared .zeros i (omega (arith, given .held-is)) (omega (arith, given .held-is))
 
         behind : {p : ℕ} {w3 : List ℕ} → Descended priorities m s 0 p w2 w3 →
-            (i : ℕ) → endAt n m s ≤ i → getD w3 i 0 ≡ getD w0 i 0
+            Unchanged (Behind (endAt n m s)) w0 w3
         behind c i l =
             let high = level-high n m s 1 (two-levels n) in
             c .rest i (inr (omega arith)) (inr (omega arith)) (λ e. omega arith) (λ e. omega (arith, two-levels n))

@@ -12,9 +12,9 @@ use lib.Seq.{getD-set-same, getD-set-other}
 use Rattle.rules.specs.Tables.{words}
 use Rattle.rules.specs.Words.{noEntry}
 use Rattle.basics.specs.Greatest.{greatest-le}
+use Rattle.basics.specs.Frame.{Beside}
 use Rattle.area.specs.Area.{entries, free, setAt}
 use Rattle.area.specs.SetsAt.{set-kept}
-use Rattle.area.specs.Walked.{Beside}
 use Rattle.priority_sets.specs.Sorting.{SetsOf, sets-stay}
 use Rattle.highest_priority.specs.Parts.{highestOf, Searchable}
 use Rattle.promotion_places.specs.Layout.{heldAt, depthAt, topsAt, deep, levelsAt, levelAt, endAt}

@@ -1,10 +1,11 @@
 -- Where no free word changes, levels, priorities, R and regions are as they were.
 use mathlib.Core.List.{List}
 use mathlib.Core.Path.{_≡_, sym, ap, ap₂, fun-ext, subst, subst₂, _∙_}
-use Prim.Native.Nat.{ℕ, suc, _+_, _≤_, _<_}
+use Prim.Native.Nat.{ℕ, suc, _+_}
 use native.Mathlib.Omega.{arith}
 use lib.ListN.{length, getD}
 use Rattle.rules.specs.Counting.{Set}
+use Rattle.basics.specs.Frame.{Below, Behind, Unchanged}
 use Rattle.area.specs.Area.{free}
 use Rattle.area.specs.SetsAt.{set-kept}
 use Rattle.attractor.specs.Attracted.{listed-kept}
@@ -15,8 +16,8 @@ use Rattle.promotion_places.specs.Places.{sets-kept}
 module _ {n : ℕ} {priorities offsets targets : List ℕ} {s : ℕ} {w0 : List ℕ} (w1 : List ℕ)
     (ready : Ready n priorities offsets targets s w0)
     (long : length w1 ≡ length w0)
-    (table : (i : ℕ) → i < n + 1 + length targets → getD w1 i 0 ≡ getD w0 i 0)
-    (rest : (i : ℕ) → free n (length targets) ≤ i → getD w1 i 0 ≡ getD w0 i 0)
+    (table : Unchanged (Below (n + 1 + length targets)) w0 w1)
+    (rest : Unchanged (Behind (free n (length targets))) w0 w1)
   where
     abbrev m : ℕ
     m = length targets

@@ -11,10 +11,10 @@ use lib.ListN.{length, getD}
 use Rattle.rules.specs.Tables.{words}
 use Rattle.rules.specs.Words.{noEntry}
 use Rattle.basics.specs.Basics.{bool-cases, and-left}
+use Rattle.basics.specs.Frame.{Beside}
 use Rattle.sets.specs.After.{Parts}
 use Rattle.area.specs.Area.{free, setAt}
 use Rattle.area.specs.SetsAt.{set-kept}
-use Rattle.area.specs.Walked.{Beside}
 use Rattle.priority_sets.specs.Sorting.{PriorityPlaceable, SetsOf, setOfPriority, set-room}
 use Rattle.promotion_sets.specs.Without.{WithoutAt}
 use Rattle.promotion_sets.specs.Forgetting.{Forgettable, Forgotten}

@@ -4,7 +4,6 @@ pub use Rattle.promotion_places.specs.Nesting
 pub use Rattle.promotion_places.specs.Layout
 pub use Rattle.promotion_places.specs.Places
 pub use Rattle.promotion_places.specs.Newcomers
-pub use Rattle.promotion_sets.specs.Without
 pub use Rattle.promotion_sets.specs.Forgetting
 -- contracts: what the functions ask for and leave
 pub mod LevelBegins

@@ -11,4 +11,3 @@ pub use promotion_places::levels_at;
 pub use promotion_places::priority_at;
 pub use promotion_places::won_at;
 pub use promotion_sets::forget;
-pub use promotion_sets::without;

@@ -11,6 +11,7 @@ use Rattle.rules.specs.Game.{Player, Even, Odd, Game, parity, playerOf, same}
 use Rattle.rules.specs.Tables.{Tables, vertices, edgesIn, words, gameOf, Accepted, tablesOf}
 use Rattle.rules.specs.Attractor.{Closed, drawn, attractor}
 use Rattle.basics.specs.Basics.{bool-cases, clash, not-true-is-false, lt-or-ge}
+use Rattle.basics.specs.Frame.{Beside, Below, Unchanged}
 use Rattle.theory.specs.Players.{same-true}
 use Rattle.predecessors.specs.Table.{SoundEdges}
 use Rattle.sets.specs.After.{Combined, Parts}
@@ -51,11 +52,11 @@ pub record DrawnIn (t : Tables) (a : Player) (held levels : ℕ) (before after :
       let m = edgesIn t in
       Pulled (gameOf t) a (setAt n levels before) (setAt n held before) (setAt n held after)
       (λ v. getD before (entries n m + v) 0) (λ v. getD after (entries n m + v) 0)
-  pub table : (i : ℕ) → i < vertices t + 1 + edgesIn t → getD after i 0 ≡ getD before i 0
+  pub table : Unchanged (Below (vertices t + 1 + edgesIn t)) before after
   pub rest :
       (i : ℕ) →
       free (vertices t) (edgesIn t) ≤ i →
-      (i < held) ⊎ (held + words (vertices t) ≤ i) →
+      Beside (words (vertices t)) held i →
       getD after i 0 ≡ getD before i 0
 
 -- what it leaves: R's place has its attractor D, which has left level 0 and is won
@@ -75,12 +76,12 @@ pub record Dominated (owners priorities offsets targets : List ℕ) (s p held le
       setAt n (wonBehind s held b) after v ≡
       cond (same (parity p) b) (setAt n (wonBehind s held b) before v || setAt n held after v)
       (setAt n (wonBehind s held b) before v)
-  pub table : (i : ℕ) → i < length owners + 1 + length targets → getD after i 0 ≡ getD before i 0
+  pub table : Unchanged (Below (length owners + 1 + length targets)) before after
   pub rest :
       (i : ℕ) →
       free (length owners) (length targets) ≤ i →
-      (i < held) ⊎ (held + 3 * s ≤ i) →
-      (i < levels) ⊎ (levels + s ≤ i) →
+      Beside (3 * s) held i →
+      Beside s levels i →
       getD after i 0 ≡ getD before i 0
 
 -- ---- R is drawn in
@@ -212,7 +213,7 @@ module _ (p : ℕ) {owners offsets targets : List ℕ} {s k held levels : ℕ} {
             (λ v. getD w1 (entries n m + v) 0)
         drawn1 = c1 .pulled
 
-        same1 : (i : ℕ) → free n m ≤ i → (i < held) ⊎ (held + s ≤ i) → getD w1 i 0 ≡ getD w0 i 0
+        same1 : (i : ℕ) → free n m ≤ i → Beside s held i → getD w1 i 0 ≡ getD w0 i 0
         same1 i low (inl l) = c1 .rest i low (inl l)
         same1 i low (inr l) = c1 .rest i low (inr (omega (arith, size)))
 
@@ -245,7 +246,7 @@ module _ (p : ℕ) {owners offsets targets : List ℕ} {s k held levels : ℕ} {
             c3 = subst (λ (k : ℕ). Combined _-_ levels held k w2 w3) size made3
 
             -- words before the sets won are written by the attractor alone
-            front3 : (i : ℕ) → i < held + s → getD w3 i 0 ≡ getD w1 i 0
+            front3 : Unchanged (Below (held + s)) w1 w3
             front3 i l =
                 let low = won-low a in
                 c3 .rest i (inl (omega (arith, given .apart))) ∙ c2 .rest i (inl (omega arith))
@@ -336,7 +337,7 @@ module _ (p : ℕ) {owners offsets targets : List ℕ} {s k held levels : ℕ} {
                 entry-low v l = omega (arith, given .low)
 
                 rest3 :
-                    (i : ℕ) → free n m ≤ i → (i < held) ⊎ (held + 3 * s ≤ i) → (i < levels) ⊎ (levels + s ≤ i) →
+                    (i : ℕ) → free n m ≤ i → Beside (3 * s) held i → Beside s levels i →
                     getD w3 i 0 ≡ getD w0 i 0
                 rest3 i low o x =
                     c3 .rest i (⊎-elim (λ l. inl l) (λ l. inr (omega (arith, size))) x) ∙

@@ -9,12 +9,13 @@ use lib.ListN.{length, getD, take, drop, set}
 use Rattle.rules.specs.Counting.{Set, lowest}
 use Rattle.rules.specs.Tables.{words}
 use Rattle.rules.specs.Words.{noEntry, setOf}
+use Rattle.basics.specs.Frame.{Beside}
 use Rattle.predecessors.specs.Table.{SoundEdges}
 use Rattle.area.specs.EdgesOf.{EdgesOf, edges-of}
 use Rattle.area.specs.Area.{setAt, wordsAt}
 use Rattle.area.specs.Lent.{words-alike, part-length}
 use Rattle.area.specs.Walking.{lent-part}
-use Rattle.area.specs.Walked.{Walkable, Keeps, Turn, Always, Beside, wordOf, same-turn, store-turn, Walked}
+use Rattle.area.specs.Walked.{Walkable, Keeps, Turn, Always, wordOf, same-turn, store-turn, Walked}
 use Rattle.successors.specs.Lowest.{endIn, lowestEnd}
 
 -- what the entry of a vertex of R becomes, with S for R

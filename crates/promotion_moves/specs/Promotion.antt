@@ -16,10 +16,10 @@ use Rattle.rules.specs.Tables.{words}
 use Rattle.rules.specs.Words.{noEntry}
 use Rattle.rules.specs.Attractor.{Closed}
 use Rattle.basics.specs.Basics.{bool-cases, and-left, and-right}
+use Rattle.basics.specs.Frame.{Beside, Below, Unchanged}
 use Rattle.theory.specs.PromotionBasics.{closed-cong}
 use Rattle.area.specs.Area.{entries, free, setAt}
 use Rattle.area.specs.SetsAt.{set-kept, set-reduced}
-use Rattle.area.specs.Walked.{Beside}
 use Rattle.sets.specs.After.{Combined}
 use Rattle.attractor.specs.Attracted.{listed-kept}
 use Rattle.promotion_levels.specs.Nesting.{regionOf, Nesting, inside-all, outside-all, below-is, promoted-nests, promoted-region, promoted-proper}
@@ -117,7 +117,7 @@ module _ {n : ℕ} {priorities offsets targets : List ℕ} {s : ℕ} {w0 : List 
         L1 = levelIn n m s w1
 
         -- words before the number of the current level are not changed
-        low1 : (i : ℕ) → i < depthAt n m s → getD w1 i 0 ≡ getD w0 i 0
+        low1 : Unchanged (Below (depthAt n m s)) w0 w1
         low1 i l = c .rest i (λ e. omega arith) (inl (omega arith))
 
         held1 : (v : ℕ) → heldIn n m s w1 v ≡ R v

@@ -18,6 +18,7 @@ use Rattle.rules.specs.Attractor.{attractor}
 use Rattle.rules.specs.Promotion.{unsolved}
 use Rattle.basics.specs.Basics.{bool-cases, clash, not-true-is-false, not-false-is-true, and-left, and-right, or-right, without-right}
 use Rattle.basics.specs.Basics.{lt-or-ge}
+use Rattle.basics.specs.Frame.{Outside, Beside, Behind, Unchanged}
 use Rattle.theory.specs.Attractor.{Fits}
 use Rattle.theory.specs.PromotionBasics.{atRegion, upTo}
 use Rattle.theory.specs.PromotionEntries.{AttractsEntries}
@@ -90,7 +91,7 @@ pub record Queried (owners priorities offsets targets : List ℕ) (s p : ℕ) (b
       i < depthAt (length owners) (length targets) s →
       getD after i 0 ≡ getD before i 0
   -- behind the levels nothing is touched
-  pub rest : (i : ℕ) → endAt (length owners) (length targets) s ≤ i → getD after i 0 ≡ getD before i 0
+  pub rest : Unchanged (Behind (endAt (length owners) (length targets) s)) before after
 
 -- ---- what the steps make of a vertex, by where it is
 
@@ -281,7 +282,7 @@ module _ (owners priorities : List ℕ) {offsets targets : List ℕ} (ok : Accep
             (lt-or-ge v n)
 
         -- free words that are neither in R's place nor in the level after are as they were
-        same2 : (i : ℕ) → free n m ≤ i → (i < H) ⊎ (H + s ≤ i) → (i < Y) ⊎ (Y + s ≤ i) → getD w2 i 0 ≡ getD w0 i 0
+        same2 : (i : ℕ) → free n m ≤ i → Beside s H i → Beside s Y i → getD w2 i 0 ≡ getD w0 i 0
         same2 i low (inl l) o = c2 .rest i low (inl l) ∙ c1 .rest i o
         same2 i low (inr l) o = c2 .rest i low (inr (omega (arith, size))) ∙ c1 .rest i o
 
@@ -297,7 +298,7 @@ module _ (owners priorities : List ℕ) {offsets targets : List ℕ} (ok : Accep
             long5 = c5 .long ∙ c4 .long ∙ c3 .long ∙ c2 .long ∙ c1 .long
 
             -- words that neither R, nor the level after, nor the heads are
-            last5 : (i : ℕ) → (i < H) ⊎ (H + s ≤ i) → (i < Y) ⊎ (Z + s ≤ i) → getD w5 i 0 ≡ getD w2 i 0
+            last5 : (i : ℕ) → Beside s H i → Outside Y (Z + s) i → getD w5 i 0 ≡ getD w2 i 0
             last5 i o (inl l) =
                 c5 .rest i (inl (omega (arith, y-is, z-is))) ∙
                 c4 .rest i (⊎-elim (λ h. inl h) (λ h. inr (omega (arith, size))) o) ∙
@@ -307,7 +308,7 @@ module _ (owners priorities : List ℕ) {offsets targets : List ℕ} (ok : Accep
                 c4 .rest i (inr (omega (arith, size, y-is, z-is))) ∙
                 c3 .rest i (inr (omega (arith, y-is, z-is)))
 
-            same5 : (i : ℕ) → free n m ≤ i → (i < H) ⊎ (H + s ≤ i) → (i < Y) ⊎ (Z + s ≤ i) → getD w5 i 0 ≡ getD w0 i 0
+            same5 : (i : ℕ) → free n m ≤ i → Beside s H i → Outside Y (Z + s) i → getD w5 i 0 ≡ getD w0 i 0
             same5 i low o (inl l) = last5 i o (inl l) ∙ same2 i low o (inl l)
             same5 i low o (inr l) = last5 i o (inr l) ∙ same2 i low o (inr (omega (arith, y-is, z-is)))
 

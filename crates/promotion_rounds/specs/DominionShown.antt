@@ -1,7 +1,7 @@
 -- R is closed and a dominion: what the work area shows once it is solved and the first level has begun again.
 use mathlib.Core.Bool.{Bool, true, false, _&&_, _||_, not, cond, and-false}
 use mathlib.Core.List.{List}
-use mathlib.Core.Logic.{_⊎_, inl}
+use mathlib.Core.Logic.{inl}
 use mathlib.Core.Path.{_≡_, refl, sym, ap, ap₂, subst, _∙_}
 use Prim.Native.Nat.{ℕ, suc, _+_, _%_, _≤_, _<_}
 use native.Mathlib.Nat.{le-refl, le-antisymm}
@@ -27,6 +27,7 @@ use Rattle.promotion_rounds.specs.Shown.{Shows}
 use Rattle.rules.specs.Counting.{greatest}
 use Rattle.rules.specs.Promotion.{unsolved, highestRegion}
 use Rattle.basics.specs.Greatest.{greatest-bounds, greatest-le, greatest-cong}
+use Rattle.basics.specs.Frame.{Outside, Beside}
 use Rattle.theory.specs.PromotionBasics.{atRegion, at-is}
 use Rattle.theory.specs.PromotionEntries.{solves}
 use Rattle.theory.specs.PromotionTable.{table-solves, solved-entries-read}
@@ -130,7 +131,7 @@ module _ {owners priorities offsets targets : List ℕ} {s made current left : �
         left3 v = first-in w3 v ∙ c3 .left v ∙ ap (λ (b : Bool). b && not (D v)) (sym (first-in w2 v))
 
         same3 :
-            (i : ℕ) → free n m ≤ i → (i < heldAt n m s) ⊎ (depthAt n m s ≤ i) → (i < levelsAt n m s) ⊎ (levelsAt n m s + s ≤ i) →
+            (i : ℕ) → free n m ≤ i → Outside (heldAt n m s) (depthAt n m s) i → Beside s (levelsAt n m s) i →
             getD w3 i 0 ≡ getD w2 i 0
         same3 = c3 .rest
 

@@ -15,6 +15,7 @@ use Rattle.rules.specs.Game.{Game, parity}
 use Rattle.rules.specs.Tables.{Tables, gameOf, Accepted, tablesOf}
 use Rattle.rules.specs.Words.{noEntry}
 use Rattle.basics.specs.Basics.{bool-cases, and-intro, and-left, and-right}
+use Rattle.basics.specs.Frame.{Below, Behind, Unchanged}
 use Rattle.theory.specs.PromotionEntries.{ClosesEntries}
 use Rattle.area.specs.Area.{entries, free, setAt}
 use Rattle.successors.specs.Lowest.{endIn}
@@ -81,10 +82,10 @@ module _ (owners : List ℕ) {priorities offsets targets : List ℕ} (ok : Accep
         pub filled-long : length w2 ≡ length w1
         filled-long = c .keeps .long
 
-        pub filled-table : (i : ℕ) → i < length owners + 1 + length targets → getD w2 i 0 ≡ getD w1 i 0
+        pub filled-table : Unchanged (Below (length owners + 1 + length targets)) w1 w2
         filled-table i l = c .keeps .rest i (inl (omega arith))
 
-        pub filled-rest : (i : ℕ) → free (length owners) (length targets) ≤ i → getD w2 i 0 ≡ getD w1 i 0
+        pub filled-rest : Unchanged (Behind (free (length owners) (length targets))) w1 w2
         filled-rest i l = c .keeps .rest i (inr (omega arith))
 
         pub filled-ready : Ready (length owners) priorities offsets targets s w2

@@ -15,6 +15,7 @@ use Rattle.rules.specs.Tables.{gameOf, words, Accepted, tablesOf}
 use Rattle.rules.specs.Attractor.{Closed}
 use Rattle.rules.specs.Promotion.{Regions, unsolved, regionSet, isOpen, roundOf, afterRounds}
 use Rattle.basics.specs.Basics.{and-left, count-some}
+use Rattle.basics.specs.Frame.{Behind, Unchanged}
 use Rattle.sets.specs.Size.{size}
 use Rattle.accepted.specs.Tables.{accepted-sound, accepted-few}
 use Rattle.theory.specs.Players.{true-same}
@@ -203,7 +204,7 @@ module _ {owners priorities offsets targets : List ℕ} {s current left rounds :
 descended-rest :
     {priorities : List ℕ} {m s k p : ℕ} {before after : List ℕ} → k + 2 ≤ deep (length priorities) →
     Descended priorities m s k p before after →
-    (i : ℕ) → endAt (length priorities) m s ≤ i → getD after i 0 ≡ getD before i 0
+    Unchanged (Behind (endAt (length priorities) m s)) before after
 descended-rest {priorities} {m} {s} {k} l c i high =
     let most = level-high (length priorities) m s (k + 1) (omega arith) in
     c .rest i (inr (omega arith)) (inr (omega arith)) (λ e. omega arith) (λ e. omega arith) (inr (omega arith))
@@ -372,7 +373,7 @@ module _ {owners priorities offsets targets : List ℕ} (ok : Accepted (tablesOf
             module _ {p' : ℕ} {w2 : List ℕ} (c2 : Descended priorities (length targets) s (k + 1) p' w1 w2) where
               pub opened-same :
                   (length w2 ≡ length w0) ×
-                  ((i : ℕ) → endAt (length owners) (length targets) s ≤ i → getD w2 i 0 ≡ getD w0 i 0)
+                  (Unchanged (Behind (endAt (length owners) (length targets) s)) w0 w2)
               opened-same = (
                 c2 .long ∙ c1 .long,
                 λ i l. descended-rest (round-descend refl .depth) c2 i (rw each l) ∙ c1 .rest i l,
@@ -412,7 +413,7 @@ module _ {owners priorities offsets targets : List ℕ} (ok : Accepted (tablesOf
               whole2 : Whole n m s w2
               whole2 = filled.filled-whole owners ok p ready1 whole1 c2
 
-              same2 : (i : ℕ) → free n m ≤ i → getD w2 i 0 ≡ getD w1 i 0
+              same2 : Unchanged (Behind (free n m)) w1 w2
               same2 = filled.filled-rest owners ok p ready1 whole1 c2
 
               long2 : length w2 ≡ length w1
@@ -454,7 +455,7 @@ module _ {owners priorities offsets targets : List ℕ} (ok : Accepted (tablesOf
                   (shown.standing ok made shows .placed) entered0 entries1)
 
               same-all :
-                  (length w2 ≡ length w0) × ((i : ℕ) → endAt n m s ≤ i → getD w2 i 0 ≡ getD w0 i 0)
+                  (length w2 ≡ length w0) × (Unchanged (Behind (endAt n m s)) w0 w2)
               same-all = (long2 ∙ c1 .long, λ i l. same2 i (omega arith) ∙ c1 .rest i l)
 
               pub filled-long : length w2 ≡ length w0
@@ -480,7 +481,7 @@ module _ {owners priorities offsets targets : List ℕ} (ok : Accepted (tablesOf
         closed : isOpen g r (regionSet g r) ≡ false
         closed = open-told at (esc .queried) refl ∙ esc .shut
 
-        kept-all : (length w2 ≡ length w0) × ((i : ℕ) → endAt n m s ≤ i → getD w2 i 0 ≡ getD w0 i 0)
+        kept-all : (length w2 ≡ length w0) × (Unchanged (Behind (endAt n m s)) w0 w2)
         kept-all = same-all at (esc .queried) (esc .filled)
 
         -- all that a promotion and a dominion begin with
@@ -547,7 +548,7 @@ module _ {owners priorities offsets targets : List ℕ} (ok : Accepted (tablesOf
 
               pub promoted-same :
                   (length w3 ≡ length w0) ×
-                  ((i : ℕ) → endAt (length owners) (length targets) s ≤ i → getD w3 i 0 ≡ getD w0 i 0)
+                  (Unchanged (Behind (endAt (length owners) (length targets) s)) w0 w3)
               promoted-same = (
                 c3 .long ∙ kept-all .0,
                 λ i l.
@@ -626,7 +627,7 @@ module _ {owners priorities offsets targets : List ℕ} (ok : Accepted (tablesOf
             module _ {p' : ℕ} {w4 : List ℕ} (c4 : Descended priorities (length targets) s 0 p' w3 w4) where
               pub solved-same :
                   (length w4 ≡ length w0) ×
-                  ((i : ℕ) → endAt (length owners) (length targets) s ≤ i → getD w4 i 0 ≡ getD w0 i 0)
+                  (Unchanged (Behind (endAt (length owners) (length targets) s)) w0 w4)
               solved-same = (
                 c4 .long ∙ d3 .long ∙ kept-all .0,
                 λ i l.

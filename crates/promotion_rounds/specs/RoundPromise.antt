@@ -2,10 +2,11 @@
 -- one more.
 use mathlib.Core.List.{List}
 use mathlib.Core.Path.{_≡_}
-use Prim.Native.Nat.{ℕ, _+_, _≤_, _<_}
-use lib.ListN.{length, getD}
+use Prim.Native.Nat.{ℕ, _+_, _<_}
+use lib.ListN.{length}
 use Rattle.rules.specs.Tables.{gameOf, Accepted, tablesOf}
 use Rattle.rules.specs.Promotion.{roundOf, afterRounds}
+use Rattle.basics.specs.Frame.{Behind, Unchanged}
 use Rattle.theory.specs.PromotionEntries.{RoundEntries, Rounded}
 use Rattle.promotion_levels.specs.Layout.{endAt, entryIn}
 use Rattle.promotion_rounds.specs.Shown.{Shows}
@@ -41,4 +42,4 @@ pub record RoundDone (owners priorities offsets targets : List ℕ) (s current l
       (afterRounds (gameOf (tablesOf owners priorities offsets targets)) k)
       (entryIn (length owners) (length targets) s before) (entryIn (length owners) (length targets) s after)
   pub rest :
-      (i : ℕ) → endAt (length owners) (length targets) s ≤ i → getD after i 0 ≡ getD before i 0
+      Unchanged (Behind (endAt (length owners) (length targets) s)) before after

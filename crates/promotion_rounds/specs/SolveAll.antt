@@ -8,12 +8,13 @@ use native.Mathlib.Decide.{ℕ-discrete}
 use native.Mathlib.Numerals.{add-one}
 use native.Mathlib.Omega.{arith}
 use lib.Dec.{ltb}
-use lib.ListN.{length, getD}
+use lib.ListN.{length}
 use Rattle.rules.specs.Counting.{Set, count}
 use Rattle.rules.specs.Game.{Game}
 use Rattle.rules.specs.Tables.{gameOf, Accepted, tablesOf}
 use Rattle.rules.specs.Promotion.{Regions, unsolved, afterRounds, allSolved, roundsNeeded}
 use Rattle.basics.specs.Basics.{clash, lt-or-ge, some-intro, false-some, count-zero, count-some}
+use Rattle.basics.specs.Frame.{Behind, Unchanged}
 use Rattle.theory.specs.PromotionAccepted.{accepted-finishes, accepted-needed}
 use Rattle.theory.specs.PromotionEntries.{Rounded, rounds}
 use Rattle.promotion_levels.specs.Layout.{endAt, levelIn, entryIn}
@@ -51,7 +52,7 @@ pub record Ended (owners priorities offsets targets : List ℕ) (s budget at man
   pub within : made ≤ budget
   pub over : 0 < many → made ≡ budget
   pub rest :
-      (i : ℕ) → endAt (length owners) (length targets) s ≤ i → getD after i 0 ≡ getD before i 0
+      Unchanged (Behind (endAt (length owners) (length targets) s)) before after
 
 module _ {owners priorities offsets targets : List ℕ} {s : ℕ} where
   -- whether all are solved, by the number of unsolved vertices

@@ -8,8 +8,9 @@ use native.Mathlib.Omega.{arith}
 use lib.ListN.{length, set}
 use Rattle.rules.specs.Tables.{words}
 use Rattle.rules.specs.Words.{noEntry}
+use Rattle.basics.specs.Frame.{Beside}
 use Rattle.area.specs.Area.{setAt}
-use Rattle.area.specs.Walked.{Walkable, Keeps, Turn, Always, Beside, wordOf, store-turn, WalkedTo, Walked}
+use Rattle.area.specs.Walked.{Walkable, Keeps, Turn, Always, wordOf, store-turn, WalkedTo, Walked}
 use Rattle.walk.specs.declared.members.Members.{Members}
 
 -- a member has no entry

@@ -4,14 +4,14 @@ use mathlib.Core.List.{List, _++_}
 use mathlib.Core.Logic.{inl, inr}
 use mathlib.Core.Path.{_≡_, refl, sym, ap, subst, fun-ext, _∙_}
 use Prim.Native.Nat.{ℕ, _+_, _-_, _*_, _%_, _≤_, _<_}
-use native.Mathlib.Nat.{mul-le-mul-left, mul-le-mul-right}
+use native.Mathlib.Nat.{mul-le-mul-left}
 use native.Mathlib.Omega.{arith}
 use lib.ListN.{length, getD, take, drop, replicate, length-take}
 use Rattle.rules.specs.Counting.{Set, without}
 use Rattle.rules.specs.Game.{Player, Even, Odd, playerOf, everywhere}
 use Rattle.rules.specs.Outcome.{Outcome, Verdict, none, refused, outcome, answered}
 use Rattle.rules.specs.SecondOpinion.{LentSets, opinionWords, opinionChecks, OpinionLeaves, GivesOpinion}
-use Rattle.rules.specs.Tables.{Tables, gameOf, vertices, edgesIn, words, workWords, Accepted}
+use Rattle.rules.specs.Tables.{Tables, gameOf, vertices, edgesIn, words, Accepted}
 use Rattle.rules.specs.Winning.{WinningSets}
 use Rattle.rules.specs.Words.{Narrow, Holds, setOf, bit}
 use Rattle.rules.specs.Zielonka.{wonBy}
@@ -24,6 +24,7 @@ use Rattle.kept_numbers.specs.Reading.{FreshlyCounted, kept-bounds, kept-small}
 use Rattle.sets.specs.After.{Combined, other}
 use Rattle.sets.specs.Laws.{other-bit}
 use Rattle.area.specs.Area.{free, setAt, wordsAt}
+use Rattle.area.specs.Regions.{free-words}
 use Rattle.area.specs.Lent.{part-is, part-length}
 use Rattle.area.specs.SetsAt.{set-kept, set-copied-here, set-reduced}
 use Rattle.solver.specs.Preparing.{Preparable, Prepared}
@@ -62,9 +63,8 @@ pub record Opinion (t : Tables) (evens odds : List ℕ) : Type 0 where
 
 -- W words have room for the two sets and a level for each height
 levels-fit : (n m : ℕ) → free n m + words n + 2064 * words n ≤ opinionWords n m
-unfolding opinionWords workWords
-levels-fit n m =
-    let wide : 4 * words n ≤ 8 * (n + 2) * words n = mul-le-mul-right (words n) (omega arith) in omega arith
+unfolding opinionWords
+levels-fit n m = omega (arith, free-words n m)
 
 module _ {t : Tables} {high : ℕ} {even odd w₀ : List ℕ} (given : OpinionRunnable t high even odd w₀)
     {first : ℕ} (place : first ≡ free (vertices t) (edgesIn t))

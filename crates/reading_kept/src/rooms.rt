@@ -1,4 +1,5 @@
 // 9 and 10 before all else, by the lengths of what is lent: the number given, or 0 where all fit.
+use kept_numbers::KEPT;
 use parity_game::BAD_SIZE;
 use parity_game::SHORT_WORK;
 use reading_rooms::Fits;
@@ -19,7 +20,7 @@ pub fn check_record_rooms(
 ) -> u64
     ensures { λ r. ⌜ numberSaid r ≡ (keptSize kept then sizeChecks owners priorities offsets targets work) ⌝ }
 {
-    if kept != 258 {
+    if kept != KEPT {
         return BAD_SIZE;
     }
     match check_rooms(owners, priorities, offsets, targets, work) {

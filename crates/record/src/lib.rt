@@ -1,6 +1,7 @@
 // The game record's own checks: `check_record` is the one stage that every function that takes a record calls first.
 // Where it lets the record pass, the first n, n, n + 1 and m entries are accepted tables, and what is kept is a fresh
 // count of them.
+pub use kept_numbers::KEPT;
 use parity_game::Answer;
 use parity_game::BAD_SIZE;
 use parity_game::MOST_EDGES;
@@ -153,7 +154,7 @@ pub fn fresh_count(
     if r.number() != 0 {
         return r;
     }
-    if kept.len() != 258 {
+    if kept.len() != KEPT {
         return Answer::Refused(BAD_SIZE);
     }
     kept_numbers::write_fresh(&priorities[0..n], kept);

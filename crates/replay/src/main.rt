@@ -5,6 +5,7 @@ mod said;
 mod text;
 
 use libc::STDOUT_FILENO;
+use record::KEPT;
 use replay_solvers::solitaire_differs;
 use replay_solvers::solver_differs;
 
@@ -26,7 +27,7 @@ fn judge(
     offsets: &[u16],
     targets: &[u16],
 ) -> Line {
-    let mut kept = [0u64; 258];
+    let mut kept = [0u64; KEPT];
     let n = owners.len();
     record::fresh_count(
         n,

@@ -1,7 +1,7 @@
 -- Laws of the rows of words that the search keeps in the work area, of which each pass changes a few and leaves the rest.
 use mathlib.Core.Bool.{Bool, true, false, _&&_, not}
 use mathlib.Core.List.{List, [], _∷_, _++_}
-use mathlib.Core.Logic.{_⊎_, inl, inr, ⊎-elim}
+use mathlib.Core.Logic.{inl, inr, ⊎-elim}
 use mathlib.Core.Path.{_≡_, refl, sym, ap, subst, fun-ext, _∙_}
 use Prim.Native.Nat.{ℕ, suc, _+_, _-_, _≤_, _<_}
 use native.Mathlib.Omega.{arith}
@@ -11,13 +11,14 @@ use lib.ListN.{length, getD, take, drop, set, length-set, length-take, length-dr
 use lib.Seq.{ext-getD, getD-take, getD-drop, getD-set-other, take-suc}
 use Rattle.rules.specs.Counting.{Set}
 use Rattle.basics.specs.Basics.{bool-ext, and-intro, and-left, and-right, not-true-is-false, clash}
+use Rattle.basics.specs.Frame.{Outside, Unchanged}
 use Rattle.theory.specs.DepthFirst.{Marks}
 use Rattle.sets.specs.After as After
 
 -- only words from lo up to hi may have changed
 pub record Within (lo hi : ℕ) (before after : List ℕ) : Type 0 where
   pub long : length after ≡ length before
-  pub rest : (i : ℕ) → (i < lo) ⊎ (hi ≤ i) → getD after i 0 ≡ getD before i 0
+  pub rest : Unchanged (Outside lo hi) before after
 
 pub within-same : (lo hi : ℕ) (work : List ℕ) → Within lo hi work work
 within-same lo hi work = record { long = refl; rest = λ i o. refl }

@@ -7,6 +7,7 @@ use Prim.Native.Nat.{ℕ, _+_, _*_, _≤_, _<_}
 use lib.Dec.{eqb, ltb}
 use lib.ListN.{length, getD, drop}
 use Rattle.rules.specs.Words.{bit}
+use Rattle.basics.specs.Frame.{Beside, Unchanged}
 
 -- bit v is now d, and every other bit is as it was
 pub record Put (v d : ℕ) (before after : List ℕ) : Type 0 where
@@ -23,7 +24,7 @@ pub record Parts (into from s : ℕ) (words : List ℕ) : Type 0 where
 pub record Combined (f : ℕ → ℕ → ℕ) (into from s : ℕ) (before after : List ℕ) : Type 0 where
   pub long : length after ≡ length before
   pub bits : (v : ℕ) → v < 64 * s → bit (drop into after) v ≡ f (bit (drop into before) v) (bit (drop from before) v)
-  pub rest : (i : ℕ) → (i < into) ⊎ (into + s ≤ i) → getD after i 0 ≡ getD before i 0
+  pub rest : Unchanged (Beside s into) before after
 
 -- the other part's bit: what a copy makes of two
 abbrev pub other : ℕ → ℕ → ℕ
@@ -33,7 +34,7 @@ other x y = y
 pub record Cleared (at s : ℕ) (before after : List ℕ) : Type 0 where
   pub long : length after ≡ length before
   pub zeros : (i : ℕ) → at ≤ i → i < at + s → getD after i 0 ≡ 0
-  pub rest : (i : ℕ) → (i < at) ⊎ (at + s ≤ i) → getD after i 0 ≡ getD before i 0
+  pub rest : Unchanged (Beside s at) before after
 
 -- every bit below n is now 1, and every other bit is as it was
 pub record Filled (n : ℕ) (before after : List ℕ) : Type 0 where

@@ -12,18 +12,18 @@ use lib.Seq.{getD-set-same, getD-set-other}
 use Rattle.rules.specs.Tables.{words}
 use Rattle.rules.specs.Words.{digit}
 use Rattle.basics.specs.Basics.{lt-or-ge}
+use Rattle.basics.specs.Frame.{Beside, Unchanged}
 use Rattle.sets.specs.After.{Parts}
 use Rattle.sets.specs.Digits.{digit-lt}
 use Rattle.sets.specs.Wordwise.{Digitwise}
 use Rattle.area.specs.Area.{setAt}
 use Rattle.area.specs.SetsAt.{set-word, set-past}
-use Rattle.area.specs.Walked.{Beside}
 
 -- the set at `into` is made of two, member by member, and every word outside is as it was
 pub record MadeAt (both : Bool → Bool → Bool) (n into one other : ℕ) (before after : List ℕ) : Type 0 where
   pub long : length after ≡ length before
   pub made : (v : ℕ) → setAt n into after v ≡ both (setAt n one before v) (setAt n other before v)
-  pub rest : (i : ℕ) → Beside (words n) into i → getD after i 0 ≡ getD before i 0
+  pub rest : Unchanged (Beside (words n) into) before after
 
 -- the one without the other
 abbrev pub WithoutAt : ℕ → ℕ → ℕ → ℕ → List ℕ → List ℕ → Type 0
@@ -38,7 +38,7 @@ pub record TakenTo (f : ℕ → ℕ → ℕ) (into one other k : ℕ) (before af
   pub long : length after ≡ length before
   pub made :
       (i : ℕ) → i < k → Digitwise f (getD after (into + i) 0) (getD before (one + i) 0) (getD before (other + i) 0)
-  pub rest : (i : ℕ) → Beside k into i → getD after i 0 ≡ getD before i 0
+  pub rest : Unchanged (Beside k into) before after
 
 pub taken-none : {f : ℕ → ℕ → ℕ} {into one other : ℕ} {work : List ℕ} → TakenTo f into one other 0 work work
 taken-none = record { long = refl; made = λ i l. absurd (omega arith); rest = λ i o. refl }

@@ -1,7 +1,7 @@
 -- Words that are cleared, filled or copied one after another: each step makes the next.
 use mathlib.Core.Bool.{Bool, cond}
 use mathlib.Core.List.{List}
-use mathlib.Core.Logic.{_⊎_, inl, inr}
+use mathlib.Core.Logic.{inl, inr}
 use mathlib.Core.Path.{_≡_, refl, sym, ap, _∙_}
 use Prim.Native.Nat.{ℕ, _+_, _-_, _*_, _/_, _%_, _≤_, _<_}
 use native.Mathlib.Decide.{ℕ-discrete, decLt}
@@ -12,6 +12,7 @@ use lib.Dec.{eqb, ltb}
 use lib.ListN.{length, getD, set, length-set}
 use lib.Seq.{getD-set-same, getD-set-other}
 use Rattle.rules.specs.Words.{digit, bit}
+use Rattle.basics.specs.Frame.{Beside}
 use Rattle.set_bits.specs.After.{Put, Cleared, Filled}
 use Rattle.set_bits.specs.Digits.{digit-not, digit-zero}
 
@@ -36,11 +37,11 @@ cleared-more {at} {i} {before} {after} fits c =
     zero-at k l h (yes e) = ap (λ (j : ℕ). getD (set after (at + i) 0) j 0) e ∙ getD-set-same after (at + i) 0 0 fits
     zero-at k l h (no n) = getD-set-other after (at + i) k 0 0 n ∙ c .zeros k l (omega (arith, n))
 
-    apart : (k : ℕ) → (k < at) ⊎ (at + (i + 1) ≤ k) → k ≡ at + i → ⊥
+    apart : (k : ℕ) → Beside (i + 1) at k → k ≡ at + i → ⊥
     apart k (inl h) e = omega arith
     apart k (inr h) e = omega arith
 
-    outside : (k : ℕ) → (k < at) ⊎ (at + (i + 1) ≤ k) → (k < at) ⊎ (at + i ≤ k)
+    outside : (k : ℕ) → Beside (i + 1) at k → Beside i at k
     outside k (inl h) = inl h
     outside k (inr h) = inr (omega arith)
 

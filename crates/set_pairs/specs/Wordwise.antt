@@ -1,7 +1,7 @@
 -- The binary operations part way: the first i words of the part at `into` are combined, digit by digit, and all else is as it was.
 -- One invariant and three laws serve every word operation that works on each digit apart.
 use mathlib.Core.List.{List}
-use mathlib.Core.Logic.{_⊎_, inl, inr, ⊎-elim}
+use mathlib.Core.Logic.{inl, inr, ⊎-elim}
 use mathlib.Core.Path.{_≡_, refl, sym, ap, ap₂, _∙_}
 use Prim.Native.Nat.{ℕ, _+_, _/_, _%_, _≤_, _<_, zero-le}
 use native.Mathlib.Decide.{ℕ-discrete}
@@ -10,6 +10,7 @@ use native.Mathlib.Omega.{arith}
 use lib.ListN.{length, getD, set, length-set}
 use lib.Seq.{getD-set-same, getD-set-other, getD-drop}
 use Rattle.rules.specs.Words.{digit, bit}
+use Rattle.basics.specs.Frame.{Beside, Unchanged}
 use Rattle.set_bits.specs.After.{Combined, Parts}
 
 -- the digits of w are f of those of x and y
@@ -20,7 +21,7 @@ pub record Upto (f : ℕ → ℕ → ℕ) (into from s i : ℕ) (before after : 
   pub within : i ≤ s
   pub long : length after ≡ length before
   pub done : (k : ℕ) → k < i → Digitwise f (getD after (into + k) 0) (getD before (into + k) 0) (getD before (from + k) 0)
-  pub rest : (j : ℕ) → (j < into) ⊎ (into + i ≤ j) → getD after j 0 ≡ getD before j 0
+  pub rest : Unchanged (Beside i into) before after
 
 module _ {f : ℕ → ℕ → ℕ} {into from s : ℕ} {before : List ℕ} where
   -- no word yet
@@ -55,11 +56,11 @@ module _ {f : ℕ → ℕ → ℕ} {into from s : ℕ} {before : List ℕ} where
       at k m (no n) =
           rw (getD-set-other after (into + i) (into + k) w 0 (λ e. n (omega arith))) (u .done k (omega (arith, n)))
 
-      apart-from : (j : ℕ) → (j < into) ⊎ (into + (i + 1) ≤ j) → j ≡ into + i → ⊥
+      apart-from : (j : ℕ) → Beside (i + 1) into j → j ≡ into + i → ⊥
       apart-from j (inl h) e = omega arith
       apart-from j (inr h) e = omega arith
 
-      outside : (j : ℕ) → (j < into) ⊎ (into + (i + 1) ≤ j) → (j < into) ⊎ (into + i ≤ j)
+      outside : (j : ℕ) → Beside (i + 1) into j → Beside i into j
       outside j (inl h) = inl h
       outside j (inr h) = inr (omega arith)
 

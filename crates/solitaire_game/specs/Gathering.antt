@@ -12,6 +12,7 @@ use Rattle.rules.specs.Counting.{Set}
 use Rattle.rules.specs.Tables.{words}
 use Rattle.rules.specs.Words.{setOf}
 use Rattle.basics.specs.Basics.{bool-cases, bool-ext, clash, and-intro, and-left, and-right}
+use Rattle.basics.specs.Frame.{Beside, Below, Unchanged}
 use Rattle.sets.specs.After.{Cleared, Filled, Put}
 use Rattle.sets.specs.Laws.{put-set, filled-set}
 use Rattle.area.specs.Area.{setAt, wordsAt}
@@ -29,7 +30,7 @@ pub record Gatherable (n s row set : ℕ) (work : List ℕ) : Type 0 where
 -- the marked vertices below k are in the set, and every word outside it is as it was
 pub record Gathered (n row set k : ℕ) (before after : List ℕ) : Type 0 where
   pub long : length after ≡ length before
-  pub rest : (i : ℕ) → (i < set) ⊎ (set + words n ≤ i) → getD after i 0 ≡ getD before i 0
+  pub rest : Unchanged (Beside (words n) set) before after
   pub found : (v : ℕ) → setAt n set after v ≡ (ltb v k && marked n row before v)
 
 -- the words of a part that was lent and comes back as ys
@@ -126,7 +127,7 @@ pub record GoodPlaceable (n s row base : ℕ) (work : List ℕ) : Type 0 where
 -- all vertices at the base, the marked ones behind them, and every word before the base as it was
 pub record GoodPlaced (n s row base : ℕ) (before after : List ℕ) : Type 0 where
   pub long : length after ≡ length before
-  pub front : (i : ℕ) → i < base → getD after i 0 ≡ getD before i 0
+  pub front : Unchanged (Below base) before after
   pub full : (v : ℕ) → setAt n base after v ≡ ltb v n
   pub found : (v : ℕ) → setAt n (base + s) after v ≡ marked n row before v
 
@@ -180,7 +181,7 @@ module _ (n s row base : ℕ) (w₀ : List ℕ) (given : GoodPlaceable n s row b
             found = λ v. g .found v ∙ inside v ∙ ap (λ (S : Set). S v) row-kept;
           }
         where
-          front₂ : (i : ℕ) → i < base → getD w₂ i 0 ≡ getD w₀ i 0
+          front₂ : Unchanged (Below base) w₀ w₂
           front₂ i l = back-front base s w₁ ys fits₁ as-long i l ∙ cleared .rest i (inl l)
 
           row-kept : marked n row w₂ ≡ marked n row w₀

@@ -1,5 +1,6 @@
 // The worked games of one owner: name, then for each vertex in order whether it is in the solitaire set (1) or not (0).
 use libc::STDOUT_FILENO;
+use record::KEPT;
 
 // The first n bits of the set's only word.
 fn print_set(n: usize, set: u64) {
@@ -13,7 +14,7 @@ fn print_set(n: usize, set: u64) {
 fn report(name: &[u8], owners: &[u8], priorities: &[u16], offsets: &[u16], targets: &[u16]) {
     let mut set = [0u64; 1];
     let mut work = [0u64; 344];
-    let mut kept = [0u64; 258];
+    let mut kept = [0u64; KEPT];
     let mut place = 0;
     let mut count = 0;
     let n = owners.len();

@@ -1,7 +1,6 @@
 -- The good parts of all priorities of one parity, and the predecessor table and the game that callers bring.
 use mathlib.Core.Bool.{Bool, true, false, _&&_, _||_}
 use mathlib.Core.List.{List, List·Memᴰ}
-use mathlib.Core.Logic.{_⊎_}
 use mathlib.Core.Path.{_≡_, refl, sym, ap, subst, fun-ext, _∙_}
 use Prim.Native.Nat.{ℕ, _+_, _-_, _*_, _/_, _%_, _≤_, _<_}
 use native.Mathlib.Nat.{le-refl}
@@ -19,6 +18,7 @@ use Rattle.rules.specs.Tables.{Tables, vertices, targetsOf, gameOf, Accepted}
 use Rattle.rules.specs.Words.{entry, noEntry}
 use Rattle.basics.specs.Basics.{member-place, place-member, times-pos, times-member}
 use Rattle.basics.specs.Basics.{bool-ext, and-intro, and-left, and-right, some-intro, some-elim, some-false, clash, not-true-is-false}
+use Rattle.basics.specs.Frame.{Beside, Below, Unchanged}
 use Rattle.theory.specs.Chosen.{chosenPart}
 use Rattle.theory.specs.Counts.{length-fresh, take-fresh, counted-used}
 use Rattle.parity_game.specs.Laws.{accepted-sound}
@@ -37,9 +37,9 @@ pub record Sweepable (priorities offsets targets entries : List ℕ) (parity : �
 -- the priorities 2 j + parity for j below k were gone through
 pub record Swept (priorities offsets targets entries : List ℕ) (parity base k : ℕ) (before after : List ℕ) : Type 0 where
   pub long : length after ≡ length before
-  pub table : (i : ℕ) → i < marks (length priorities) (length targets) → getD after i 0 ≡ getD before i 0
+  pub table : Unchanged (Below (marks (length priorities) (length targets))) before after
   pub rest :
-      (i : ℕ) → behind (length priorities) (length targets) ≤ i → (i < base) ⊎ (base + length priorities ≤ i) → getD after i 0 ≡ getD before i 0
+      (i : ℕ) → behind (length priorities) (length targets) ≤ i → Beside (length priorities) base i → getD after i 0 ≡ getD before i 0
   pub found :
       (v : ℕ) → v < length priorities →
       marked (length priorities) base after v ≡
@@ -106,7 +106,7 @@ marked-unused G base work none =
 -- the table depends on its own words alone
 pub rows-alike :
     (G : Graph) (before after : List ℕ) →
-    ((i : ℕ) → i < marks (size G) (edgeCount G) → getD after i 0 ≡ getD before i 0) →
+    (Unchanged (Below (marks (size G) (edgeCount G))) before after) →
     Rows G before →
     Rows G after
 rows-alike G before after h rows =

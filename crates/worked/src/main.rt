@@ -1,5 +1,6 @@
 // Document 01's table of worked games: name, winner of each vertex in order (0 Even, 1 Odd), calls, rounds.
 use libc::STDOUT_FILENO;
+use record::KEPT;
 
 // The winners of n vertices, from the word of Odd's set.
 fn print_winners(n: usize, odd: u64) {
@@ -84,7 +85,7 @@ fn report(
     targets: &[u16],
     strategy: &mut [u16],
 ) {
-    let mut kept = [0u64; 258];
+    let mut kept = [0u64; KEPT];
     let mut odd = [0u64; 1];
     let n = owners.len();
     record::fresh_count(

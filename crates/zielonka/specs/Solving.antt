@@ -14,6 +14,7 @@ use Rattle.rules.specs.Tables.{Tables, gameOf, vertices, edgesIn, words, workWo
 use Rattle.rules.specs.Zielonka.{zielonka}
 use Rattle.theory.specs.AttractorComplement.{TotalIn}
 use Rattle.basics.specs.Basics.{count-le, and-left, lt-or-ge}
+use Rattle.basics.specs.Frame.{Outside}
 use Rattle.theory.specs.Run.{Run, run-over, run-agrees}
 use Rattle.theory.specs.RunSame.{Same, Needs}
 use Rattle.theory.specs.RunEntries.{run-strategy}
@@ -22,6 +23,7 @@ use Rattle.theory.specs.Zielonka.{everywhere-below, everywhere-total, run-is-zi
 use Rattle.theory.specs.Zielonka.{zielonka-entries-win}
 use Rattle.sets.specs.After.{Parts, Cleared}
 use Rattle.area.specs.Area.{entries, free, setAt}
+use Rattle.area.specs.Regions.{two-words, free-words}
 use Rattle.area.specs.SetsAt.{set-kept, set-cleared}
 use Rattle.set_difference.specs.Without.{WithoutAt}
 use Rattle.priority_sets.specs.Sorting.{Sortable, Sorts, sets-stay}
@@ -35,31 +37,21 @@ use Rattle.solver.specs.Outputs.{wonFrom, WinnersFound}
 
 -- where a set takes two words or more there are many vertices, so that the levels that are left over have room for a set for each
 -- priority; else those sets are 256 words
-two-words : (n : ℕ) → 2 ≤ words n → 65 ≤ n
-unfolding words
-two-words n l = omega arith
-
-sets-room : (n : ℕ) → 262 * words n ≤ (7 * n + 15) * words n + 262
+sets-room : (n : ℕ) → 247 * words n ≤ 7 * (n * words n) + 262
 sets-room n = go (lt-or-ge (words n) 2)
   where
-    go : (words n < 2) ⊎ (2 ≤ words n) → 262 * words n ≤ (7 * n + 15) * words n + 262
+    go : (words n < 2) ⊎ (2 ≤ words n) → 247 * words n ≤ 7 * (n * words n) + 262
     go (inl l) = omega arith
-    go (inr h) =
-        let many : 262 ≤ 7 * n + 15 = omega (arith, two-words n h) in
-        let wide = mul-le-mul-right (words n) many in omega arith
+    go (inr h) = let wide = mul-le-mul-right (words n) (two-words n h) in omega arith
 
 -- W words have room for a set for each priority, three sets more, and a level for each vertex and one more, behind the attractor's
 -- words
 first-room : (n m k : ℕ) → k ≤ n → firstLevel n m + words n * (k + 1) ≤ workWords n m
-unfolding workWords
 first-room n m k few =
     let more : k + 1 ≤ n + 1 = omega arith in
     let some-levels = mul-le-mul-left (words n) more in
-    let wide : 8 * (n + 2) ≡ (n + 1) + (7 * n + 15) = omega arith in
-    let all-levels : 8 * (n + 2) * words n ≡ ((n + 1) + (7 * n + 15)) * words n = ap (λ (x : ℕ). x * words n) wide in
-    let both : ((n + 1) + (7 * n + 15)) * words n ≡ (n + 1) * words n + (7 * n + 15) * words n =
-    add-mul (n + 1) (7 * n + 15) (words n) in
-    omega (arith, sets-room n, mul-comm (n + 1) (words n))
+    let all-levels : words n * (n + 1) ≡ n * words n + 1 * words n = mul-comm (words n) (n + 1) ∙ add-mul n 1 (words n) in
+    omega (arith, free-words n m, sets-room n)
 
 -- the sets of the priorities begin where the free words do; behind them stand what Even and Odd won, the attractor, and the first
 -- level
@@ -121,7 +113,7 @@ module _ (t : Tables) (ok : Accepted t) (w₀ : List ℕ)
         -- the words before the sets of the priorities, and the levels, are as they were
         outside :
             (i : ℕ) →
-            (i < free (vertices t) (edgesIn t)) ⊎ (base ≤ i) →
+            Outside (free (vertices t) (edgesIn t)) base i →
             getD w i 0 ≡ getD w′ i 0
         outside i (inl l) = cleared .rest i (inl (omega arith)) ∙ sorts .rest i (inl (omega arith))
         outside i (inr h) =

@@ -9,8 +9,8 @@ use lib.ListN.{length, getD}
 use Rattle.rules.specs.Counting.{Set, count}
 use Rattle.rules.specs.Game.{Player, Even, Odd}
 use Rattle.rules.specs.Tables.{Tables, gameOf, vertices, edgesIn, words, Accepted}
+use Rattle.basics.specs.Frame.{Beside, Below, Unchanged}
 use Rattle.area.specs.Area.{free, setAt, entryAt}
-use Rattle.area.specs.Walked.{Beside}
 use Rattle.priority_sets.specs.Sorting.{SetsOf}
 use Rattle.attractor.specs.Attracted.{Listed}
 use Rattle.theory.specs.AttractorComplement.{TotalIn}
@@ -85,7 +85,7 @@ Aside t = Beside (2 * words (vertices t)) (oddPlace (vertices t) (edgesIn t))
 -- and the attractor, and V itself
 pub record Stays (t : Tables) (base : ℕ) (before after : List ℕ) : Type 0 where
   pub long : length after ≡ length before
-  pub table : (i : ℕ) → i < vertices t + 1 + edgesIn t → getD after i 0 ≡ getD before i 0
+  pub table : Unchanged (Below (vertices t + 1 + edgesIn t)) before after
   pub lower :
       (i : ℕ) → free (vertices t) (edgesIn t) ≤ i → i < base + words (vertices t) → Aside t i → getD after i 0 ≡ getD before i 0
 

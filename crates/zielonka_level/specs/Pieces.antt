@@ -3,12 +3,12 @@ use mathlib.Core.Bool.{Bool, true, _&&_, not, cond}
 use mathlib.Core.List.{List}
 use mathlib.Core.Path.{_≡_}
 use Prim.Native.Nat.{ℕ, _+_, _*_, _≤_, _<_}
-use lib.ListN.{length, getD}
+use lib.ListN.{length}
 use Rattle.rules.specs.Counting.{some}
 use Rattle.rules.specs.Game.{Player}
 use Rattle.rules.specs.Tables.{Tables, vertices, words, tablesOf}
+use Rattle.basics.specs.Frame.{Beside, Unchanged}
 use Rattle.area.specs.Area.{setAt}
-use Rattle.area.specs.Walked.{Beside}
 use Rattle.priority_sets.specs.Sorting.{PriorityPlaceable}
 use Rattle.set_difference.specs.Without.{MadeAt}
 use Rattle.zielonka_level.specs.Level.{goesTo, isOdd, onLevel, drawnAt, oddPlace, drawnPlace, firstLevel, Called}
@@ -21,7 +21,7 @@ PartWon c n into of odd = MadeAt (λ x y. x && goesTo c y) n into of odd
 pub record Gave (c : Player) (n place from : ℕ) (before after : List ℕ) : Type 0 where
   pub long : length after ≡ length before
   pub odd : (v : ℕ) → setAt n place after v ≡ cond (setAt n from before v) (isOdd c) (setAt n place before v)
-  pub rest : (i : ℕ) → Beside (words n) place i → getD after i 0 ≡ getD before i 0
+  pub rest : Unchanged (Beside (words n) place) before after
 
 -- a call with room for the level above it
 pub record CallReady (t : Tables) (s base : ℕ) (work : List ℕ) : Type 0 where

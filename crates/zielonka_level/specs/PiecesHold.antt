@@ -22,11 +22,11 @@ use Rattle.theory.specs.AttractorComplement.{TotalIn}
 use Rattle.basics.specs.Basics.{lt-or-ge, and-left, not-true-is-false}
 use Rattle.theory.specs.Run.{Cut, attractor-cut, cut-entry}
 use Rattle.accepted.specs.Tables.{accepted-sound, accepted-few}
+use Rattle.basics.specs.Frame.{Beside, Unchanged}
 use Rattle.area.specs.Area.{entries, free, wordsAt, setAt}
 use Rattle.attractor.specs.Attracted.{Attractable, Attracted, listed-kept, edges-sound}
 use Rattle.area.specs.Lent.{part-is, part-length}
 use Rattle.priority_sets.specs.Sorting.{setOfPriority, PriorityPlaceable, set-room}
-use Rattle.area.specs.Walked.{Beside}
 use Rattle.successors.specs.Lowest.{lowestEnd}
 use Rattle.set_difference.specs.Without.{WithoutAt, CommonAt}
 use Rattle.area.specs.SetsAt.{set-kept, set-united, set-reduced}
@@ -41,7 +41,7 @@ use Rattle.zielonka_level.specs.Pieces.{PartWon, Gave, Levels, LostTold,
 -- a step that writes the attractor's place alone
 module _ (t : Tables) {base : ℕ} {x y : List ℕ} (above : firstLevel (vertices t) (edgesIn t) ≤ base)
     (long : length y ≡ length x)
-    (rest : (i : ℕ) → Beside (words (vertices t)) (drawnPlace (vertices t) (edgesIn t)) i → getD y i 0 ≡ getD x i 0)
+    (rest : Unchanged (Beside (words (vertices t)) (drawnPlace (vertices t) (edgesIn t))) x y)
   where
     pub drawn-only : Unmoved t base x y
     drawn-only =
@@ -455,7 +455,7 @@ module _ {t : Tables} {s base : ℕ} (p : ℕ) {of place : ℕ} {w₀ w₁ : Lis
         (at : odd ≡ oddPlace (vertices t) (edgesIn t))
         (gave : Gave a (vertices t) odd base w₂ w₃)
       where
-        gave-rest : (i : ℕ) → Beside (words (vertices t)) (oddPlace (vertices t) (edgesIn t)) i → getD w₃ i 0 ≡ getD w₂ i 0
+        gave-rest : Unchanged (Beside (words (vertices t)) (oddPlace (vertices t) (edgesIn t))) w₂ w₃
         gave-rest = rw at at (gave .rest)
 
         stays-last : Stays t base w₁ w₃

@@ -5,8 +5,9 @@ use lib.ListN.{length}
 use Rattle.walk.specs.declared.members.Members.{Members}
 use Rattle.walk.specs.Walk.{left}
 use Rattle.area.specs.Area.{wordsAt, setAt}
-use Rattle.area.specs.Walked.{Always, Beside, wordOf, WalkedTo, Reached, walked-none, walked-few, walked-all, walked-next}
+use Rattle.area.specs.Walked.{Always, wordOf, WalkedTo, Reached, walked-none, walked-few, walked-all, walked-next}
 use borrow.Author.Needs.{needs}
+use Rattle.basics.specs.Frame.{Beside}
 use Rattle.promotion_moves.proofs.fill.assign_missing_strategies.Statement.{statement}
 use Rattle.promotion_moves.proofs.fill.assign_missing_strategies.Tie as tie
 
