@@ -9,11 +9,11 @@ ghost use Rattle.rules.specs.Compaction.{nextNumber};
 ghost use Rattle.compaction_numbers.specs.Marks.{Small, Marks, Numbers, lastGiven};
 
 // Which priorities are used: 1 at each.
-pub fn mark(priorities: &[u16]) -> [u8; 256]
+pub fn mark(priorities: &[u16]) -> [u8; PRIORITIES]
     requires { ⌜ Small (now priorities) ⌝ }
     ensures { λ r. ⌜ Marks (now (priorities .entry)) r ⌝ }
 {
-    let mut used = [0u8; 256];
+    let mut used = [0u8; PRIORITIES];
     for v in 0..priorities.len() {
         let p = priorities[v] as usize;
         used[p] = 1;
@@ -34,10 +34,10 @@ fn next_number(any: bool, last: u16, p: u16) -> u16
 }
 
 // The new number of each used priority.
-pub fn number(used: [u8; 256]) -> [u16; 256]
+pub fn number(used: [u8; PRIORITIES]) -> [u16; PRIORITIES]
     ensures { λ r. ⌜ Numbers 256 used r ⌝ }
 {
-    let mut numbers = [0u16; 256];
+    let mut numbers = [0u16; PRIORITIES];
     let mut any = false;
     let mut last = 0;
     for p in 0..PRIORITIES {
@@ -51,7 +51,7 @@ pub fn number(used: [u8; 256]) -> [u16; 256]
 }
 
 // The new table, entry by entry.
-pub fn write(priorities: &[u16], numbers: [u16; 256], new_priorities: &mut [u16])
+pub fn write(priorities: &[u16], numbers: [u16; PRIORITIES], new_priorities: &mut [u16])
     requires { ⌜ Small (now priorities) × (length (now «new_priorities») ≡ length (now priorities)) ⌝ }
     ensures { λ _. ⌜ now («new_priorities» .exit) ≡ map (λ p. getD numbers p 0) (now (priorities .entry)) ⌝ }
 {
