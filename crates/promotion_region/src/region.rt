@@ -11,10 +11,10 @@ ghost use Rattle.promotion_levels.specs.Layout.{Ready};
 ghost use Rattle.promotion_levels.specs.Newcomers.{Newcomers};
 ghost use lib.ListN.{length};
 
-// R, at `held`, is the attractor of region p within the current level, at `base`, and leaves the level after it. At first
-// only the newcomers of region p stand there: nothing can be drawn into the others, so what is drawn in lies in the
-// level after and leads to a newcomer. R's heads, of priority p, stand where the level after that would, which is not
-// in use.
+// R, at `held`, is the attractor of region p within the current level, at `base`, and leaves the level after it. At
+// first only the newcomers of region p stand there: nothing can be drawn into the others, so whoever is drawn in lies
+// in the level after, and leads to a newcomer. R's heads, of priority p, stand where the level after that would, which
+// is not in use.
 pub fn query(
     owners: &[u8],
     offsets: &[u16],
