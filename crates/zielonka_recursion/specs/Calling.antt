@@ -2,7 +2,8 @@
 -- out.
 use mathlib.Core.Bool.{Bool, true, false, _&&_, not}
 use mathlib.Core.List.{List}
-use mathlib.Core.Path.{_≡_, sym, ap, subst, subst₂, fun-ext, _∙_}
+use mathlib.Core.Logic.{⊎-elim}
+use mathlib.Core.Path.{_≡_, refl, sym, ap, subst, subst₂, fun-ext, _∙_}
 use Prim.Native.Nat.{ℕ, _+_, _-_, _*_, _≤_, _<_}
 use native.Mathlib.Nat.{mul-le-mul-left, mul-add, mul-one}
 use native.Mathlib.Omega.{arith}
@@ -17,6 +18,7 @@ use Rattle.rules.specs.Words.{setOf}
 use Rattle.rules.specs.Zielonka.{withPriority}
 use Rattle.sets.specs.Laws.{no-member}
 use Rattle.basics.specs.Basics.{clash, and-left, and-intro, without-right, not-true-is-false, some-elim, some-false, count-pos}
+use Rattle.basics.specs.Basics.{lt-or-ge}
 use Rattle.theory.specs.Run.{Top, Cut, highest-top, cut-inside}
 use Rattle.accepted.specs.Tables.{accepted-sound}
 use Rattle.area.specs.Area.{setAt, sizeAt, wordsAt}
@@ -24,11 +26,11 @@ use Rattle.area.specs.Sizes.{size-at}
 use Rattle.area.specs.SetsAt.{set-inside}
 use Rattle.area.specs.Walking.{lent-part}
 use Rattle.highest_priority.specs.Parts.{highestOf, Searchable}
-use Rattle.zielonka_recursion.specs.Ending.{CalledUnder}
+use Rattle.zielonka_recursion.specs.Ending.{CalledUnder, Ends, ends-over, ends-done}
 use Rattle.zielonka_level.specs.Level.{nextLevel, drawnPlace, onLevel, drawnAt, oddAt, goesTo, wonOf, Called, Stays, Done, Over}
 use Rattle.zielonka_level.specs.Steps.{CutBy, AllAt, LostBy, Unmoved, stays-on, stays-next, level-stays, lost-stays, lost-cut}
 use Rattle.zielonka_level.specs.Steps.{nested-called, first-less, cut-less}
-use Rattle.zielonka_level.specs.Steps.{done-all, done-some, over-nested, over-second}
+use Rattle.zielonka_level.specs.Steps.{done-empty, done-all, done-some, over-first, over-nested, over-second}
 use Rattle.zielonka_level.specs.Pieces.{Levels, LostTold, CallReady, Sorted, Cuttable}
 use Rattle.zielonka_level.specs.PiecesHold.{drawn-only, ready-stays, ready-places}
 
@@ -118,6 +120,19 @@ module _ {t : Tables} {base : ℕ} {w₀ : List ℕ} (called : Called t base w�
         subst (λ (q : ℕ). Top (gameOf t) (onLevel t base w₀) (parity q) q)
         (sym (rw (accepted-sound t (called .accepted) .priority-each) at told))
         (highest-top (gameOf t) (onLevel t base w₀) (called .below) vertex member)
+
+-- a call on an empty set ends as `count_call` says
+pub empty-ends :
+    {t : Tables} {base calls budget made : ℕ} {w : List ℕ} →
+    Called t base w →
+    ((v : ℕ) → onLevel t base w v ≡ false) →
+    (budget ≤ calls → made ≡ 0) × (calls < budget → made ≡ calls + 1) →
+    Ends t base calls budget w w made
+empty-ends {calls} {budget} called none (over, counted) =
+    ⊎-elim
+    (λ l. rw (counted l) (ends-done (omega arith) (done-empty called none l)))
+    (λ l. rw (over l) (ends-over (over-first called l)))
+    (lt-or-ge calls budget)
 
 -- a priority that a vertex has is below 256
 top-small :
@@ -250,6 +265,27 @@ module _ {t : Tables} {s base p calls budget made : ℕ} {w₀ w₁ w₂ : List 
   pub came-ready : CallReady t s base w₂
   came-ready = ready-stays came-stays (c .begun .ready)
 
+  -- the last step can be made
+  pub came-sorted : Sorted (t .owners) (t .offsets) (t .targets) p s base w₂
+  came-sorted = ready-sorted (c .begun .called) (c .begun .top) came-ready
+
+  -- the next level is empty, so the opponent won nothing there: it need not be asked
+  pub came-all :
+      {up : ℕ} {w₃ : List ℕ} →
+      up ≡ base + s →
+      ((v : ℕ) → onLevel t up w₁ v ≡ false) →
+      AllAt t p base w₂ w₃ →
+      Done t base calls budget made w₀ w₃
+  came-all next none all =
+      done-all (c .begun .called) (c .begun .top) (c .begun .cut) (c .done)
+      (λ v. ap (λ (b : Bool). b && goesTo (opponent (parity p)) (oddAt t w₂ v)) (rw (next, sized) at none v))
+      (record {
+        stays = record { long = refl; table = λ i l. refl; lower = λ i l h o. refl };
+        odd = λ v. refl;
+        entries = λ v l. refl;
+      })
+      all
+
   -- the levels can be asked what the opponent won
   pub came-levels : Levels (vertices t) (edgesIn t) s base w₂
   came-levels = record { places = ready-places came-ready; above = came-ready .called .above; high = came-ready .high }
@@ -371,12 +407,19 @@ module _ {t : Tables} {s base p calls budget made : ℕ} {w₀ w₁ w₂ w₃ w�
       pub lost-less : sizeAt (vertices t) up w₄ < sizeAt (vertices t) base w₀
       lost-less = smaller (begun .called) (lost-called .called) (rw (next, begun .ready .size) less)
 
-      pub lost-over : Over t up made budget w₄ → Over t base calls budget w₀
+      lost-over : Over t up made budget w₄ → Over t base calls budget w₀
       lost-over over =
           over-second (begun .called) calls (begun .top) (begun .cut) (l .told .came .done) (l .vertex) (l .lost) (l .by)
           (rw (next, begun .ready .size) at over)
 
-      pub lost-done : {made₂ : ℕ} {w₅ : List ℕ} → Done t up made budget made₂ w₄ w₅ → Done t base calls budget made₂ w₀ w₅
+      lost-done : {made₂ : ℕ} {w₅ : List ℕ} → Done t up made budget made₂ w₄ w₅ → Done t base calls budget made₂ w₀ w₅
       lost-done d =
           done-some (begun .called) (begun .top) (begun .cut) (l .told .came .done) (l .told .still) (l .vertex) (l .lost) (l .by)
           (rw (next, begun .ready .size) at d)
+
+      -- the call ends as the second nested call does
+      pub lost-ends :
+          {made₂ : ℕ} {w₅ : List ℕ} →
+          Ends t up made budget w₄ w₅ made₂ →
+          Ends t base calls budget w₀ w₅ made₂
+      lost-ends e = record { over = λ none. lost-over (e .over none); done = λ some. lost-done (e .done some) }

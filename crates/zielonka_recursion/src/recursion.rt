@@ -7,8 +7,17 @@ use zielonka_cuts::attract_highest;
 use zielonka_cuts::attract_lost;
 use zielonka_level::lost_nothing;
 use zielonka_level::win_everything;
+ghost use mathlib.Core.Path.{_≡_};
+ghost use Prim.Native.Nat.{_+_, _≤_, _<_};
 ghost use Rattle.zielonka_recursion.specs.Ending.{CalledUnder, Ends};
 ghost use Rattle.rules.specs.Tables.{tablesOf};
+
+// A call on an empty set, which counts as one where the cap allows it: to make it would cost more than its work.
+fn count_call(calls: u64, cap: u64) -> u64
+    ensures { λ r. ⌜ (cap ≤ calls → r ≡ 0) × (calls < cap → r ≡ calls + 1) ⌝ }
+{
+    if calls < cap { calls + 1 } else { 0 }
+}
 
 // No priority in V is above `top`; at most `cap` calls are made in all. It gives the calls made so far, or 0 where the
 // cap does not allow them: a plain number, since an enum would go through memory.
@@ -41,17 +50,18 @@ pub fn zielonka_rec(
     let p = get_highest_prio(priorities, work, base, s, top);
     attract_highest(owners, offsets, targets, p, s, work, base);
     let up = next_set(base, s);
-    let made = zielonka_rec(
-        owners,
-        priorities,
-        offsets,
-        targets,
-        work,
-        up,
-        one_less(p),
-        calls + 1,
-        cap,
-    );
+    let used = calls + 1;
+    if sets::is_empty(&work[up..up + s]) {
+        // the attractor is all of V: the call on the empty rest is counted, not made, and p's player wins V
+        let made = count_call(used, cap);
+        if made == 0 {
+            return 0;
+        }
+        win_everything(owners, offsets, targets, p, s, work, base);
+        return made;
+    }
+    let q = one_less(p);
+    let made = zielonka_rec(owners, priorities, offsets, targets, work, up, q, used, cap);
     if made == 0 {
         return 0;
     }
@@ -60,5 +70,8 @@ pub fn zielonka_rec(
         return made;
     }
     attract_lost(owners, offsets, targets, p, s, work, base);
+    if sets::is_empty(&work[up..up + s]) {
+        return count_call(made, cap);
+    }
     zielonka_rec(owners, priorities, offsets, targets, work, up, p, made, cap)
 }

@@ -1,22 +1,22 @@
 -- `zielonka_rec` meets its contract. The measure is the size of V, by the ones of its words. The pieces before a nested call make what it asks
 -- for, on fewer vertices, and the pieces after it make of what it left the run of this call.
 use mathlib.Core.Path.{_≡_}
-use mathlib.Core.Bool.{true}
+use mathlib.Core.Bool.{true, false}
 use mathlib.Core.List.{List}
 use Prim.Native.Nat.{ℕ, _+_, _≤_, _<_}
 use native.Mathlib.Omega.{arith}
 use lib.ListN.{length}
 use Rattle.rules.specs.Tables.{Tables, tablesOf}
 use Rattle.area.specs.Area.{sizeAt}
-use Rattle.zielonka_level.specs.Level.{onLevel}
-use Rattle.zielonka_recursion.specs.Ending.{ends-over, ends-done}
+use Rattle.zielonka_level.specs.Level.{onLevel, Called}
+use Rattle.zielonka_recursion.specs.Ending.{Ends, ends-over, ends-done}
 use Rattle.zielonka_level.specs.Steps.{done-empty, over-first}
-use Rattle.zielonka_recursion.specs.Calling.{level-fits, highest-given, level-empty, level-some}
+use Rattle.zielonka_recursion.specs.Calling.{level-fits, highest-given, level-empty, level-some, empty-ends}
 use Rattle.zielonka_recursion.specs.Calling.{member-ready, member-top, ready-sorted}
 use Rattle.zielonka_recursion.specs.Calling.{FirstCut, begun-less, begun-called, begun-came, begun-over}
-use Rattle.zielonka_recursion.specs.Calling.{Came, came-levels, came-told}
+use Rattle.zielonka_recursion.specs.Calling.{Came, came-ready, came-sorted, came-all, came-levels, came-told}
 use Rattle.zielonka_recursion.specs.Calling.{LostCollected, told-ready, told-sorted, told-all, told-cuttable, told-lost}
-use Rattle.zielonka_recursion.specs.Calling.{Lost, lost-less, lost-called, lost-over, lost-done}
+use Rattle.zielonka_recursion.specs.Calling.{Lost, lost-less, lost-called, lost-ends}
 use borrow.Author.Needs.{needs}
 use borrow.Fn.Kinds.{In, Out}
 use borrow.Fn.PlainCycle.{Measures, is, falls, and}
@@ -32,6 +32,7 @@ use Rattle.highest_priority.proofs.one_less.Reads as one-less-reads
 use Rattle.zielonka_cuts.proofs.attract_lost.Reads as attract-lost-reads
 use Rattle.zielonka_level.proofs.lost_nothing.Reads as lost-nothing-reads
 use Rattle.zielonka_level.proofs.win_everything.Reads as win-everything-reads
+use Rattle.zielonka_recursion.proofs.recursion.count_call.Reads as count-call-reads
 use Rattle.zielonka_recursion.proofs.recursion.+zielonka_rec.{statement}
 use Rattle.zielonka_recursion.proofs.recursion.+zielonka_rec.Tie.{close}
 
@@ -56,14 +57,16 @@ cs t = (
   attract-highest-reads.Learnt,
   next-set-reads.Asked,
   next-set-reads.Learnt,
+  count-call-reads.Asked,
+  count-call-reads.Learnt,
+  win-everything-reads.Asked,
+  win-everything-reads.Learnt,
   one-less-reads.Asked,
   one-less-reads.Learnt,
   below t,
   own.Post,
   lost-nothing-reads.Asked,
   lost-nothing-reads.Learnt,
-  win-everything-reads.Asked,
-  win-everything-reads.Learnt,
   attract-lost-reads.Asked,
   attract-lost-reads.Learnt,
 )
@@ -87,33 +90,54 @@ module _ (t : ℕ) where
   abbrev after-highest : At lts.After-attract-highest → At lts.After-get-highest-prio
   after-highest c = c .before .before
 
-  -- and on from there
+  -- and on from there: the next level, and what was asked of it
+  abbrev up-cut : At lts.After-next-set → At lts.After-attract-highest
+  up-cut c = c .before .before .before
+
+  abbrev rest-up : At lts.After-is-empty2 → At lts.After-next-set
+  rest-up c = c .before .before .before
+
+  -- it is empty
+  abbrev counted-rest : At lts.After-count-call → At lts.After-is-empty2
+  counted-rest c = c .before .before
+
+  -- it has a member
+  abbrev first-rest : At lts.After-zielonka-rec → At lts.After-is-empty2
+  first-rest c = c .before .before .before .before
+
   abbrev after-up : At lts.After-zielonka-rec → At lts.After-next-set
-  after-up c = c .before .before .before
+  after-up c = rest-up (first-rest c)
 
   abbrev after-cut : At lts.After-zielonka-rec → At lts.After-attract-highest
-  after-cut c = after-up c .before .before .before
+  after-cut c = up-cut (after-up c)
 
-  abbrev after-first : At lts.Else3 → At lts.After-zielonka-rec
+  abbrev after-first : At lts.Else5 → At lts.After-zielonka-rec
   after-first c = c .before .before .before
 
-  abbrev before-told : At lts.After-lost-nothing → At lts.Else3
+  abbrev before-told : At lts.After-lost-nothing → At lts.Else5
   before-told c = c .before .before
 
   abbrev first-cut : At lts.After-lost-nothing → At lts.After-attract-highest
   first-cut c = after-cut (after-first (before-told c))
 
-  abbrev told-some : At lts.Else4 → At lts.After-lost-nothing
+  abbrev told-some : At lts.Else6 → At lts.After-lost-nothing
   told-some c = c .before .before .before
 
-  abbrev told-none : At lts.Then4 → At lts.After-lost-nothing
+  abbrev told-none : At lts.Then6 → At lts.After-lost-nothing
   told-none c = c .before .before .before
 
-  abbrev before-second-cut : At lts.After-attract-lost → At lts.Else4
+  abbrev before-second-cut : At lts.After-attract-lost → At lts.Else6
   before-second-cut c = c .before .before
 
+  -- after the second cut it is asked once more
+  abbrev again-up : At lts.After-slice-known7 → At lts.After-attract-lost
+  again-up c = c .before .before
+
+  abbrev again-cut : At lts.After-is-empty3 → At lts.After-attract-lost
+  again-cut c = again-up (c .before .before .before)
+
   abbrev after-second-cut : At lts.After-zielonka-rec2 → At lts.After-attract-lost
-  after-second-cut c = c .before .before .before .before
+  after-second-cut c = again-cut (c .before .before .before)
 
   -- where the next level begins, as it was asked before the first nested call
   abbrev up-of : At lts.After-attract-lost → At lts.After-next-set
@@ -134,7 +158,7 @@ module _ (t : ℕ) where
   top c = after-highest c .get-highest-prio .result .0
 
   -- the calls that were made when the first nested call has ended
-  abbrev made : At lts.Else3 → ℕ
+  abbrev made : At lts.Else5 → ℕ
   made c = after-first c .zielonka-rec .result
 
   -- the work area as it was lent, and after the first cut, the first nested call, the question what was lost, and the second cut
@@ -183,9 +207,47 @@ module _ (t : ℕ) where
         cut = c .attract-highest .ensures (start c .args .priorities .now) (member-ready called sized v q);
       }
 
+  -- a call on the next level has what it asks for, and there is room for it
+  nested : (c : At lts.After-next-set) → let d = up-cut c in Called (tables (start d)) (c .next-set .result) (work₁ d)
+  nested c = begun-called (begun (up-cut c)) (c .next-set .ensures) .called
+
+  up-fits : (c : At lts.After-next-set) → let d = up-cut c in c .next-set .result + wide d ≤ length (work₁ d)
+  up-fits c = level-fits (nested c) (begun (up-cut c) .ready .size)
+
+  -- nothing is there
+  rest-none :
+      (c : At lts.Then3) →
+      let u = rest-up (c .before) in
+      let d = up-cut u in
+      (v : ℕ) →
+      onLevel (tables (start d)) (u .next-set .result) (work₁ d) v ≡ false
+  rest-none c =
+      let u = rest-up (c .before) in
+      level-empty (nested u) (begun (up-cut u) .ready .size) (c .before .is-empty2 .ensures) (c .if3 .taken)
+
+  -- so a call on it ends as it is counted
+  rest-ends :
+      (c : At lts.After-count-call) →
+      let u = rest-up (counted-rest c) in
+      let d = up-cut u in
+      let a = start d .args in
+      Ends (tables (start d)) (u .next-set .result) (a .calls + 1) (a .cap) (work₁ d) (work₁ d) (c .count-call .result)
+  rest-ends c = empty-ends (nested (rest-up (counted-rest c))) (rest-none (c .before)) (c .count-call .ensures)
+
   -- within the budget
+  rest-came :
+      (c : At lts.Else4) →
+      let d = up-cut (rest-up (counted-rest (c .before))) in
+      let a = start d .args in
+      Came (tables (start d)) (wide d) (a .base) (top d) (a .calls) (a .cap) (c .before .count-call .result)
+      (work₀ d) (work₁ d) (work₁ d)
+  rest-came c =
+      let u = rest-up (counted-rest (c .before)) in
+      begun-came (begun (up-cut u)) (u .next-set .ensures) (rest-ends (c .before) .done (omega (arith, c .if4 .left)))
+
+  -- the first nested call was made, within the budget
   came :
-      (c : At lts.Else3) →
+      (c : At lts.Else5) →
       let d = after-cut (after-first c) in
       let a = start d .args in
       Came (tables (start d)) (wide d) (a .base) (top d) (a .calls) (a .cap) (made c)
@@ -193,7 +255,7 @@ module _ (t : ℕ) where
   came c =
       let first = after-first c in
       begun-came (begun (after-cut first)) (after-up first .next-set .ensures)
-      (first .zielonka-rec .ensures .done (omega (arith, c .if3 .left)))
+      (first .zielonka-rec .ensures .done (omega (arith, c .if5 .left)))
 
   -- what the opponent won was asked for
   told :
@@ -218,8 +280,28 @@ module _ (t : ℕ) where
       let some = before-second-cut c in
       let asked = told-some some in
       let g = start (first-cut asked) in
-      told-lost (told asked) (asked .lost-nothing .ensures .none) (some .if4 .left)
+      told-lost (told asked) (asked .lost-nothing .ensures .none) (some .if6 .left)
       (c .attract-lost .ensures (g .args .priorities .now) (g .pre .1 .called .accepted))
+
+  -- after the second cut too, a call on the next level has what it asks for, and there is room for it
+  again : (c : At lts.After-attract-lost) → Called (tables (start (up-cut (up-of c)))) (up-of c .next-set .result) (work₄ c)
+  again c = lost-called (lost c) (up-of c .next-set .ensures) .called
+
+  again-fits : (c : At lts.After-attract-lost) → up-of c .next-set .result + wide (up-cut (up-of c)) ≤ length (work₄ c)
+  again-fits c = level-fits (again c) (begun (up-cut (up-of c)) .ready .size)
+
+  -- the work area has its length
+  same-work : (c : At lts.After-attract-lost) → length (work₄ c) ≡ length (work₀ (up-cut (up-of c)))
+  same-work c =
+      let asked = told-some (before-second-cut c) in
+      let first = after-first (before-told asked) in
+      omega (
+        arith,
+        c .attract-lost .kept .1 .1 .1 .1 .1 .0,
+        asked .lost-nothing .kept .1 .1 .1 .1 .0,
+        first .zielonka-rec .kept .1 .1 .1 .1 .0,
+        after-cut first .attract-highest .kept .1 .1 .1 .1 .1 .0,
+      )
 
   returns : At lts.Need-returns
   returns c =
@@ -280,35 +362,42 @@ module _ (t : ℕ) where
   next-set-requires : At lts.Need-next-set-requires
   next-set-requires c κs = search needs
 
-  one-less-requires : At lts.Need-one-less-requires
-  one-less-requires c κs = search needs
+  add-used : At lts.Need-add-used
+  add-used c = search needs
 
-  add-zielonka-rec : At lts.Need-add-zielonka-rec
-  add-zielonka-rec c = search needs
+  add-is-empty-2 : At lts.Need-add-is-empty-2
+  add-is-empty-2 c = omega (arith, up-fits c, begun (up-cut c) .cut .stays .long, start (up-cut c) .good)
 
-  zielonka-rec-requires : At lts.Need-zielonka-rec-requires
-  zielonka-rec-requires c κs =
-      let up = c .before .before in
-      let d = up .before .before .before in
-      let called = begun-called (begun d) (up .next-set .ensures) in
-      (omega (arith, begun-less (begun d) (up .next-set .ensures), start d .pre .0), rw (c .one-less .ensures) called)
+  mul-is-empty-2 : At lts.Need-mul-is-empty-2
+  mul-is-empty-2 c = omega (arith, up-fits c, begun (up-cut c) .cut .stays .long, start (up-cut c) .good)
+
+  sub-is-empty-2 : At lts.Need-sub-is-empty-2
+  sub-is-empty-2 c = search needs
+
+  part-is-empty-start-2 : At lts.Need-part-is-empty-start-2
+  part-is-empty-start-2 c = search needs
+
+  part-is-empty-end-2 : At lts.Need-part-is-empty-end-2
+  part-is-empty-end-2 c = omega (arith, up-fits (c .before))
+
+  is-empty-requires-2 : At lts.Need-is-empty-requires-2
+  is-empty-requires-2 c κs = search needs
+
+  count-call-requires : At lts.Need-count-call-requires
+  count-call-requires c κs = search needs
 
   same-length-2 : At lts.Need-same-length-2
   same-length-2 c = search needs
 
   returns-3 : At lts.Need-returns-3
   returns-3 c =
-      let first = c .before .before .before in
-      let a = start (after-cut first) .args in
+      let u = rest-up (counted-rest (c .before)) in
+      let a = start (up-cut u) .args in
       ends-over
-      (begun-over (begun (after-cut first)) (after-up first .next-set .ensures) (a .calls) (a .cap)
-      (first .zielonka-rec .ensures .over (c .if3 .taken)))
-
-  lost-nothing-requires : At lts.Need-lost-nothing-requires
-  lost-nothing-requires c κs = came-levels (came (c .before))
+      (begun-over (begun (up-cut u)) (u .next-set .ensures) (a .calls) (a .cap) (rest-ends (c .before) .over (c .if4 .taken)))
 
   win-everything-requires : At lts.Need-win-everything-requires
-  win-everything-requires c κs = told-sorted (told (told-none (c .before)))
+  win-everything-requires c κs = came-sorted (rest-came (c .before))
 
   same-length-3 : At lts.Need-same-length-3
   same-length-3 c = search needs
@@ -316,45 +405,109 @@ module _ (t : ℕ) where
   returns-4 : At lts.Need-returns-4
   returns-4 c =
       let won = c .before .before in
+      let kept = won .before .before in
+      let u = rest-up (counted-rest (kept .before)) in
+      ends-done (omega (arith, kept .if4 .left))
+      (came-all (rest-came kept) (u .next-set .ensures) (rest-none (kept .before .before))
+      (won .win-everything .ensures (start (up-cut u) .args .priorities .now) (came-ready (rest-came kept))))
+
+  one-less-requires : At lts.Need-one-less-requires
+  one-less-requires c κs = search needs
+
+  zielonka-rec-requires : At lts.Need-zielonka-rec-requires
+  zielonka-rec-requires c κs =
+      let u = rest-up (c .before .before .before) in
+      let d = up-cut u in
+      let called = begun-called (begun d) (u .next-set .ensures) in (
+        omega (arith, begun-less (begun d) (u .next-set .ensures), start d .pre .0),
+        rw (c .before .one-less .ensures) called,
+      )
+
+  same-length-4 : At lts.Need-same-length-4
+  same-length-4 c = search needs
+
+  returns-5 : At lts.Need-returns-5
+  returns-5 c =
+      let first = c .before .before .before in
+      let a = start (after-cut first) .args in
+      ends-over
+      (begun-over (begun (after-cut first)) (after-up first .next-set .ensures) (a .calls) (a .cap)
+      (first .zielonka-rec .ensures .over (c .if5 .taken)))
+
+  lost-nothing-requires : At lts.Need-lost-nothing-requires
+  lost-nothing-requires c κs = came-levels (came (c .before))
+
+  win-everything-requires-2 : At lts.Need-win-everything-requires-2
+  win-everything-requires-2 c κs = told-sorted (told (told-none (c .before)))
+
+  same-length-5 : At lts.Need-same-length-5
+  same-length-5 c = search needs
+
+  returns-6 : At lts.Need-returns-6
+  returns-6 c =
+      let won = c .before .before in
       let none = won .before .before in
       let asked = told-none none in
-      ends-done (omega (arith, before-told asked .if3 .left))
-      (told-all (told asked) (asked .lost-nothing .ensures .none) (none .if4 .taken)
-      (won .win-everything .ensures (start (first-cut asked) .args .priorities .now) (told-ready (told asked))))
+      ends-done (omega (arith, before-told asked .if5 .left))
+      (told-all (told asked) (asked .lost-nothing .ensures .none) (none .if6 .taken)
+      (won .win-everything2 .ensures (start (first-cut asked) .args .priorities .now) (told-ready (told asked))))
 
   attract-lost-requires : At lts.Need-attract-lost-requires
   attract-lost-requires c κs = told-cuttable (told (told-some (c .before)))
 
+  add-is-empty-3 : At lts.Need-add-is-empty-3
+  add-is-empty-3 c =
+      let d = again-up c in
+      omega (arith, again-fits d, same-work d, start (up-cut (up-of d)) .good)
+
+  mul-is-empty-3 : At lts.Need-mul-is-empty-3
+  mul-is-empty-3 c =
+      let d = again-up c in
+      omega (arith, again-fits d, same-work d, start (up-cut (up-of d)) .good)
+
+  sub-is-empty-3 : At lts.Need-sub-is-empty-3
+  sub-is-empty-3 c = search needs
+
+  part-is-empty-start-3 : At lts.Need-part-is-empty-start-3
+  part-is-empty-start-3 c = search needs
+
+  part-is-empty-end-3 : At lts.Need-part-is-empty-end-3
+  part-is-empty-end-3 c = omega (arith, again-fits (again-up (c .before)))
+
+  is-empty-requires-3 : At lts.Need-is-empty-requires-3
+  is-empty-requires-3 c κs = search needs
+
+  count-call-requires-2 : At lts.Need-count-call-requires-2
+  count-call-requires-2 c κs = search needs
+
+  same-length-6 : At lts.Need-same-length-6
+  same-length-6 c = same-work (again-cut (c .before .before))
+
+  returns-7 : At lts.Need-returns-7
+  returns-7 c =
+      let none = c .before in
+      let d = again-cut (none .before) in
+      lost-ends (lost d) (up-of d .next-set .ensures)
+      (empty-ends (again d)
+      (level-empty (again d) (begun (up-cut (up-of d)) .ready .size) (none .before .is-empty3 .ensures) (none .if7 .taken))
+      (c .count-call2 .ensures))
+
   zielonka-rec-requires-2 : At lts.Need-zielonka-rec-requires-2
   zielonka-rec-requires-2 c κs =
-      let d = c .before .before .before in
+      let d = again-cut (c .before .before) in
       let up = up-of d .next-set .ensures in
       (omega (arith, lost-less (lost d) up, start (first-cut (told-some (before-second-cut d))) .pre .0), lost-called (lost d) up)
 
-  same-length-4 : At lts.Need-same-length-4
-  same-length-4 c =
+  same-length-7 : At lts.Need-same-length-7
+  same-length-7 c =
       let e = c .before .before in
-      let cut₂ = after-second-cut e in
-      let asked = told-some (before-second-cut cut₂) in
-      let first = after-first (before-told asked) in
-      omega (
-        arith,
-        e .zielonka-rec2 .kept .1 .1 .1 .1 .0,
-        cut₂ .attract-lost .kept .1 .1 .1 .1 .1 .0,
-        asked .lost-nothing .kept .1 .1 .1 .1 .0,
-        first .zielonka-rec .kept .1 .1 .1 .1 .0,
-        after-cut first .attract-highest .kept .1 .1 .1 .1 .1 .0,
-      )
+      omega (arith, e .zielonka-rec2 .kept .1 .1 .1 .1 .0, same-work (after-second-cut e))
 
-  returns-5 : At lts.Need-returns-5
-  returns-5 c =
+  returns-8 : At lts.Need-returns-8
+  returns-8 c =
       let e = c .before .before in
-      let l = lost (after-second-cut e) in
-      let up = up-of (after-second-cut e) .next-set .ensures in
-      record {
-        over = λ none. lost-over l up (e .zielonka-rec2 .ensures .over none);
-        done = λ some. lost-done l up (e .zielonka-rec2 .ensures .done some);
-      }
+      let d = after-second-cut e in
+      lost-ends (lost d) (up-of d .next-set .ensures) (e .zielonka-rec2 .ensures)
 
 pub +zielonka-rec-spec : {M : Type 1} → statement M
 +zielonka-rec-spec = close μ λ t. lts.spec
@@ -375,16 +528,37 @@ pub +zielonka-rec-spec : {M : Type 1} → statement M
     (get-highest-prio-requires t)
     (attract-highest-requires t)
     (next-set-requires t)
-    (one-less-requires t)
-    (add-zielonka-rec t)
-    (zielonka-rec-requires t)
+    (add-used t)
+    (add-is-empty-2 t)
+    (mul-is-empty-2 t)
+    (sub-is-empty-2 t)
+    (part-is-empty-start-2 t)
+    (part-is-empty-end-2 t)
+    (is-empty-requires-2 t)
+    (count-call-requires t)
     (same-length-2 t)
     (returns-3 t)
-    (lost-nothing-requires t)
     (win-everything-requires t)
     (same-length-3 t)
     (returns-4 t)
-    (attract-lost-requires t)
-    (zielonka-rec-requires-2 t)
+    (one-less-requires t)
+    (zielonka-rec-requires t)
     (same-length-4 t)
     (returns-5 t)
+    (lost-nothing-requires t)
+    (win-everything-requires-2 t)
+    (same-length-5 t)
+    (returns-6 t)
+    (attract-lost-requires t)
+    (add-is-empty-3 t)
+    (mul-is-empty-3 t)
+    (sub-is-empty-3 t)
+    (part-is-empty-start-3 t)
+    (part-is-empty-end-3 t)
+    (is-empty-requires-3 t)
+    (count-call-requires-2 t)
+    (same-length-6 t)
+    (returns-7 t)
+    (zielonka-rec-requires-2 t)
+    (same-length-7 t)
+    (returns-8 t)
