@@ -8,6 +8,7 @@ pub use promotion_places::depth_at;
 pub use promotion_places::held_at;
 pub use promotion_places::level_at;
 pub use promotion_places::levels_at;
+pub use promotion_places::mark_at;
 pub use promotion_places::priority_at;
 pub use promotion_places::won_at;
 pub use promotion_sets::forget;

@@ -23,50 +23,64 @@ use Rattle.area.specs.SetsAt.{set-kept, set-reduced}
 use Rattle.sets.specs.After.{Combined}
 use Rattle.attractor.specs.Attracted.{listed-kept}
 use Rattle.promotion_levels.specs.Nesting.{regionOf, Nesting, inside-all, outside-all, below-is, promoted-nests, promoted-region, promoted-proper}
-use Rattle.promotion_levels.specs.Layout.{heldAt, wonAt, depthAt, topsAt, levelAt, depthIn, topIn, levelIn, heldIn}
+use Rattle.promotion_levels.specs.Layout.{heldAt, wonAt, depthAt, topsAt, levelAt, markAt, depthIn, topIn, levelIn, heldIn}
 use Rattle.promotion_levels.specs.Layout.{regionIn, entryIn, Whole, Ready}
 use Rattle.promotion_levels.specs.Places.{next-level, level-apart, level-high, level-kept, sets-kept}
 use Rattle.promotion_levels.specs.Newcomers.{Newcomers}
 
--- what it asks for: the places lie in the work area, R's before the level word, and that before the levels
-pub record Promotable (s held depth level : ℕ) (work : List ℕ) : Type 0 where
+-- what it asks for: the places lie in the work area, R's before the level word, that before the mark, and that before the levels
+pub record Promotable (s held depth level mark : ℕ) (work : List ℕ) : Type 0 where
   pub held-low : held + s ≤ depth
-  pub depth-low : depth < level
+  pub depth-low : depth < mark
+  pub mark-low : mark < level
   pub high : level + s + s ≤ length work
 
--- what it leaves: the level after has lost R and is the last, and R stays
-pub record PromotedTo (n s held depth level j : ℕ) (before after : List ℕ) : Type 0 where
+-- what it leaves: the level after has lost R and is the last, the mark is set, and R stays
+pub record PromotedTo (n s held depth level mark j : ℕ) (before after : List ℕ) : Type 0 where
   pub long : length after ≡ length before
   pub next :
       (v : ℕ) → setAt n (level + s) after v ≡ (setAt n (level + s) before v && not (setAt n held before v))
   pub depth-is : getD after depth 0 ≡ j
+  pub marked : getD after mark 0 ≡ 1
   pub rest :
       (i : ℕ) →
       (i ≡ depth → ⊥) →
+      (i ≡ mark → ⊥) →
       Beside s (level + s) i →
       getD after i 0 ≡ getD before i 0
 
--- **its two writes leave that**
+-- **its three writes leave that**
 pub promoted-made :
-    {n s held depth level below j : ℕ} {w0 w1 : List ℕ} →
+    {n s held depth level mark below j : ℕ} {w0 w1 : List ℕ} →
     s ≡ words n →
-    Promotable s held depth level w0 →
+    Promotable s held depth level mark w0 →
     below ≡ level + s →
     Combined _-_ below held s w0 w1 →
-    PromotedTo n s held depth level j w0 (set w1 depth j)
-promoted-made {n} {s} {held} {depth} {level} {below} {j} {w0} {w1} size given behind c =
+    PromotedTo n s held depth level mark j w0 (set (set w1 depth j) mark 1)
+promoted-made {n} {s} {held} {depth} {level} {mark} {below} {j} {w0} {w1} size given behind c =
     record {
-      long = length-set w1 depth j ∙ c .long;
+      long = length-set (set w1 depth j) mark 1 ∙ long1;
       next = λ v. rw (← behind) (after-next v ∙ set-reduced n below held w0 w1 (rw size at c) v);
-      depth-is = getD-set-same w1 depth j 0 (omega (arith, c .long, given .depth-low, given .high));
-      rest = λ i d x. getD-set-other w1 depth i j 0 d ∙ c .rest i (rw behind x);
+      depth-is =
+          getD-set-other (set w1 depth j) mark depth 1 0 (λ e. omega (arith, given .depth-low)) ∙
+          getD-set-same w1 depth j 0 (omega (arith, c .long, given .depth-low, given .mark-low, given .high));
+      marked = getD-set-same (set w1 depth j) mark 1 0 (omega (arith, long1, given .mark-low, given .high));
+      rest = λ i d k x. words-kept i d k ∙ c .rest i (rw behind x);
     }
   where
+    long1 : length (set w1 depth j) ≡ length w0
+    long1 = length-set w1 depth j ∙ c .long
+
+    -- the two words written last
+    words-kept : (i : ℕ) → (i ≡ depth → ⊥) → (i ≡ mark → ⊥) → getD (set (set w1 depth j) mark 1) i 0 ≡ getD w1 i 0
+    words-kept i d k = getD-set-other (set w1 depth j) mark i 1 0 k ∙ getD-set-other w1 depth i j 0 d
+
     -- the level after is not touched again
-    after-next : (v : ℕ) → setAt n below (set w1 depth j) v ≡ setAt n below w1 v
+    after-next : (v : ℕ) → setAt n below (set (set w1 depth j) mark 1) v ≡ setAt n below w1 v
     after-next =
-        set-kept n below w1 (set w1 depth j)
-        (λ i low high. getD-set-other w1 depth i j 0 (λ e. omega (arith, given .depth-low)))
+        set-kept n below w1 (set (set w1 depth j) mark 1)
+        (λ i low high.
+        words-kept i (λ e. omega (arith, given .depth-low, given .mark-low)) (λ e. omega (arith, given .mark-low)))
 
 -- b lies in y, which loses it: beside b, x without y is as before
 beside-lost : (x y b : Bool) → (b ≡ true → y ≡ true) → ((x && not (y && not b)) && not b) ≡ (x && not y)
@@ -109,16 +123,22 @@ module _ {n : ℕ} {priorities offsets targets : List ℕ} {s : ℕ} {w0 : List 
           let high = level-high n m s (suc j) (omega (arith, ready .depth)) in
           omega (arith, ready .room, y-is)
 
-      pub promote-ready : Promotable s H (depthAt n m s) X w0
-      promote-ready = record { held-low = omega arith; depth-low = omega arith; high = y-high }
+      pub promote-ready : Promotable s H (depthAt n m s) X (markAt n m s) w0
+      promote-ready =
+          record {
+            held-low = omega arith;
+            depth-low = omega (arith, ready .depth);
+            mark-low = omega arith;
+            high = y-high;
+          }
 
-      module _ (whole : Whole n m s w0) {w1 : List ℕ} (c : PromotedTo n s H (depthAt n m s) X j w0 w1) where
+      module _ (whole : Whole n m s w0) {w1 : List ℕ} (c : PromotedTo n s H (depthAt n m s) X (markAt n m s) j w0 w1) where
         abbrev L1 : ℕ → Set
         L1 = levelIn n m s w1
 
         -- words before the number of the current level are not changed
         low1 : Unchanged (Below (depthAt n m s)) w0 w1
-        low1 i l = c .rest i (λ e. omega arith) (inl (omega arith))
+        low1 i l = c .rest i (λ e. omega arith) (λ e. omega arith) (inl (omega arith))
 
         held1 : (v : ℕ) → heldIn n m s w1 v ≡ R v
         held1 = set-kept n H w0 w1 (λ i low high. low1 i (omega (arith, size)))
@@ -128,10 +148,11 @@ module _ {n : ℕ} {priorities offsets targets : List ℕ} {s : ℕ} {w0 : List 
             level-kept n m s i w0 w1
             (λ x low high.
             let a = level-apart n m s i (suc j) (omega arith) in
-            c .rest x (λ e. omega arith) (inl (omega (arith, y-is, size)))) v
+            c .rest x (λ e. omega arith) (λ e. omega arith) (inl (omega (arith, y-is, size)))) v
 
         top1 : (i : ℕ) → i ≤ j → topIn n m s w1 i ≡ topIn n m s w0 i
-        top1 i l = c .rest (topsAt n m s + i) (λ e. omega arith) (inl (omega (arith, ready .depth)))
+        top1 i l =
+            c .rest (topsAt n m s + i) (λ e. omega arith) (λ e. omega (arith, ready .depth)) (inl (omega (arith, ready .depth)))
 
         place : X + s ≡ levelAt n m s (suc j)
         place = sym y-is
@@ -220,6 +241,7 @@ module _ {n : ℕ} {priorities offsets targets : List ℕ} {s : ℕ} {w0 : List 
                   let r : R v ≡ true = sym (held1 v) ∙ i in
                   let here = ready .nests .inside j v (omega arith) (held-next v r) in
                   rw (depth1, level1 j v (le-refl j), here, last1 v, r, and-false (L (suc j) v));
+              unmarked = λ none. let no : ⊥ = omega (arith, c .marked) in absurd no;
               settled =
                   rw depth1
                   (closed-cong (L j) (L1 j) (without (L j) (L (suc j)))

@@ -3,7 +3,7 @@
 use mathlib.Core.Bool.{cond}
 use mathlib.Core.List.{List}
 use mathlib.Core.Path.{_≡_}
-use Prim.Native.Nat.{ℕ, suc, _+_, _*_, _≤_, min}
+use Prim.Native.Nat.{ℕ, suc, _+_, _-_, _*_, _≤_, min}
 use lib.ListN.{length, getD}
 use Rattle.rules.specs.Counting.{Set, without}
 use Rattle.rules.specs.Game.{Player, Even, Odd}
@@ -46,6 +46,10 @@ levelAt n m s j = levelsAt n m s + j * s
 
 abbrev pub endAt : ℕ → ℕ → ℕ → ℕ
 endAt n m s = levelsAt n m s + deep n * s
+
+-- whether some of the current region is not new, in the last word before the levels: no level has its priority there
+abbrev pub markAt : ℕ → ℕ → ℕ → ℕ
+markAt n m s = levelsAt n m s - 1
 
 -- what the work area says of them
 abbrev pub depthIn : ℕ → ℕ → ℕ → List ℕ → ℕ

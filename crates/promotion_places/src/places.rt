@@ -1,8 +1,9 @@
-// Where R, what the players have won, the number of the current level and the levels stand in the work area.
+// Where R, what the players have won, the number of the current level, a promotion's mark and the levels stand in the
+// work area.
 use parity_game::PRIORITIES;
 use parity_game::Player;
 ghost use mathlib.Core.Path.{_≡_};
-ghost use Prim.Native.Nat.{_+_, _*_, _≤_, _<_, _^_};
+ghost use Prim.Native.Nat.{_+_, _-_, _*_, _≤_, _<_, _^_};
 ghost use Rattle.parity_game.specs.Said.{is};
 ghost use Rattle.priority_sets.specs.Sorting.{PriorityPlaceable};
 ghost use Rattle.promotion_places.specs.Layout.{heldAt, wonBehind, deep};
@@ -50,6 +51,14 @@ pub fn levels_at(n: usize, depth: usize) -> usize
 {
     let most = if n < PRIORITIES { n } else { PRIORITIES };
     depth + 3 + most
+}
+
+// The mark of a promotion is the last word before the levels, which are at `levels`: no level has its priority there.
+pub fn mark_at(levels: usize) -> usize
+    requires { ⌜ 0 < levels ⌝ }
+    ensures { λ r. ⌜ r ≡ levels - 1 ⌝ }
+{
+    levels - 1
 }
 
 // Level k stands k sets behind level 0, which is at `levels`.

@@ -23,7 +23,8 @@ use Rattle.theory.specs.PromotionStanding.{placed-here}
 use Rattle.theory.specs.PromotionTable.{nextAbove, some-way-read, table-promotes, promoted-entries-read}
 use Rattle.area.specs.Area.{setAt}
 use Rattle.promotion_levels.specs.Nesting.{Nesting, inside-all, falls-all, up-is, here-is}
-use Rattle.promotion_levels.specs.Layout.{heldAt, wonAt, depthAt, levelAt, depthIn, topIn, levelIn, heldIn, regionIn, entryIn}
+use Rattle.promotion_levels.specs.Layout.{heldAt, wonAt, depthAt, levelAt, markAt, depthIn, topIn, levelIn, heldIn, regionIn}
+use Rattle.promotion_levels.specs.Layout.{entryIn}
 use Rattle.promotion_levels.specs.Places.{solved-above, left-is}
 use Rattle.promotion_escape.specs.Highest.{HighestLevel}
 use Rattle.promotion_escape.specs.ByRegions.{regionBefore}
@@ -82,7 +83,7 @@ module _ {owners priorities offsets targets : List ℕ} {s made current left : �
     remain v = attracted-unsolved g r (small round) v ∙ ap (λ (f : ℕ → ℕ). unsolved g f v) (sym (fun-ext agrees-all))
 
     module _ (j : ℕ) (h : HighestLevel owners offsets targets (p % 2) (heldIn n m s w2) (levelIn n m s w2) k (suc j))
-        {w3 : List ℕ} (c : PromotedTo n s (heldAt n m s) (depthAt n m s) (levelAt n m s j) j w2 w3)
+        {w3 : List ℕ} (c : PromotedTo n s (heldAt n m s) (depthAt n m s) (levelAt n m s j) (markAt n m s) j w2 w3)
       where
         down : j < k
         down = h .top

@@ -33,8 +33,8 @@ use Rattle.area.specs.Sizes.{size-at}
 use Rattle.area.specs.Walking.{lent-part}
 use Rattle.priority_sets.specs.Sorting.{PriorityPlaceable}
 use Rattle.attractor.specs.Attracted.{own-is}
-use Rattle.promotion_levels.specs.Layout.{heldAt, wonAt, depthAt, topsAt, levelsAt, levelAt, endAt, deep, depthIn, topIn, levelIn}
-use Rattle.promotion_levels.specs.Layout.{heldIn, regionIn, entryIn, Whole, Ready}
+use Rattle.promotion_levels.specs.Layout.{heldAt, wonAt, depthAt, topsAt, levelsAt, levelAt, endAt, markAt, deep, depthIn, topIn}
+use Rattle.promotion_levels.specs.Layout.{levelIn, heldIn, regionIn, entryIn, Whole, Ready}
 use Rattle.promotion_levels.specs.Nesting.{few-levels, levels-below}
 use Rattle.promotion_levels.specs.Places.{next-level, level-high, upTo-is}
 use Rattle.promotion_levels.specs.Going.{deeper}
@@ -295,8 +295,8 @@ module _ {owners priorities offsets targets : List ℕ} (ok : Accepted (tablesOf
         heads-room : heads + s ≤ length w0
         heads-room = omega (arith, at .heads-is, at .below-is, at .room, shows .ready .room)
 
-        pub round-query : QueryReady owners offsets targets s current held base w0
-        round-query =
+        pub round-query : {mark : ℕ} → mark ≡ levels - 1 → QueryReady owners offsets targets s current held base mark w0
+        round-query last =
             record {
               priorities = priorities;
               accepted = ok;
@@ -305,6 +305,7 @@ module _ {owners priorities offsets targets : List ℕ} (ok : Accepted (tablesOf
               current = shows .top;
               held-is = held-is;
               base-is = at .base-is;
+              mark-is = last ∙ ap (λ (x : ℕ). x - 1) levels-is;
               room = at .room;
             }
 
@@ -530,21 +531,24 @@ module _ {owners priorities offsets targets : List ℕ} (ok : Accepted (tablesOf
           pub top-fits : depth + j < levels
           top-fits = omega (arith, at .depth-is, at .levels-is, down, closed-round .ready .depth)
 
-          module _ {level : ℕ} (level-is : level ≡ levels + (j - 1) * s) where
+          module _ {level mark : ℕ} (level-is : level ≡ levels + (j - 1) * s) (last : mark ≡ levels - 1) where
             level-at : level ≡ levelAt n m s (j - 1)
             level-at = omega (arith, level-is, at .levels-is)
 
-            pub round-promotable : Promotable s held depth level w2
+            mark-is : mark ≡ markAt n m s
+            mark-is = last ∙ ap (λ (x : ℕ). x - 1) (at .levels-is)
+
+            pub round-promotable : Promotable s held depth level mark w2
             round-promotable =
-                subst₂ (λ (h l : ℕ). Promotable s h depth l w2) (sym (at .held-is)) (sym level-at)
-                (subst (λ (d : ℕ). Promotable s (heldAt n m s) d (levelAt n m s (j - 1)) w2) (sym (at .depth-is))
+                subst₂ (λ (h l : ℕ). Promotable s h depth l mark w2) (sym (at .held-is)) (sym level-at)
+                (subst₂ (λ (d x : ℕ). Promotable s (heldAt n m s) d (levelAt n m s (j - 1)) x w2) (sym (at .depth-is)) (sym mark-is)
                 (promote-ready (closed-round .ready) (j - 1) down))
 
-            module _ {w3 : List ℕ} (made3 : PromotedTo (length owners) s held depth level (j - 1) w2 w3) where
-              c3 : PromotedTo n s (heldAt n m s) (depthAt n m s) (levelAt n m s (j - 1)) (j - 1) w2 w3
+            module _ {w3 : List ℕ} (made3 : PromotedTo (length owners) s held depth level mark (j - 1) w2 w3) where
+              c3 : PromotedTo n s (heldAt n m s) (depthAt n m s) (levelAt n m s (j - 1)) (markAt n m s) (j - 1) w2 w3
               c3 =
-                  subst₂ (λ (h l : ℕ). PromotedTo n s h (depthAt n m s) l (j - 1) w2 w3) (at .held-is) level-at
-                  (subst (λ (d : ℕ). PromotedTo n s held d level (j - 1) w2 w3) (at .depth-is) made3)
+                  subst₂ (λ (h l : ℕ). PromotedTo n s h (depthAt n m s) l (markAt n m s) (j - 1) w2 w3) (at .held-is) level-at
+                  (subst₂ (λ (d x : ℕ). PromotedTo n s held d level x (j - 1) w2 w3) (at .depth-is) mark-is made3)
 
               pub promoted-same :
                   (length w3 ≡ length w0) ×
@@ -554,7 +558,7 @@ module _ {owners priorities offsets targets : List ℕ} (ok : Accepted (tablesOf
                 λ i l.
                     let most = level-high n m s (suc (j - 1)) (omega (arith, down, closed-round .ready .depth)) in
                     let next = next-level n m s (j - 1) in
-                    c3 .rest i (λ e. omega arith) (inr (omega (arith, most, next))) ∙ kept-all .1 i l,
+                    c3 .rest i (λ e. omega arith) (λ e. omega arith) (inr (omega (arith, most, next))) ∙ kept-all .1 i l,
               )
 
               pub round-promotes :

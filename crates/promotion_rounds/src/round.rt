@@ -9,6 +9,7 @@ use promotion_levels::descend;
 use promotion_levels::held_at;
 use promotion_levels::level_at;
 use promotion_levels::levels_at;
+use promotion_levels::mark_at;
 use promotion_levels::priority_at;
 use promotion_moves::dominion::solve_dominion;
 use promotion_moves::fill::assign_missing_strategies;
@@ -46,6 +47,7 @@ pub fn round(
     let held = held_at(n, m, s);
     let depth = depth_at(held, s);
     let levels = levels_at(n, depth);
+    let mark = mark_at(levels);
     let k = work[depth] as usize;
     let base = level_at(levels, s, k);
     let below = level_at(levels, s, k + 1);
@@ -54,7 +56,7 @@ pub fn round(
     let alpha = Player::from_priority(p).index();
     let mut after = state;
     after.rounds += 1;
-    query(owners, offsets, targets, p, s, work, held, base);
+    query(owners, offsets, targets, p, s, work, held, base, mark);
     if is_open(owners, offsets, targets, alpha, s, work, heads, held, below) {
         after.current = descend(priorities, m, s, work, held, levels, k + 1, one_less(p));
         return after;
@@ -63,8 +65,9 @@ pub fn round(
     assign_missing_strategies(owners, offsets, targets, alpha, s, work, heads, held, entry);
     let j = best_escape(owners, offsets, targets, alpha, s, work, held, levels, k);
     if 0 < j {
-        let higher = Priority(work[priority_at(depth, j - 1)] as usize);
-        promote(s, work, held, depth, level_at(levels, s, j - 1), j - 1);
+        let to = j - 1;
+        let higher = Priority(work[priority_at(depth, to)] as usize);
+        promote(s, work, held, depth, level_at(levels, s, to), to, mark);
         after.current = higher;
         return after;
     }

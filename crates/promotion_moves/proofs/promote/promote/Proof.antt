@@ -1,8 +1,8 @@
 -- `promote` meets its contract.
 use mathlib.Core.Logic.{inr}
-use mathlib.Core.Path.{_∙_}
+use mathlib.Core.Path.{_≡_, _∙_}
 use native.Mathlib.Omega.{arith}
-use lib.ListN.{length-set}
+use lib.ListN.{length, set, length-set}
 use Rattle.promotion_moves.specs.Promotion.{promoted-made}
 use borrow.Author.Needs.{needs}
 use Rattle.promotion_moves.proofs.promote.promote.Statement.{statement}
@@ -11,6 +11,15 @@ use Rattle.promotion_moves.proofs.promote.promote.Tie as tie
 -- where the function begins, from where the level after has lost R
 abbrev start-of : tie.After-difference-with → tie.Start
 start-of c = c .before .before .before .before
+
+-- the work area is as long as it was where the level is written
+depth-long :
+    (lost : tie.After-difference-with) →
+    let args = start-of lost .args in
+    length (set (lost .difference-with .last .0) (args .depth) (args .j)) ≡ length (args .work .now)
+depth-long lost =
+    let args = start-of lost .args in
+    length-set (lost .difference-with .last .0) (args .depth) (args .j) ∙ lost .difference-with .kept .0
 
 next-set-requires : tie.Need-next-set-requires
 next-set-requires c κs = search needs
@@ -21,8 +30,8 @@ difference-with-requires c κs =
     let given = c .before .before .before .pre in
     record {
       into-fits = omega (arith, given .high);
-      from-fits = omega (arith, given .held-low, given .depth-low, given .high);
-      apart = inr (omega (arith, given .held-low, given .depth-low));
+      from-fits = omega (arith, given .held-low, given .depth-low, given .mark-low, given .high);
+      apart = inr (omega (arith, given .held-low, given .depth-low, given .mark-low));
     }
 
 mul-work : tie.Need-mul-work
@@ -31,11 +40,20 @@ mul-work c = search needs
 slice-write-work : tie.Need-slice-write-work
 slice-write-work c = search needs
 
+mul-work-2 : tie.Need-mul-work-2
+mul-work-2 c = search needs
+
+slice-write-work-2 : tie.Need-slice-write-work-2
+slice-write-work-2 c =
+    let lost = c .before .before in
+    let given = start-of lost .pre in
+    omega (arith, depth-long lost, given .mark-low, given .high)
+
 same-length : tie.Need-same-length
 same-length c =
     let lost = c .before .before in
     let args = start-of lost .args in
-    length-set (lost .difference-with .last .0) (args .depth) (args .j) ∙ lost .difference-with .kept .0
+    length-set (set (lost .difference-with .last .0) (args .depth) (args .j)) (args .mark) 1 ∙ depth-long lost
 
 returns : tie.Need-returns
 returns c n size =
@@ -50,5 +68,7 @@ promote-spec =
     difference-with-requires
     mul-work
     slice-write-work
+    mul-work-2
+    slice-write-work-2
     same-length
     returns)

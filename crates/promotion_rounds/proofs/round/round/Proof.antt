@@ -25,8 +25,12 @@ first h = h .before .before .before .before .before .before
 abbrev start-of : tie.After-levels-at → tie.Start
 start-of l = first (l .before .before)
 
+-- where the mark's place is known
+abbrev mark-of : tie.After-level-at → tie.After-mark-at
+mark-of b = b .before .before
+
 abbrev levels-of : tie.After-level-at → tie.After-levels-at
-levels-of b = b .before .before
+levels-of b = mark-of b .before
 
 abbrev base-of : tie.After-index → tie.After-level-at
 base-of i = i .before .before .before .before .before
@@ -102,6 +106,9 @@ query-of b = asked (told (filled b))
 abbrev levels-at-escape : tie.After-best-escape → tie.After-levels-at
 levels-at-escape b = levelled (placed (query-of b))
 
+abbrev mark-at-escape : tie.After-best-escape → tie.After-mark-at
+mark-at-escape b = mark-of (base-of (placed (query-of b)))
+
 abbrev escape-start : tie.After-best-escape → tie.Start
 escape-start b = query-start (query-of b)
 
@@ -145,6 +152,9 @@ levels-at-requires c κs =
     let g = first (c .before) in
     round-depth (g .pre .accepted) (g .pre .made) (g .pre .shows) (c .before .held-at .ensures) (c .depth-at .ensures)
 
+mark-at-requires : tie.Need-mark-at-requires
+mark-at-requires c κs = omega (arith, c .levels-at .ensures)
+
 mul-k : tie.Need-mul-k
 mul-k c = search needs
 
@@ -153,7 +163,7 @@ slice-read-k c = search needs
 
 level-at-requires : tie.Need-level-at-requires
 level-at-requires c κs =
-    let l = c .before in
+    let l = c .before .before in
     let g = start-of l in
     let small : l .levels-at .result + current l * g .args .s < 2 ^ 64 =
     omega (arith, stands l (current l) (omega arith), g .good) in
@@ -194,7 +204,7 @@ query-requires : tie.Need-query-requires
 query-requires c κs =
     let l = c .before .before in
     let g = begun l in
-    round-query (g .pre .accepted) (g .pre .made) (g .pre .shows) (at l)
+    round-query (g .pre .accepted) (g .pre .made) (g .pre .shows) (at l) (mark-of (base-of l) .mark-at .ensures)
 
 is-open-requires : tie.Need-is-open-requires
 is-open-requires c κs =
@@ -305,27 +315,24 @@ fits c =
     let g = escape-start (c .before) in
     top-fits (g .pre .accepted) (g .pre .made) (g .pre .shows) (escape (c .before)) (c .if2 .taken)
 
-sub-priority-at : tie.Need-sub-priority-at
-sub-priority-at c = search needs
+sub-to : tie.Need-sub-to
+sub-to c = search needs
 
 priority-at-requires : tie.Need-priority-at-requires
 priority-at-requires c κs =
     let l = levels-at-escape (c .before) in
     omega (arith, fits c, stands l 0 (omega arith), start-of l .good)
 
-mul-level-at : tie.Need-mul-level-at
-mul-level-at c =
+mul-t47 : tie.Need-mul-t47
+mul-t47 c =
     let l = levels-at-escape (c .before .before) in
     omega (arith, c .priority-at .ensures, fits (c .before), stands l 0 (omega arith), start-of l .good)
 
-slice-read-level-at : tie.Need-slice-read-level-at
-slice-read-level-at c =
+slice-read-t49 : tie.Need-slice-read-t49
+slice-read-t49 c =
     let i = c .before .before in
     let b = i .before in
     omega (arith, c .before .priority-at .ensures, fits i, stands (levels-at-escape b) 0 (omega arith), long2 (filled b))
-
-sub-level-at : tie.Need-sub-level-at
-sub-level-at c = search needs
 
 level-at-requires-4 : tie.Need-level-at-requires-4
 level-at-requires-4 c κs =
@@ -337,14 +344,12 @@ level-at-requires-4 c κs =
     omega (arith, stands l j (omega (arith, b .best-escape .ensures .top)), g .good) in
     small
 
-sub-promote : tie.Need-sub-promote
-sub-promote c = search needs
-
 promote-requires : tie.Need-promote-requires
 promote-requires c κs =
     let i = c .before .before .before .before in
     let g = escape-start (i .before) in
     round-promotable (g .pre .accepted) (g .pre .made) (g .pre .shows) (escape (i .before)) (i .if2 .taken) (c .level-at4 .ensures)
+    (mark-at-escape (i .before) .mark-at .ensures)
 
 same-length-2 : tie.Need-same-length-2
 same-length-2 c = search needs
@@ -356,13 +361,14 @@ returns-2 c =
     let read = e .before .before .before .before in
     let i = read .before in
     let g = escape-start (i .before) in
+    let last = mark-at-escape (i .before) .mark-at .ensures in
     let done = e .promote .ensures (length (g .args .owners .now)) (g .pre .shows .ready .size) in
     let same =
-    promoted-same (g .pre .accepted) (g .pre .made) (g .pre .shows) (escape (i .before)) (i .if2 .taken) is done in
+    promoted-same (g .pre .accepted) (g .pre .made) (g .pre .shows) (escape (i .before)) (i .if2 .taken) is last done in
     record {
       long = same .0;
       counted = refl;
-      shown = λ k sh. round-promotes (g .pre .accepted) k sh (escape (i .before)) (i .if2 .taken) is done (read .priority-at .ensures);
+      shown = λ k sh. round-promotes (g .pre .accepted) k sh (escape (i .before)) (i .if2 .taken) is last done (read .priority-at .ensures);
       rest = same .1;
     }
 
@@ -490,6 +496,7 @@ round-spec =
     held-at-requires
     depth-at-requires
     levels-at-requires
+    mark-at-requires
     mul-k
     slice-read-k
     level-at-requires
@@ -510,13 +517,11 @@ round-spec =
     entries-requires
     assign-missing-strategies-requires
     best-escape-requires
-    sub-priority-at
+    sub-to
     priority-at-requires
-    mul-level-at
-    slice-read-level-at
-    sub-level-at
+    mul-t47
+    slice-read-t49
     level-at-requires-4
-    sub-promote
     promote-requires
     same-length-2
     returns-2
