@@ -28,7 +28,7 @@ use Rattle.promotion_levels.specs.Newcomers.{settledIn, Newcomers}
 use Rattle.promotion_levels.specs.Pulled.{Pulled, pulled-as, attract-pulled}
 use Rattle.set_difference.specs.Without.{WithoutAt}
 use Rattle.promotion_region.specs.Joined.{pulled-joined}
-use Rattle.promotion_region.specs.Query.{Drawable, RegionDrawn, Draws}
+use Rattle.promotion_region.specs.Query.{Drawable, RegionDrawn, RegionDraws}
 
 -- ---- what the steps make of a vertex, by where it is
 
@@ -380,7 +380,7 @@ module _ {owners offsets targets : List ℕ} {alpha s held base mark : ℕ} {w0 
           Accepted (tablesOf owners priorities offsets targets) →
           Attracted (tablesOf owners priorities offsets targets) (playerOf alpha) base held w0 w1 looks) →
           ((n : ℕ) → s ≡ words n → WithoutAt n below base held w1 w2) →
-          Draws owners offsets targets s (playerOf alpha) w0 w2
+          RegionDraws owners offsets targets s (playerOf alpha) w0 w2
       given-whole c1 c2 priorities ok ready newcomers =
           let q = d .asked in
           whole-drawn owners priorities ok ready room-after newcomers (newcomers .unmarked none-is)
@@ -403,7 +403,7 @@ module _ {owners offsets targets : List ℕ} {alpha s held base mark : ℕ} {w0 
           Attracted (tablesOf owners priorities offsets targets) (playerOf alpha) below held w1 w2 looks) →
           Combined _-_ below held s w2 w3 →
           ((n : ℕ) → s ≡ words n → WithoutAt n held base below w3 w4) →
-          Draws owners offsets targets s (playerOf alpha) w0 (set w4 mark 0)
+          RegionDraws owners offsets targets s (playerOf alpha) w0 (set w4 mark 0)
       given-newcomers c2 c3 c4 priorities ok ready newcomers =
           let q = d .asked in
           rw (q .mark-is)

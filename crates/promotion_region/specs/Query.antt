@@ -81,8 +81,8 @@ pub record RegionDrawn (owners priorities offsets targets : List ℕ) (s : ℕ) 
       getD after i 0 ≡ getD before i 0
 
 -- with all priorities with which the tables are accepted
-abbrev pub Draws : List ℕ → List ℕ → List ℕ → ℕ → Player → List ℕ → List ℕ → Type 0
-Draws owners offsets targets s a before after =
+abbrev pub RegionDraws : List ℕ → List ℕ → List ℕ → ℕ → Player → List ℕ → List ℕ → Type 0
+RegionDraws owners offsets targets s a before after =
     (priorities : List ℕ) →
     Accepted (tablesOf owners priorities offsets targets) →
     Ready (length owners) priorities offsets targets s before →
@@ -422,7 +422,7 @@ module _ {owners offsets targets : List ℕ} {s p held base mark : ℕ} {w0 : Li
         omega (arith, q .held-is)
 
     -- the work area is as long as it was
-    pub given-long : {a : Player} {w1 : List ℕ} → a ≡ parity p → Draws owners offsets targets s a w0 w1 → length w1 ≡ length w0
+    pub given-long : {a : Player} {w1 : List ℕ} → a ≡ parity p → RegionDraws owners offsets targets s a w0 w1 → length w1 ≡ length w0
     given-long own draws = draws (q .priorities) (q .accepted) (q .ready) (rw own (q .newcomers)) .long
 
     module _ (priorities : List ℕ) (ok : Accepted (tablesOf owners priorities offsets targets))
@@ -435,7 +435,7 @@ module _ {owners offsets targets : List ℕ} {s p held base mark : ℕ} {w0 : Li
             below ≡ base + s →
             heads ≡ below + s →
             a ≡ parity p →
-            Draws owners offsets targets s a w0 w1 →
+            RegionDraws owners offsets targets s a w0 w1 →
             of ≡ setOfPriority (words (length owners)) (free (length owners) (length targets)) p →
             ((n : ℕ) → s ≡ words n → CommonAt n heads held of w1 w2) →
             Queried owners priorities offsets targets s p w0 w2

@@ -6,7 +6,7 @@ ghost use mathlib.Core.List.{List};
 ghost use Prim.Native.Nat.{ℕ};
 ghost use Rattle.rules.specs.Game.{parity, playerOf};
 ghost use Rattle.rules.specs.Tables.{Accepted, gameOf, tablesOf};
-ghost use Rattle.promotion_region.specs.Query.{QueryReady, Drawable, Draws, Queried};
+ghost use Rattle.promotion_region.specs.Query.{QueryReady, Drawable, RegionDraws, Queried};
 ghost use Rattle.promotion_levels.specs.Layout.{Ready};
 ghost use Rattle.promotion_levels.specs.Newcomers.{Newcomers};
 ghost use lib.ListN.{length};
@@ -27,7 +27,7 @@ fn draw_region(
 )
     requires { ⌜ Drawable (now owners) (now offsets) (now targets) alpha s held base mark (now work) ⌝ }
     ensures { λ r.
-        ⌜ Draws (now (owners .entry)) (now (offsets .entry)) (now (targets .entry)) s (playerOf alpha)
+        ⌜ RegionDraws (now (owners .entry)) (now (offsets .entry)) (now (targets .entry)) s (playerOf alpha)
         (now (work .entry)) (now (work .exit)) ⌝ }
 {
     let below = next_set(base, s);

@@ -11,7 +11,7 @@ use Rattle.rules.specs.Attractor.{drawn, grown, attractor}
 use Rattle.rules.specs.Distance.{leastOf, greatestOf, distance, lowestIn, attractorEntry}
 
 -- Even's attractor of the target in V, both as the words of a set: the distances and the entries of all vertices
-pub record Draws (t : Tables) (V' T : ℕ) (far chosen : List ℕ) : Type 0 where
+pub record WorkedDraws (t : Tables) (V' T : ℕ) (far chosen : List ℕ) : Type 0 where
   pub distances : listed (gameOf t .size) (distance (gameOf t) Even (setOf (V' ∷ [])) (setOf (T ∷ []))) ≡ far
   pub entries : listed (gameOf t .size) (attractorEntry (gameOf t) Even (setOf (V' ∷ [])) (setOf (T ∷ []))) ≡ chosen
 
@@ -47,9 +47,9 @@ late =
 
 -- **The worked distances.**
 pub worked-distances :
-    Draws path 7 2 (1 ∷ 0 ∷ 1 ∷ 65535 ∷ []) (1 ∷ 65535 ∷ 1 ∷ 65535 ∷ []) ×
-    Draws tie 15 8 (2 ∷ 1 ∷ 1 ∷ 0 ∷ []) (1 ∷ 3 ∷ 3 ∷ 65535 ∷ []) ×
-    Draws late 7 4 (2 ∷ 1 ∷ 0 ∷ []) (65535 ∷ 2 ∷ 65535 ∷ [])
+    WorkedDraws path 7 2 (1 ∷ 0 ∷ 1 ∷ 65535 ∷ []) (1 ∷ 65535 ∷ 1 ∷ 65535 ∷ []) ×
+    WorkedDraws tie 15 8 (2 ∷ 1 ∷ 1 ∷ 0 ∷ []) (1 ∷ 3 ∷ 3 ∷ 65535 ∷ []) ×
+    WorkedDraws late 7 4 (2 ∷ 1 ∷ 0 ∷ []) (65535 ∷ 2 ∷ 65535 ∷ [])
 unfolding
     path tie late some someOf everyOf lowest listed within noted gameOf degree targetsOf digit bit setOf drawn grown attractor leastOf
     greatestOf distance lowestIn attractorEntry
