@@ -1,6 +1,7 @@
 -- `promote` meets its contract.
 use mathlib.Core.Logic.{inr}
-use mathlib.Core.Path.{_≡_, _∙_}
+use mathlib.Core.Path.{_≡_, sym, subst, _∙_}
+use Prim.Native.Nat.{ℕ, _<_}
 use native.Mathlib.Omega.{arith}
 use lib.ListN.{length, set, length-set}
 use Rattle.promotion_moves.specs.Promotion.{promoted-made}
@@ -12,14 +13,12 @@ use Rattle.promotion_moves.proofs.promote.promote.Tie as tie
 abbrev start-of : tie.After-difference-with → tie.Start
 start-of c = c .before .before .before .before
 
--- the work area is as long as it was where the level is written
+-- the work area is as long as it was, whatever is written to the level word
 depth-long :
-    (lost : tie.After-difference-with) →
-    let args = start-of lost .args in
-    length (set (lost .difference-with .last .0) (args .depth) (args .j)) ≡ length (args .work .now)
-depth-long lost =
-    let args = start-of lost .args in
-    length-set (lost .difference-with .last .0) (args .depth) (args .j) ∙ lost .difference-with .kept .0
+    (lost : tie.After-difference-with) (x : ℕ) →
+    length (set (lost .difference-with .last .0) (start-of lost .args .depth) x) ≡ length (start-of lost .args .work .now)
+depth-long lost x =
+    length-set (lost .difference-with .last .0) (start-of lost .args .depth) x ∙ lost .difference-with .kept .0
 
 next-set-requires : tie.Need-next-set-requires
 next-set-requires c κs = search needs
@@ -47,13 +46,10 @@ slice-write-work-2 : tie.Need-slice-write-work-2
 slice-write-work-2 c =
     let lost = c .before .before in
     let given = start-of lost .pre in
-    omega (arith, depth-long lost, given .mark-low, given .high)
+    subst (λ (l : ℕ). start-of lost .args .mark < l) (sym (depth-long lost _)) (omega (arith, given .mark-low, given .high))
 
 same-length : tie.Need-same-length
-same-length c =
-    let lost = c .before .before in
-    let args = start-of lost .args in
-    length-set (set (lost .difference-with .last .0) (args .depth) (args .j)) (args .mark) 1 ∙ depth-long lost
+same-length c = search needs
 
 returns : tie.Need-returns
 returns c n size =
