@@ -1,6 +1,8 @@
 // The one work area: where things stand in it, what a part that was lent and comes back makes of it, sets that
 // stand at a base, and the walk over the members of such a set. A function for each region says where it begins;
 // nobody else adds this up.
+#![tactic(auto)]
+
 ghost use Rattle.std.specs.Prelude.{◌≡◌, ◌+◌, ◌<◌, ◌^◌};
 ghost use Rattle.rules.specs.Tables.{words};
 ghost use Rattle.area.specs.Area.{counters, distances, entries, layers, met_at, free};
@@ -9,7 +11,7 @@ ghost use Rattle.area.specs.Area.{counters, distances, entries, layers, met_at, 
 pub const NO_ENTRY: u64 = 65535;
 
 // The regions for n vertices and m edges, where a set has s words.
-#[derive(Drop)]
+#[derive(Clone, Copy)]
 pub struct Area {
     pub n: usize,
     pub m: usize,

@@ -8,7 +8,7 @@ ghost use Rattle.arguments.specs.Asking.{Asks};
 // The budget of each engine unless an argument gives another.
 const DEFAULT_BUDGET: u64 = 65536;
 
-#[derive(Drop)]
+#[derive(Clone, Copy)]
 pub enum Asked {
     Budget(u64),
     // 36.

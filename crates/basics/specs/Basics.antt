@@ -258,6 +258,7 @@ count_first (suc n) test =
 -- some entry passes the test: a member that does
 pub some_of_intro : (xs : List ℕ) (test : Set) (w : ℕ) → Memᴰ w xs → test w ≡ true → some_of xs test ≡ true
 unfolding some_of
+some_of_intro [] test w m p = elim m [ ]
 some_of_intro (x ∷ xs) test w (Memᴰ.head e) p = or_left (test x) (some_of xs test) (ap test (sym e) ∙ p)
 some_of_intro (x ∷ xs) test w (Memᴰ.tail m) p = or_right (test x) (some_of xs test) (some_of_intro xs test w m p)
 
@@ -296,6 +297,7 @@ every_of_intro (x ∷ xs) test all =
 
 pub every_of_elim : (xs : List ℕ) (test : Set) → every_of xs test ≡ true → (w : ℕ) → Memᴰ w xs → test w ≡ true
 unfolding every_of
+every_of_elim [] test p w m = elim m [ ]
 every_of_elim (x ∷ xs) test p w (Memᴰ.head e) = ap test e ∙ and_left (test x) (every_of xs test) p
 every_of_elim (x ∷ xs) test p w (Memᴰ.tail m) = every_of_elim xs test (and_right (test x) (every_of xs test) p) w m
 
@@ -319,6 +321,7 @@ member_cases w xs =
 
 -- a member stands at some place, and what stands at a place is a member
 pub member_place : {w : ℕ} (xs : List ℕ) → Memᴰ w xs → (i : ℕ) × (i < length xs) × (get_or xs i 0 ≡ w)
+member_place {w = w} [] m = elim m [ ]
 member_place (x ∷ xs) (Memᴰ.head e) = (0, suc-le-suc zero-le, sym e)
 member_place (x ∷ xs) (Memᴰ.tail m) = let (i, l, e) = member_place xs m in (suc i, suc-le-suc l, e)
 
@@ -330,6 +333,7 @@ place_member (x ∷ xs) (suc i) l = Memᴰ.tail (place_member xs i (le_of_suc-le
 -- x stands in a list exactly when it stands there once or more
 pub times_pos : (x : ℕ) (xs : List ℕ) → Memᴰ x xs → 0 < times x xs
 unfolding times
+times_pos x [] m = elim m [ ]
 times_pos x (y ∷ ys) (Memᴰ.head e) = rw (eq-eqb x y e) (omega arith)
 times_pos x (y ∷ ys) (Memᴰ.tail m) = let h = times_pos x ys m in omega arith
 

@@ -1,5 +1,7 @@
 // The checker on the worked games: C10 and C11, results without a strategy, and right results of C6 and C7. Each line
 // is a name, then the number and place given back.
+#![tactic(auto)]
+
 use libc::STDOUT_FILENO;
 use record::KEPT;
 

@@ -1,5 +1,7 @@
 // The certificate checker: two sets and a strategy, checked without trust in any solver. Yes, or the first of 21 to
 // 24 that applies, with 25 in the place of 22 where every entry is none.
+#![tactic(auto)]
+
 mod cycles;
 
 ghost use Rattle.std.specs.Prelude.{◌≡◌};

@@ -1,5 +1,7 @@
 // Priority compaction: the priorities that are used get the lowest and fewest numbers that keep order, not
 // strictly, and parity. The rule itself is in `compaction_numbers`.
+#![tactic(auto)]
+
 ghost use Rattle.rules.specs.Compaction.{Compacts};
 ghost use Rattle.parity_game.specs.Said.{said};
 ghost use Rattle.compaction.specs.Laws.{lent_of};

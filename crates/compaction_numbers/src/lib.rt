@@ -1,5 +1,7 @@
 // The new number of each priority that is used, the lowest and fewest numbers that keep order, not strictly, and
 // parity; and a table written by them. The rule itself is in `next_number` alone.
+#![tactic(auto)]
+
 ghost use Rattle.std.specs.Prelude.{map, ◌≡◌, ◌≤◌, length, get_or};
 ghost use Rattle.rules.specs.Compaction.{next_number};
 ghost use Rattle.compaction_numbers.specs.Marks.{Small, Marks, Numbers, last_given};

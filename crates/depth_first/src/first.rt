@@ -8,7 +8,7 @@ ghost use Rattle.depth_first.specs.Walking.{Scannable, Scanned, Pushable, pushed
 use search_rows::Rows;
 
 // How many vertices are on the stack, and how many have finished.
-#[derive(Drop)]
+#[derive(Clone, Copy)]
 pub struct Progress {
     pub top: usize,
     pub done: usize,

@@ -1,5 +1,7 @@
 // The checks 6 to 8, of the tables that say which edges there are: offsets, targets, and that every vertex has one. The
 // first that applies gives its place.
+#![tactic(auto)]
+
 ghost use Rattle.std.specs.Prelude.{◌≡◌, ◌+◌, length};
 ghost use Rattle.rules.specs.Tables.{check6, check7, check8};
 ghost use Rattle.rules.specs.Outcome.{outcome, answered};

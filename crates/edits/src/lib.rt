@@ -1,5 +1,7 @@
 // The three edits of a game record: one priority, one owner, or one edge's target. Each checks the record, then its own
 // two refusals, and writes the one entry that it names; the kept numbers follow a changed priority.
+#![tactic(auto)]
+
 ghost use Rattle.std.specs.Prelude.{◌≡◌};
 ghost use Rattle.rules.specs.Outcome.{outcome, answered};
 ghost use Rattle.rules.specs.Record.{record_of, Edits, set_priority, set_owner, turn_edge};

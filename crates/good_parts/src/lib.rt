@@ -1,5 +1,7 @@
 // What the labels of the two passes tell: which strongly connected parts are good, and so which vertices lie in a good
 // one. Linear in vertices and edges.
+#![tactic(auto)]
+
 ghost use Rattle.std.specs.Prelude.{◌≡◌, ◌+◌, ◌≤◌, ◌<◌, length};
 ghost use Rattle.search_links.specs.Area.{ClearedUpTo};
 ghost use Rattle.search_links.specs.Graph.{graph};

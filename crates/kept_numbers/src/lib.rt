@@ -1,5 +1,7 @@
 // The kept numbers of a game record: a fresh count of the priorities, its comparison with what is kept, and one vertex
 // moved from a priority to another. What is told of the counts, how many differ and the highest, is in `sum_up` alone.
+#![tactic(auto)]
+
 ghost use Rattle.std.specs.Prelude.{◌≡◌, length, take};
 ghost use Rattle.rules.specs.Outcome.{outcome, answered};
 ghost use Rattle.rules.specs.Record.{kept_for, fresh_count, kept_check};

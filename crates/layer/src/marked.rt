@@ -2,7 +2,7 @@
 ghost use Rattle.layer.specs.Layer.{Addable, Added, Poppable, Popped};
 
 // A word of a set, and which one it is.
-#[derive(Drop)]
+#[derive(Clone, Copy)]
 pub struct Word {
     pub at: usize,
     pub word: u64,

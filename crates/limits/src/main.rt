@@ -1,5 +1,7 @@
 // Document 01's run list for Zielonka on C6, whose W is 8·4·1 + 4·2 + 2·2 + 272 = 316 words: each line is a name,
 // then the number, place and count given back.
+#![tactic(auto)]
+
 use libc::STDOUT_FILENO;
 use record::KEPT;
 

@@ -1,5 +1,7 @@
 // C5's attractor run: the number, place and looks given back, then the set as a word, the two entries and the two
 // distances.
+#![tactic(auto)]
+
 use libc::STDOUT_FILENO;
 use record::KEPT;
 

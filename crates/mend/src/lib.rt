@@ -1,6 +1,7 @@
 // Mending an incomplete export: edges that lead to no vertex are dropped, and a vertex that is left without an edge
 // gets a self loop that its owner loses. What is needed of each output is counted first, so that a refusal writes
 // nothing.
+#![tactic(auto)]
 
 ghost use Rattle.std.specs.Prelude.{◌≡◌, ◌≤◌};
 ghost use Rattle.rules.specs.Mending.{Mends};

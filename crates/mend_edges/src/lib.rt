@@ -1,4 +1,6 @@
 // What mending writes first: the new offsets and targets.
+#![tactic(auto)]
+
 mod edges;
 
 pub use edges::write_edges;

@@ -1,8 +1,10 @@
 // The oracle's answer to one game of the fixed list, and whether what a solver gave differs from it.
+#![tactic(auto)]
+
 ghost use Rattle.std.specs.Prelude.{true, false, ◌≡◌};
 
 // The oracle's answer: the sets that Even and Odd win, as words, calls and rounds, and the solitaire set.
-#[derive(Drop)]
+#[derive(Clone, Copy)]
 pub struct Said {
     pub even: u64,
     pub odd: u64,

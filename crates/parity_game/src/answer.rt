@@ -69,7 +69,7 @@ pub const KEPT_DIFFER: u64 = 47;
 
 pub const NO_SUCH_OWNER: u64 = 48;
 
-#[derive(Drop)]
+#[derive(Clone, Copy)]
 pub enum Answer {
     // Calls, rounds, looks, a length, or 0 where nothing is counted.
     Answered(u64),

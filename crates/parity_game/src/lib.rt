@@ -1,5 +1,7 @@
 // The tagged numbers of the Rust, the one answer type, the limits, how many words a set and the work area have, and
 // the checks 9 and 10. The tables themselves are checked in `checks_in_order` and `table_checks`.
+#![tactic(auto)]
+
 mod answer;
 mod limits;
 mod player;

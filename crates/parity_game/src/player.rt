@@ -4,14 +4,14 @@ ghost use Rattle.rules.specs.Game.{opponent, parity, player_of};
 ghost use Rattle.parity_game.specs.Said.{is};
 
 // The index of a vertex.
-#[derive(Drop)]
+#[derive(Clone, Copy)]
 pub struct VertexIndex(pub usize);
 
 // A priority, or the number of a region.
-#[derive(Drop)]
+#[derive(Clone, Copy)]
 pub struct Priority(pub usize);
 
-#[derive(Drop)]
+#[derive(Clone, Copy)]
 pub enum Player {
     Even,
     Odd,

@@ -2,6 +2,8 @@
 // among vertices of a priority at most a bound that meets the bound exactly. One routine for solitaire and for the
 // checker's kind 24, linear in vertices and edges. These functions are on plain tables; the view in `subgame` calls
 // them.
+#![tactic(auto)]
+
 ghost use Rattle.std.specs.Prelude.{◌<◌};
 ghost use Rattle.search_links.specs.Graph.{graph};
 ghost use Rattle.parts.specs.Whole.{PartsMarkable, PartsMarked};

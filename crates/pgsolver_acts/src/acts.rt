@@ -7,7 +7,7 @@ ghost use Rattle.pgsolver_acts.specs.Acts.{on_letter, on_other, act_on};
 use crate::class::Class;
 use crate::state::Phase;
 
-#[derive(Drop)]
+#[derive(Clone, Copy)]
 pub enum Act {
     Stay,
     // No text of the grammar can follow.

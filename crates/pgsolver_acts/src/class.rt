@@ -3,7 +3,7 @@ ghost use Rattle.std.specs.Prelude.{◌≡◌};
 ghost use Rattle.grammar.specs.Machine.{class_of};
 ghost use Rattle.pgsolver_acts.specs.Shown.{class_in};
 
-#[derive(Drop)]
+#[derive(Clone, Copy)]
 pub enum Class {
     Separator,
     Digit,

@@ -4,7 +4,7 @@ ghost use Rattle.pgsolver_acts.specs.Shown.{to_phase, reading_on, headed_on, ide
 ghost use Rattle.pgsolver_acts.specs.Shown.{owned_on, aimed_on, closed_on};
 
 // Where in a text: in a piece, or past it.
-#[derive(Drop)]
+#[derive(Clone, Copy)]
 pub enum Phase {
     AtStart,
     // So many letters of `parity`.
@@ -27,7 +27,7 @@ pub enum Phase {
     PastName,
 }
 
-#[derive(Drop)]
+#[derive(Clone, Copy)]
 pub struct State {
     pub phase: Phase,
     // Whether the text said N, and N.

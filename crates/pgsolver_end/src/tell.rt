@@ -7,7 +7,7 @@ use arrange::arrange;
 use pgsolver_acts::state::{Phase, State};
 use reading_rooms::{Identifiers, check_identifiers};
 
-#[derive(Drop)]
+#[derive(Clone, Copy)]
 pub enum Told {
     // How many records and targets.
     Whole(usize, usize),

@@ -11,7 +11,7 @@ use parity_game::Answer;
 use reading_rooms::clear_rooms;
 
 // Whether document 01's list is asked too, or the text alone is read.
-#[derive(Drop)]
+#[derive(Clone, Copy)]
 pub enum Asks {
     Text,
     Game,

@@ -12,7 +12,7 @@ use pgsolver_acts::state::{Phase, State};
 // The highest number of a text.
 const HIGHEST_NUMBER: u32 = 65535;
 
-#[derive(Drop)]
+#[derive(Clone, Copy)]
 pub enum Move {
     On(State),
     // No text of the grammar can follow.

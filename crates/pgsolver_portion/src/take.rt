@@ -6,7 +6,7 @@ use pgsolver_acts::state::State;
 use pgsolver_step::portion::{Portion, read_portion};
 use reading_rooms::clear_tables;
 
-#[derive(Drop)]
+#[derive(Clone, Copy)]
 pub enum Taken {
     On(State),
     // 30 or 32, and its place in the text.

@@ -7,7 +7,7 @@ use crate::step::{Step, read_byte};
 use parity_game::{MOST_EDGES, MOST_VERTICES};
 use pgsolver_acts::state::State;
 
-#[derive(Drop)]
+#[derive(Clone, Copy)]
 pub enum Portion {
     Reading(State),
     // 30 at a place.

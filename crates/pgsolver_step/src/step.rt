@@ -8,7 +8,7 @@ use pgsolver_acts::state::State;
 use pgsolver_moves::moves::{Move, advance};
 use reading_rooms::SEEN;
 
-#[derive(Drop)]
+#[derive(Clone, Copy)]
 pub enum Step {
     On(State),
     // No text of the grammar can follow.

@@ -1,5 +1,7 @@
 // Writes the tables of a game as PGSolver text, in the one form that reading undoes. The length needed is worked
 // out by one pass over the tables, before the first byte is written.
+#![tactic(auto)]
+
 mod length;
 
 ghost use Rattle.rules.specs.Tables.{tables_of, Accepted};

@@ -8,7 +8,7 @@ ghost use Rattle.printing.specs.Line.{counted_bytes, decided_by, winners_bytes, 
 use putting::{put_number, put_winners, put_word};
 
 // What an engine needed, or that it was more than its budget.
-#[derive(Drop)]
+#[derive(Clone, Copy)]
 pub enum Counted {
     Needed(u64),
     Over,

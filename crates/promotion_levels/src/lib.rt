@@ -1,5 +1,7 @@
 // The levels of priority promotion: nested sets that stand for the regions. A level begins as the one before without
 // its vertices of the highest priority. Where they stand, and the passes over their words, are passed on.
+#![tactic(auto)]
+
 mod levels;
 
 pub use levels::{begin_level, descend};

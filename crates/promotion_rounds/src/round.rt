@@ -13,7 +13,7 @@ use promotion_open::is_open;
 use promotion_region::query;
 
 // The current priority, how many vertices are unsolved, and the rounds made.
-#[derive(Drop)]
+#[derive(Clone, Copy)]
 pub struct State {
     pub current: Priority,
     pub unsolved: usize,

@@ -1,5 +1,7 @@
 // The pieces of a pass of the quasi-polynomial recursion, over the sets of its level: the attractors, how the passes
 // stand, and what a pass leaves. The recursion itself is in `quasi_polynomial`.
+#![tactic(auto)]
+
 mod level;
 mod passes;
 mod places;

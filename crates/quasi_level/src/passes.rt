@@ -5,7 +5,7 @@ ghost use Rattle.separation.specs.Stages.{precision_at};
 ghost use Rattle.quasi_level.specs.Standing.{Began, AfterFound, AfterNothing, LevelEnded};
 
 // An answer keeps all dominions of its own player, and drops all of the other's, whatever their size.
-#[derive(Drop)]
+#[derive(Clone, Copy)]
 pub struct Sharp {
     pub keeps: bool,
     pub drops: bool,
@@ -13,7 +13,7 @@ pub struct Sharp {
 
 // The stage: 0 the first passes, 1 the pass at full precision, 2 the last passes, 3 the end. And how sharp what is left
 // of V is.
-#[derive(Drop)]
+#[derive(Clone, Copy)]
 pub struct Passes {
     pub stage: usize,
     pub keeps: bool,

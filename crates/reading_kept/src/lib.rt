@@ -1,4 +1,6 @@
 // What a call that reads a record does beside the reading itself: 9 and 10 first, and the kept numbers afterwards.
+#![tactic(auto)]
+
 mod beside;
 mod rooms;
 

@@ -6,7 +6,7 @@ ghost use Rattle.reading_rooms.specs.Said.{fits_said, size_checks, identifiers_s
 pub const SEEN: u16 = 16384;
 
 // Whether the rooms fit each other, and the work area is long enough.
-#[derive(Drop)]
+#[derive(Clone, Copy)]
 pub enum Fits {
     Fit,
     Sizes,
@@ -14,7 +14,7 @@ pub enum Fits {
 }
 
 // Whether the identifiers and N are right, or the place of 31.
-#[derive(Drop)]
+#[derive(Clone, Copy)]
 pub enum Identifiers {
     Right,
     Wrong(usize),

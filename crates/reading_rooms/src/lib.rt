@@ -1,5 +1,7 @@
 // The two ends of reading a text: before all, whether the rooms fit; once all records wait in the tables, whether their
 // identifiers are right; and, on a refusal, every table cleared.
+#![tactic(auto)]
+
 mod checks;
 mod clear;
 

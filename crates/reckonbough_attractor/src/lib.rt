@@ -1,4 +1,6 @@
 // The attractor's door.
 // It takes a game record, returns the number of document 01's table, 0 for an answer, and writes place and count
 // through the last two references. It has no `requires`.
+#![tactic(auto)]
+
 pub mod attraction;

@@ -1,6 +1,8 @@
 // The game record's own checks: `check_record` is the one stage that every function that takes a record calls first.
 // Where it lets the record pass, the first n, n, n + 1 and m entries are accepted tables, and what is kept is a fresh
 // count of them.
+#![tactic(auto)]
+
 ghost use Rattle.std.specs.Prelude.{[], ◌≡◌};
 ghost use Rattle.rules.specs.Outcome.{outcome, answered, ◌then◌};
 ghost use Rattle.rules.specs.Record.{record_of, room2, room3, record_tables, record_checks, tables_in, CountsFresh};

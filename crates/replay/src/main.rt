@@ -1,6 +1,8 @@
 // Replays the fixed list of the oracle's answers, one game a line on standard input (compare/README.md says how it
 // was made): n m owners.. priorities.. offsets.. targets.. winners.. calls rounds solitaire.. Prints how many games
 // there were, and on how many of them each solver differs. A line that is no game counts as a difference.
+#![tactic(auto)]
+
 mod said;
 mod text;
 
@@ -9,7 +11,7 @@ use record::KEPT;
 use replay_solvers::{solitaire_differs, solver_differs};
 
 // On one line: where the next begins, and 1 for each solver that differs.
-#[derive(Drop)]
+#[derive(Clone, Copy)]
 struct Line {
     next: usize,
     zielonka: u64,

@@ -1,10 +1,12 @@
 // Where the search for parts keeps what it knows in the work area, behind the predecessor table: six rows of a word for
 // each vertex. A function for each row says where it begins, and one where the last ends; nobody else adds this up.
+#![tactic(auto)]
+
 ghost use Rattle.std.specs.Prelude.{◌≡◌, ◌+◌, ◌<◌, ◌^◌};
 ghost use Rattle.search_rows.specs.Rows.{marks, order, queue, labels, hits, pairs, behind, sets_behind};
 
 // The rows for n vertices and m edges.
-#[derive(Drop)]
+#[derive(Clone, Copy)]
 pub struct Rows {
     pub n: usize,
     pub m: usize,

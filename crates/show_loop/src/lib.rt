@@ -1,5 +1,7 @@
 // Show me the loop: for a solitaire game and a vertex a path to a cycle of the owner's parity, and the cycle. Both
 // are the shortest that one search each finds; nothing is written before the run is known.
+#![tactic(auto)]
+
 mod checks;
 mod door;
 mod lists;

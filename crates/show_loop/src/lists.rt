@@ -9,7 +9,7 @@ use parity_game::HIGHEST_PRIORITY;
 use search_rows::Rows;
 
 // How many vertices the path has, and the cycle; 0 where there is none.
-#[derive(Drop)]
+#[derive(Clone, Copy)]
 pub struct Lengths {
     pub path: usize,
     pub cycle: usize,

@@ -1,4 +1,6 @@
 // The checks 1 to 3, of how many vertices, entries and edges there are. None looks into a table.
+#![tactic(auto)]
+
 ghost use Rattle.std.specs.Prelude.{◌≡◌, ◌≤◌};
 ghost use Rattle.rules.specs.Tables.{check1, check2, check3};
 ghost use Rattle.rules.specs.Outcome.{outcome, answered, ◌then◌};

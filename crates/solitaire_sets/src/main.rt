@@ -1,4 +1,6 @@
 // The worked games of one owner: name, then for each vertex in order whether it is in the solitaire set (1) or not (0).
+#![tactic(auto)]
+
 use libc::STDOUT_FILENO;
 use record::KEPT;
 

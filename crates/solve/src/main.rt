@@ -1,5 +1,7 @@
 // The program of PGSolver files: reads a text from standard input, takes at most one argument, a budget for each
 // engine, and prints one line. What the line says is proved of the functions that `main` calls.
+#![tactic(auto)]
+
 use arguments::Asked;
 use libc::STDOUT_FILENO;
 

@@ -1,5 +1,7 @@
 // From a text to the line that the program prints: the text is read, both engines solve its game, and what they gave is
 // put into a line.
+#![tactic(auto)]
+
 ghost use Rattle.std.specs.Prelude.{◌≤◌, length, take};
 ghost use Rattle.rules.specs.Printing.{PrintsText};
 

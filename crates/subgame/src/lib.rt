@@ -1,6 +1,8 @@
 // The subgame view, after the Rust's Subgame: a game's target table with the highest priority that is let in. It is
 // thin: it carries the two through the search for parts, which works on plain tables. Solitaire and the checker go by
 // it.
+#![tactic(auto)]
+
 mod parity;
 
 ghost use Rattle.std.specs.Prelude.{◌≡◌, ◌<◌};

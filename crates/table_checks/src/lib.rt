@@ -1,6 +1,8 @@
 // The tables of a game as lent slices, checked before anything else is done with them: 1 to 8, for any four slices.
 // Loops that are never left early, which become vector code, tell whether all is well; only where one of them says no
 // do the checks of `checks_in_order` look for the number and the place.
+#![tactic(auto)]
+
 mod scan;
 
 ghost use Rattle.std.specs.Prelude.{◌≡◌};

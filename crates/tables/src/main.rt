@@ -1,4 +1,6 @@
 // Document 01's run list for tables, a broken table for each other number that the checks give, and the worked games.
+#![tactic(auto)]
+
 use libc::STDOUT_FILENO;
 
 // Checks the tables, and prints the name, the number given back and its place.

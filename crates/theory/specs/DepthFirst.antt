@@ -137,7 +137,7 @@ through_visited {s} k u w m r =
 
 -- a path through a list with one more entry stays within the list, or comes to that entry through the list
 through_snoc :
-    {R : Relation} {t u w : ℕ} (xs : List ℕ) → Through (xs ++ (t ∷ [])) R u w → Through xs R u w ⊎ Through xs R u t
+    {R : Relation} {t : ℕ} (xs : List ℕ) {u w : ℕ} → Through (xs ++ (t ∷ [])) R u w → Through xs R u w ⊎ Through xs R u t
 through_snoc xs here = inl here
 through_snoc xs (step e r) =
     ⊎_elim

@@ -28,6 +28,7 @@ use Rattle.theory.specs.Attractor.{attractor_is, attractor_below, attractor_insi
 
 pub least_le : (xs : List ℕ) (S : Set) (f : ℕ → ℕ) (w : ℕ) → Memᴰ w xs → S w ≡ true → least_of xs S f ≤ f w
 unfolding least_of
+least_le [] S f w m p = elim m [ ]
 least_le (x ∷ xs) S f w (Memᴰ.head e) p =
     let here : S x ≡ true = ap S (sym e) ∙ p in let same_at = ap f e in rw here (omega arith)
 least_le (x ∷ xs) S f w (Memᴰ.tail m) p =
@@ -50,6 +51,7 @@ least_ge (x ∷ xs) S f k l all =
 
 pub greatest_ge : (xs : List ℕ) (S : Set) (f : ℕ → ℕ) (w : ℕ) → Memᴰ w xs → S w ≡ true → f w ≤ greatest_of xs S f
 unfolding greatest_of
+greatest_ge [] S f w m p = elim m [ ]
 greatest_ge (x ∷ xs) S f w (Memᴰ.head e) p =
     let here : S x ≡ true = ap S (sym e) ∙ p in let same_at = ap f e in rw here (omega arith)
 greatest_ge (x ∷ xs) S f w (Memᴰ.tail m) p =

@@ -1,5 +1,7 @@
 // The checks 4 and 5, of the tables that have an entry for each vertex: owners and priorities. The first that applies
 // gives its place.
+#![tactic(auto)]
+
 ghost use Rattle.std.specs.Prelude.{◌≡◌, length};
 ghost use Rattle.rules.specs.Tables.{check4, check5};
 ghost use Rattle.rules.specs.Outcome.{outcome, answered};

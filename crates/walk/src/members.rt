@@ -5,13 +5,13 @@ ghost use Rattle.walk.specs.Walk.{words_from, left, Begins, Walks};
 use parity_game::VertexIndex;
 
 // How far a walk has come: the word it is in, and the bits of that word that are still to come.
-#[derive(Drop)]
+#[derive(Clone, Copy)]
 pub struct Members {
     pub at: usize,
     pub word: u64,
 }
 
-#[derive(Drop)]
+#[derive(Clone, Copy)]
 pub enum Next {
     Member(VertexIndex, Members),
     Done,

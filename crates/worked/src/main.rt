@@ -1,4 +1,6 @@
 // Document 01's table of worked games: name, winner of each vertex in order (0 Even, 1 Odd), calls, rounds.
+#![tactic(auto)]
+
 use libc::STDOUT_FILENO;
 use record::KEPT;
 

@@ -1,0 +1,36 @@
+-- `sum_up` meets its contract. The loop's invariant: the counts passed are looked at.
+use mathlib.Core.Logic.{⊎_elim}
+use mathlib.Core.Path.{◌≡◌}
+use Prim.Native.Nat.{◌-◌}
+use native.Mathlib.Omega.{arith}
+use Rattle.kept_numbers.specs.Steps.{summed_none, summed_some, summed_zero, summed_all}
+use borrow.Author.Rules.{rules}
+use Rattle.kept_numbers.proofs.sum_up.Goals as goal
+
+pub loop-p-init : goal.loop-p-init
+loop-p-init c = (search rules, search rules, summed_none _)
+
+pub loop-p-preserved : goal.loop-p-preserved
+loop-p-preserved c =
+    let at = c.before.before.before.before in
+    let kept = at.args.kept.now in
+    ⊎_elim
+    (λ w.
+    rw (w.1, w.2) (
+      search rules,
+      search rules,
+      summed_some at.loop-p.p kept at.loop-p.different at.loop-p.highest at.loop-p.invariant.2 w.0.taken,
+    ))
+    (λ w.
+    rw (w.1, w.2) (
+      search rules,
+      search rules,
+      summed_zero at.loop-p.p kept at.loop-p.different at.loop-p.highest at.loop-p.invariant.2 w.0.left,
+    ))
+    c.if-kept-p-ne0.branch
+
+pub returns : goal.returns
+returns c =
+    let at = c.before in
+    let done : at.loop-p.p ≡ 256 = omega arith in
+    summed_all at.args.kept.now at.loop-p.different at.loop-p.highest at.requires (rw done at at.loop-p.invariant.2)

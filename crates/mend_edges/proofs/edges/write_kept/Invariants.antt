@@ -1,0 +1,13 @@
+-- `write_kept` meets its contract. The loop's invariant: of the edges passed those that lead to a vertex are written.
+use mathlib.Core.Path.{◌≡◌}
+use Prim.Native.Nat.{◌≤◌, ◌+◌, ◌-◌}
+use lib.ListN.{length, get_or}
+use Rattle.mend_counts.specs.Bare.{bare}
+use Rattle.mend_counts.specs.Placed.{WrittenUpTo}
+use Rattle.mend_counts.specs.Steps.{kept_from}
+use Rattle.mend_edges.proofs.edges.write_kept.Given as goal
+
+abbrev pub invariant-loop-e : goal.invariant-loop-e
+invariant-loop-e l =
+    (get_or l.offsets l.v 0 ≤ l.e) × (l.e ≤ l.e-end) × (l.e-end ≡ get_or l.offsets (l.v + 1) 0) × (l.e-end ≤ length l.targets) ×
+    WrittenUpTo l.at (kept_from (bare l.owners l.offsets l.targets) (get_or l.offsets l.v 0) l.e) l.initial.new_targets l.new_targets l.end

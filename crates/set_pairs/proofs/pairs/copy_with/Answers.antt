@@ -1,0 +1,16 @@
+-- `copy_with` takes each bit of the other part. The invariant: so far the first i words of the part.
+use mathlib.Core.Path.{refl}
+use Prim.Native.Nat.{◌-◌}
+use Rattle.set_pairs.specs.Wordwise.{upto_none, upto_more, upto_all}
+use Rattle.set_pairs.proofs.pairs.copy_with.Goals as goal
+
+pub loop-i-init : goal.loop-i-init
+loop-i-init c = upto_none
+
+pub loop-i-preserved : goal.loop-i-preserved
+loop-i-preserved c =
+    upto_more _ c.requires c.loop-i-test.true c.loop-i.invariant
+    (λ k m. refl)
+
+pub returns : goal.returns
+returns c = upto_all c.loop-i-test.false c.loop-i.invariant

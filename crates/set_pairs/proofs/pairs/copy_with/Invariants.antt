@@ -1,0 +1,11 @@
+-- `copy_with` takes each bit of the other part. The invariant: so far the first i words of the part.
+use Prim.Native.Nat.{◌-◌}
+use Rattle.set_bits.specs.After.{other}
+use Rattle.set_pairs.specs.Wordwise.{Upto}
+use Rattle.set_pairs.proofs.pairs.copy_with.Given as goal
+
+abbrev pub invariant-loop-i : goal.invariant-loop-i
+invariant-loop-i l = Upto other l.into l.from l.s l.i l.initial.words l.words
+
+abbrev pub decreases-loop-i : goal.decreases-loop-i
+decreases-loop-i l = l.s - l.i

@@ -1,0 +1,12 @@
+-- `write_strategy` meets its contract: the entries passed are written.
+use mathlib.Core.Path.{◌≡◌}
+use Prim.Native.Nat.{ℕ, ◌-◌, ◌≤◌, ◌<◌}
+use lib.ListN.{length, get_or}
+use Rattle.solver_entries.specs.Entries.{chosen}
+use Rattle.solver_entries.proofs.entries.write_strategy.Given as goal
+
+abbrev pub invariant-loop-v : goal.invariant-loop-v
+invariant-loop-v l =
+    (l.v ≤ length l.owners) ×
+    (length l.strategy ≡ length l.initial.strategy) ×
+    ((k : ℕ) → k < l.v → get_or l.strategy k 0 ≡ chosen l.owners l.even l.odd l.entries k)
