@@ -24,10 +24,6 @@ AtInLoop = lts.In-loop reads.Pre reads.Post goal.the-invariant-loop-e goal.the-d
 pub vertices-init : goal.vertices-init
 vertices-init c = (search rules, below_none _)
 
-shared-slice-read--e-end :
-    tie.Need-shared-slice-read--e-end invariant-loop decreases-loop invariant-vertices decreases-vertices
-shared-slice-read--e-end c = search rules
-
 -- a turn of the inner loop shows an edge of the vertex at hand, and no turn that there is none
 has_edge :
     (c : AtInLoop) →

@@ -40,7 +40,7 @@ slice_bounds-add-end c =
       g.requires.room.next_high,
       g.requires.room.low,
       g.requires.room.high,
-      stored_long a.n a.m a.set a.next a.work.now g.requires.room a.s a.v a.far i.new.0
+      stored_long a.n a.m a.set a.next a.work.now g.requires.room a.s a.v a.far i.new.set
           g.requires.size (placed c).distances-distances.ensures g.requires.small i.ensures c.behind_layer.ensures,
     )
 
@@ -49,7 +49,7 @@ add-requires c =
     let g = start_of (placed c.before) in
     let a = g.args in
     let i = c.insert in
-    add_ready a.n a.m a.set a.next a.work.now g.requires.room a.s a.v a.far i.new.0
+    add_ready a.n a.m a.set a.next a.work.now g.requires.room a.s a.v a.far i.new.set
     g.requires.size (placed c.before).distances-distances.ensures g.requires.small i.ensures
     c.behind_layer.ensures g.requires.layer
 
@@ -60,7 +60,7 @@ shape_of-work c =
     let g = start_of (placed b) in
     let a = g.args in
     let i = b.insert in
-    (state_joined a.n a.m a.set a.next a.work.now g.requires.room a.s a.v a.far i.new.0
+    (state_joined a.n a.m a.set a.next a.work.now g.requires.room a.s a.v a.far i.new.set
     g.requires.size (placed b).distances-distances.ensures g.requires.small i.ensures b.behind_layer.ensures
     d.add.new.layer d.add.ensures (λ u. 0)).kept.long
 
@@ -71,6 +71,6 @@ returns c =
     let g = start_of (placed b) in
     let a = g.args in
     let i = b.insert in
-    state_joined a.n a.m a.set a.next a.work.now g.requires.room a.s a.v a.far i.new.0
+    state_joined a.n a.m a.set a.next a.work.now g.requires.room a.s a.v a.far i.new.set
     g.requires.size (placed b).distances-distances.ensures g.requires.small i.ensures b.behind_layer.ensures
     d.add.new.layer d.add.ensures

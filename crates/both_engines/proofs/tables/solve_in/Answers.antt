@@ -137,5 +137,5 @@ returns c =
     (solves_kept at1.solve_priority_promotion-promotion.ensures passes)
     (solves_kept at2.solve_zielonka-zielonka.ensures passes-again) in
     let made = line.solved_line in
-    subst (λ (bytes : List ℕ). Puts 0 bytes at.args.out.now made.new.1.1.1.1.0 made.result) is
+    subst (λ (bytes : List ℕ). Puts 0 bytes at.args.out.now made.new.out made.result) is
     line.solved_line.ensures

@@ -46,8 +46,8 @@ loop-head-preserved c =
     let f = c.look_back-tail in
     let looked = rw (row_of a).queue-queue.ensures at f.ensures in
     let more = c.loop-head-test.true in (
-      standing_moves (graph_of s) l.work l.head l.tail l.invariant.0 more f.new.1.1.1.1.1.0 f.result looked,
-      kept_moves (graph_of s) l.work l.head l.tail l.invariant.0 more f.new.1.1.1.1.1.0 f.result looked
+      standing_moves (graph_of s) l.work l.head l.tail l.invariant.0 more f.new.work f.result looked,
+      kept_moves (graph_of s) l.work l.head l.tail l.invariant.0 more f.new.work f.result looked
           s.args.work.now l.invariant.1,
     )
 

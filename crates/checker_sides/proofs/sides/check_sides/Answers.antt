@@ -103,10 +103,6 @@ loop-e-init c =
       λ i a b. absurd (omega arith),
     )
 
-shared_slice_read_stays_2 :
-    tie.Need-shared-slice-read-stays-2 invariant_loop decreases_loop invariant_vertices decreases_vertices
-shared_slice_read_stays_2 c = search rules
-
 pub overflow_cast-targets : goal.overflow_cast-targets
 overflow_cast-targets c = omega (arith, c.shared_slice_known-in-loop-e-1.given c.loop-e.e)
 

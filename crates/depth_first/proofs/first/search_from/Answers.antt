@@ -22,7 +22,7 @@ pub loop-at-init : goal.loop-at-init
 loop-at-init c =
     let s = c.before.before.before.before.before.before.before.before.before.before.before in
     let f = c.push in
-    search_starts (graph_of s) s.args.work.now s.args.r s.args.done s.requires f.new.1.1.0 f.ensures
+    search_starts (graph_of s) s.args.work.now s.args.r s.args.done s.requires f.new.work f.ensures
 
 pub advance-at-requires : goal.advance-at-requires
 advance-at-requires c =
@@ -41,14 +41,14 @@ loop-at-preserved c =
     let l = a.loop-at in
     let f = c.advance-at in
     search_moves (graph_of s) s.requires.sound _ s.args.r l.work l.at.top l.at.done l.invariant
-    f.new.1.1.1.1.1.0 f.result.top f.result.done f.ensures
+    f.new.work f.result.top f.result.done f.ensures
 
 pub shape_of-work : goal.shape_of-work
 shape_of-work c =
     let s = c.before.before.before.before.before.before.before.before.before.before.before.before.before.before in
     let f = c.push in
     let l = c.loop-at in
-    search_long (graph_of s) s.args.work.now s.args.r s.args.done s.requires f.new.1.1.0 f.ensures
+    search_long (graph_of s) s.args.work.now s.args.r s.args.done s.requires f.new.work f.ensures
     l.work l.at.top l.at.done l.invariant
 
 pub returns : goal.returns
@@ -56,5 +56,5 @@ returns c =
     let s = c.before.before.before.before.before.before.before.before.before.before.before.before.before.before in
     let f = c.push in
     let l = c.loop-at in
-    search_ends (graph_of s) s.args.work.now s.args.r s.args.done s.requires f.new.1.1.0 f.ensures
+    search_ends (graph_of s) s.args.work.now s.args.r s.args.done s.requires f.new.work f.ensures
     l.work l.at.top l.at.done l.invariant c.loop-at-test.false

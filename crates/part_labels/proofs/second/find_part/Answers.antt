@@ -83,7 +83,7 @@ loop-head-preserved c =
     let f = c.look_back-tail in
     seek_moves (graph_of s) s.requires.sound _ s.args.r s.requires.vertex l.work l.head l.tail l.invariant
     c.loop-head-test.true
-    f.new.1.1.1.1.1.0 f.result (rw q.queue-queue.ensures at f.ensures)
+    f.new.work f.result (rw q.queue-queue.ensures at f.ensures)
 
 pub shape_of-work : goal.shape_of-work
 shape_of-work c =

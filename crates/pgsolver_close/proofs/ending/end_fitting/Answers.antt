@@ -14,9 +14,9 @@ returns-then-state-eq1 c =
     args.work.now
     args.n.now
     args.m.now
-    end.new.1.1.0
-    end.new.1.1.1.0
-    end.new.1.1.1.1.0
+    end.new.work
+    end.new.n
+    end.new.m
     (said end.result)
     found.if-state-eq1.true
     end.ensures
@@ -32,8 +32,8 @@ returns c =
     args.work.now
     args.n.now
     args.m.now
-    (closing_of end.new.0 end.new.1.0 end.new.1.1.0 end.new.1.1.1.0 end.new.1.1.1.1.0
-    end.new.1.1.1.1.1.0 end.new.1.1.1.1.1.1.0 end.new.1.1.1.1.1.1.1.0)
+    (closing_of end.new.state end.new.owners end.new.priorities end.new.offsets end.new.targets
+    end.new.work end.new.n end.new.m)
     (said end.result)
     reading.if-state-eq1.false
     end.ensures

@@ -38,10 +38,10 @@ same_lengths :
     let at = ended c in
     let args = (start at).args in
     let end = at.end_text-r in
-    SerialLengths args.owners.now args.priorities.now args.offsets.now args.targets.now end.new.1.1.1.0
-    end.new.1.1.1.1.0
-    end.new.1.1.1.1.1.0
-    end.new.1.1.1.1.1.1.0
+    SerialLengths args.owners.now args.priorities.now args.offsets.now args.targets.now end.new.owners
+    end.new.priorities
+    end.new.offsets
+    end.new.targets
 same_lengths c =
     record { owners = search rules; priorities = search rules; offsets = search rules; targets = search rules }
 

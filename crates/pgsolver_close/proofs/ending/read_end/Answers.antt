@@ -85,8 +85,8 @@ returns-else-state-lt32 c =
     let at = long.before.before.before in
     let e = entry (start at) in
     let end = ended.end_fitting in
-    let after = closing_of end.new.0 end.new.1.0 end.new.1.1.0 end.new.1.1.1.0 end.new.1.1.1.1.0
-    end.new.1.1.1.1.1.0 end.new.1.1.1.1.1.1.0 end.new.1.1.1.1.1.1.1.0 in
+    let after = closing_of end.new.state end.new.owners end.new.priorities end.new.offsets end.new.targets
+    end.new.work end.new.n end.new.m in
     unless_fit (end_checks e.lent e.work) (said end.result) e after (ClosedBy Stands e after (said end.result))
     (end_fit e.lent e.work (checked at Fit long.enum_told-in-Fit-1.given.1) long.if-state-lt32.left)
     end.ensures

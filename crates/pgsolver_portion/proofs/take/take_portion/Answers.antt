@@ -116,7 +116,7 @@ returns-in-Stuck c =
     let at = end.before.before.before.before.before.before in
     let zero = end.clear_tables in
     let same = same_lengths at.before.before in
-    here takes_stuck at.before.before zero.new.0 zero.new.1.0 zero.new.1.1.0 zero.new.1.1.1.0
+    here takes_stuck at.before.before zero.new.owners zero.new.priorities zero.new.offsets zero.new.targets
     same.priorities
     same.offsets
     zero.ensures
@@ -129,7 +129,7 @@ returns-in-Beyond c =
     let at = end.before.before.before.before.before.before in
     let zero = end.clear_tables-in-Beyond in
     let same = same_lengths at.before.before in
-    here takes_beyond at.before.before zero.new.0 zero.new.1.0 zero.new.1.1.0 zero.new.1.1.1.0
+    here takes_beyond at.before.before zero.new.owners zero.new.priorities zero.new.offsets zero.new.targets
     same.priorities
     same.offsets
     zero.ensures

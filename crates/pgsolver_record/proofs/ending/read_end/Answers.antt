@@ -55,11 +55,11 @@ returns c =
     let at = past.before in
     let end = done.read_end-r in
     let after =
-    closing_record_of end.new.0 end.new.1.0 end.new.1.1.0 end.new.1.1.1.0 end.new.1.1.1.1.0
+    closing_record_of end.new.state end.new.owners end.new.priorities end.new.offsets end.new.targets
     wrote.write_beside.new.kept
-    end.new.1.1.1.1.1.0
-    end.new.1.1.1.1.1.1.0
-    end.new.1.1.1.1.1.1.1.0 in
+    end.new.work
+    end.new.n
+    end.new.m in
     ends_record Stands (lent (start at)) at.check_end_rooms-unfit.result at.check_end_rooms-unfit.ensures after (said end.result)
     past.if-unfit-ne0.false
     end.ensures

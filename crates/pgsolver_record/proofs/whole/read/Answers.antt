@@ -54,11 +54,11 @@ returns c =
     let at = past.before in
     let read = done.read-r in
     let after =
-    written_record_of read.new.1.1.0 read.new.1.1.1.0 read.new.1.1.1.1.0 read.new.1.1.1.1.1.0
+    written_record_of read.new.owners read.new.priorities read.new.offsets read.new.targets
     wrote.write_beside.new.kept
-    read.new.1.1.1.1.1.1.0
-    read.new.1.1.1.1.1.1.1.0
-    read.new.1.1.1.1.1.1.1.1.0 in
+    read.new.work
+    read.new.n
+    read.new.m in
     reads_record (start at).args.most_bytes (start at).args.text.now (lent (start at)) at.check_record_rooms-unfit.result
     at.check_record_rooms-unfit.ensures
     after

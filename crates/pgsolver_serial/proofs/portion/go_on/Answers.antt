@@ -125,20 +125,20 @@ returns-in-On c =
     let args = (start at).args in
     let s = args.state.now in
     let end = kept.keep in
-    let long : length end.new.0 ≡ length s = search rules in
+    let long : length end.new.words ≡ length s = search rules in
     goes_on args.portion.now s args.owners.now args.priorities.now args.offsets.now args.targets.now
     at.take_portion.result
     (owners at)
     (priorities at)
     (offsets at)
     (targets at)
-    end.new.0
+    end.new.words
     (same_lengths known)
     long
     (takes at)
     on.next-1.given.0.0
     on.next-1.given.1
-    (subst (λ (k : ℕ). KeepsReading (most_in s) (k + length args.portion.now) on.next-1.given.0.0 s end.new.0)
+    (subst (λ (k : ℕ). KeepsReading (most_in s) (k + length args.portion.now) on.next-1.given.0.0 s end.new.words)
     (placed at).place_found-place.ensures
     end.ensures)
 
@@ -151,14 +151,14 @@ returns-in-Refused c =
     let args = (start at).args in
     let s = args.state.now in
     let end = gave.give in
-    let long : length end.new.0 ≡ length s = search rules in
+    let long : length end.new.words ≡ length s = search rules in
     goes_over args.portion.now s args.owners.now args.priorities.now args.offsets.now args.targets.now
     at.take_portion.result
     (owners at)
     (priorities at)
     (offsets at)
     (targets at)
-    end.new.0
+    end.new.words
     (same_lengths known)
     long
     (takes at)

@@ -18,8 +18,8 @@ returns c =
     let end = at.go_on in
     portioned_on args.portion.now args.state.now args.owners.now args.priorities.now args.offsets.now
     args.targets.now
-    (lent_of end.new.1.0 end.new.1.1.0 end.new.1.1.1.0 end.new.1.1.1.1.0
-    end.new.1.1.1.1.1.0)
+    (lent_of end.new.state end.new.owners end.new.priorities end.new.offsets
+    end.new.targets)
     (said end.result)
     reading.if-state-eq1.false
     end.ensures

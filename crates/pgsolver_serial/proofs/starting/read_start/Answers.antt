@@ -60,8 +60,8 @@ returns-in-Fit c =
     let fit = fits ended.before in
     let at = fit.before.before in
     let end = ended.start_fitting in
-    let after = lent_of end.new.1.0 end.new.1.1.0 end.new.1.1.1.0 end.new.1.1.1.1.0
-    end.new.1.1.1.1.1.0 in
+    let after = lent_of end.new.state end.new.owners end.new.priorities end.new.offsets
+    end.new.targets in
     unless_fit (lent_checks (entry (start at))) (answered 0) (entry (start at)) after
     (Started Stands (start at).args.most_bytes (entry (start at)) after (answered 0))
     (checked at Fit fit.enum_told-in-Fit-1.given.1)

@@ -68,8 +68,8 @@ returns c =
     let f = w.write_run-r in
     run_ran (tables g) g.args.v g.args.path.now g.args.cycle.now g.args.work.now g.requires.0
     o.sole_owner-owner.result o.sole_owner-owner.ensures
-    b.build.new.table b.build.ensures f.new.1.1.1.1.1.1.0 d.clear.new.words
-    f.new.1.1.1.1.1.1.1.1.0
-    f.new.1.1.1.1.1.1.1.1.1.0 f.result.path f.result.cycle f.ensures
-    (cleared_all g.args.work.now f.new.1.1.1.1.1.1.0 (f.ensures.long ∙ b.build.ensures.long)
+    b.build.new.table b.build.ensures f.new.work d.clear.new.words
+    f.new.path
+    f.new.cycle f.result.path f.result.cycle f.ensures
+    (cleared_all g.args.work.now f.new.work (f.ensures.long ∙ b.build.ensures.long)
     d.clear.ensures)

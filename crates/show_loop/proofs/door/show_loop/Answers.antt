@@ -111,8 +111,8 @@ returns-then-found-eq0 c =
     let w = r.work_words-w in
     let g = start e in
     told_none (tables g) g.args.vertex g.args.path.now g.args.cycle.now g.args.work.now
-    f.new.1.1.1.1.1.1.0
-    f.new.1.1.1.1.1.1.1.0 f.new.1.1.1.1.1.1.1.1.0 _ g.args.path_length_lem.now f.result.path
+    f.new.path
+    f.new.cycle f.new.work _ g.args.path_length_lem.now f.result.path
     f.result.cycle
     (passed e).accepted (no_refusal e) f.ensures
     _ (work_cleared (tables g) w.result g.args.work.now _ w.ensures (passed e).work_size f.ensures.zeros)
@@ -127,8 +127,8 @@ overflow_add-both c =
     omega (
       arith,
       told_few (tables g) g.args.vertex g.args.path.now g.args.cycle.now g.args.work.now
-          f.new.1.1.1.1.1.1.0
-          f.new.1.1.1.1.1.1.1.0 f.new.1.1.1.1.1.1.1.1.0 _ g.args.path_length_lem.now f.result.path
+          f.new.path
+          f.new.cycle f.new.work _ g.args.path_length_lem.now f.result.path
           f.result.cycle
           (passed e).accepted (no_refusal e) f.ensures c.if-found-eq0.false,
     )
@@ -141,8 +141,8 @@ returns c =
     let w = r.work_words-w in
     let g = start e in
     told_run (tables g) g.args.vertex g.args.path.now g.args.cycle.now g.args.work.now
-    f.new.1.1.1.1.1.1.0
-    f.new.1.1.1.1.1.1.1.0 f.new.1.1.1.1.1.1.1.1.0 _ g.args.path_length_lem.now f.result.path
+    f.new.path
+    f.new.cycle f.new.work _ g.args.path_length_lem.now f.result.path
     f.result.cycle
     (passed e).accepted (no_refusal e) f.ensures
     _ (work_cleared (tables g) w.result g.args.work.now _ w.ensures (passed e).work_size f.ensures.zeros)

@@ -57,6 +57,6 @@ returns c =
     s.args.parity s.args.work.now s.args.v
     s.args.path.now s.args.cycle.now s.requires.0 f.seek-p.new.work f.seek-p.result
     f.seek-p.ensures
-    e.if-p-gt-HIGHEST_PRIORITY.false w.new.1.1.1.1.1.0 w.new.1.1.1.1.1.1.1.0 w.new.1.1.1.1.1.1.1.1.0
+    e.if-p-gt-HIGHEST_PRIORITY.false w.new.work w.new.path w.new.cycle
     w.result.path w.result.cycle
     w.ensures.0 w.ensures.1

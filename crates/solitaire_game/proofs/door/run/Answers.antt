@@ -193,7 +193,7 @@ returns c =
       answer_holds (tables g) g.args.set.now g.args.work.now g.requires.0 (owned b).sole_owner-owner.result (owned b).sole_owner-owner.ensures (standing b)
           m.mark_good.new.work m.mark_good.ensures p.place.new.work p.place.ensures d.attract.result
           d.attract.new.work (attracted d)
-          copied.new.0
+          copied.new.set
           copied.ensures
           (λ i. (c.slice_known-6-1.given i).fits),
     )

@@ -85,5 +85,5 @@ returns c =
     let d = c.before.before.before.before.before.before.before.before.before in
     let w = c.work_words-w in
     let ran = c.run in
-    solves_answered (tables g) (lent g) (record { set = ran.new.1.1.1.1.1.0; work = _ }) (no_refusal d) ran.ensures.1
+    solves_answered (tables g) (lent g) (record { set = ran.new.set; work = _ }) (no_refusal d) ran.ensures.1
     (work_cleared (tables g) w.result g.args.work.now _ w.ensures (passed d).work_size ran.ensures.0)

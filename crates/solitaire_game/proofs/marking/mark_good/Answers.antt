@@ -20,14 +20,14 @@ pub build-requires : goal.build-requires
 build-requires c =
     let g = c.before.before.before.before.before.before.before.before.before.before.before.before in
     let f1 = c.clear in
-    build_ready (tables g) g.args.owner g.args.work.now g.args.row g.requires.0 f1.new.0 f1.ensures
+    build_ready (tables g) g.args.owner g.args.work.now g.args.row g.requires.0 f1.new.work f1.ensures
 
 pub mark_parity-requires : goal.mark_parity-requires
 mark_parity-requires c =
     let g = c.before.before.before.before.before.before.before.before.before.before.before.before.before.before.before.before.before in
     let f1 = c.clear in
     let f2 = c.build in (
-      sweep_ready (tables g) g.args.owner g.args.work.now g.args.row g.requires.0 f1.new.0 f1.ensures f2.new.1.1.1.0
+      sweep_ready (tables g) g.args.owner g.args.work.now g.args.row g.requires.0 f1.new.work f1.ensures f2.new.table
           f2.ensures
           []
           (λ v. refl)
@@ -44,5 +44,5 @@ returns c =
     let f1 = cleared.clear in
     let f2 = built.build in
     let f3 = c.mark_parity in
-    good_marked (tables g) g.args.owner g.args.work.now g.args.row g.requires.0 f1.new.0 f1.ensures f2.new.1.1.1.0 f2.ensures []
-    (λ v. refl) f3.new.1.1.1.1.1.1.0 f3.ensures
+    good_marked (tables g) g.args.owner g.args.work.now g.args.row g.requires.0 f1.new.work f1.ensures f2.new.table f2.ensures []
+    (λ v. refl) f3.new.work f3.ensures

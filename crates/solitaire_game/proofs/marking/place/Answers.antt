@@ -7,7 +7,7 @@ fill-requires c =
     let g = c.before.before.before.before.before.before in
     let a = g.args in
     let f1 = c.clear in
-    fill_fits a.n a.s a.row a.base a.work.now g.requires f1.new.0 f1.ensures
+    fill_fits a.n a.s a.row a.base a.work.now g.requires f1.new.words f1.ensures
 
 pub gather-requires : goal.gather-requires
 gather-requires c =
@@ -16,7 +16,7 @@ gather-requires c =
     let f1 = c.clear in
     let f2 = c.fill in
     rw c.next_set.ensures
-    (gather_ready a.n a.s a.row a.base a.work.now g.requires f1.new.0 f1.ensures f2.new.0 f2.ensures)
+    (gather_ready a.n a.s a.row a.base a.work.now g.requires f1.new.words f1.ensures f2.new.set f2.ensures)
 
 pub returns : goal.returns
 returns c =
@@ -25,5 +25,5 @@ returns c =
     let f1 = c.clear in
     let f2 = c.fill in
     let f3 = c.gather in
-    both_placed a.n a.s a.row a.base a.work.now g.requires f1.new.0 f1.ensures f2.new.0 f2.ensures f3.new.0
+    both_placed a.n a.s a.row a.base a.work.now g.requires f1.new.words f1.ensures f2.new.set f2.ensures f3.new.work
     (rw c.next_set.ensures at f3.ensures)

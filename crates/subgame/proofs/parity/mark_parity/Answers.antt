@@ -32,7 +32,7 @@ loop-k-preserved c =
     let l = c.loop-k in
     let f = c.mark_used in
     let next = swept_more a.priorities.now a.offsets.now a.targets.now a.entries.now a.parity a.work.now a.base s.requires.0
-    l.k l.work l.invariant.2 f.new.1.1.1.1.1.1.0 f.ensures in
+    l.k l.work l.invariant.2 f.new.work f.ensures in
     (omega arith, next.long, next)
 
 pub shape_of-work : goal.shape_of-work

@@ -7,7 +7,7 @@ use Rattle.walk.proofs.members.Members.next.Given as goal
 abbrev pub invariant-loop-word : goal.invariant-loop-word
 invariant-loop-word l =
     let xs = words_from l.s l.base l.work in
-    (left xs (record { l.at = l.initial.at; l.word = l.initial.word }) ≡ left xs (record { l.at = l.at; l.word = l.word })) × (l.at ≤ 64) × (l.word < 2 ^ 64)
+    (left xs (record { at = l.initial.at; word = l.initial.word }) ≡ left xs (record { at = l.at; word = l.word })) × (l.at ≤ 64) × (l.word < 2 ^ 64)
 
 abbrev pub decreases-loop-word : goal.decreases-loop-word
 decreases-loop-word l = l.s - l.at
