@@ -1,7 +1,6 @@
 -- `next`: what is left is kept while words with no bit left are passed over. Then the lowest set bit is the next member.
 use Prim.Native.Nat.{ℕ, ◌+◌, ◌-◌, ◌≤◌}
 use mathlib.Core.List.{List}
-use mathlib.Core.Logic.{⊎_elim}
 use mathlib.Core.Path.{◌≡◌, refl, sym, ap, ◌∙◌}
 use native.Mathlib.Omega.{arith}
 use lib.Count.{trailing_le}
@@ -12,6 +11,7 @@ use Rattle.walk.proofs.members.Members.next.Lts as lts
 use Rattle.walk.proofs.members.Members.next.Reads as reads
 use Rattle.walk.proofs.members.Members.next.Tie as tie
 use Rattle.walk.proofs.members.Members.next.Goals as goal
+use Rattle.walk.proofs.members.Members.next.Goals.{then-word-eq0, else-word-eq0}
 
 abbrev AtJoined1 : Type 0
 AtJoined1 = lts.Joined1 tie.the-claims reads.Pre reads.Post goal.the-invariant-loop-word goal.the-decreases-loop-word
@@ -36,14 +36,14 @@ begins c =
     let g = c.before.before in
     let self = g.args.self in
     let at : ℕ → ℕ → List ℕ = λ i word. left (set g) (record { at = i; word = word }) in
-    ⊎_elim
-    (λ w.
-    let none = w.0.taken in (
-      ap (at self.at) none ∙ w.1.ensures.0 ∙ ap (λ (i : ℕ). at i 0) (sym w.2) ∙ ap (at c.if-word-eq0.at) (sym none),
-      omega (arith, w.1.ensures.1, w.2),
-    ))
-    (λ w. (ap (λ (i : ℕ). at i self.word) (sym w.1), omega (arith, w.1, g.requires.2)))
-    c.if-word-eq0.branch
+    elim c.if-word-eq0.branch [
+      | then-word-eq0 w ↦
+          let none = w.if-word-eq0.true in (
+            ap (at self.at) none ∙ w.pass_over-at.ensures.0 ∙ ap (λ (i : ℕ). at i 0) (sym w.at-is) ∙ ap (at c.if-word-eq0.at) (sym none),
+            omega (arith, w.pass_over-at.ensures.1, w.at-is),
+          )
+      | else-word-eq0 w ↦ (ap (λ (i : ℕ). at i self.word) (sym w.at-is), omega (arith, w.at-is, g.requires.2))
+    ]
 
 pub loop-word-init : goal.loop-word-init
 loop-word-init c = (refl, (begins c.before).1, search rules)
