@@ -1,11 +1,11 @@
 -- `highest` meets its contract. The loop's invariant: no number passed is above the highest.
-use mathlib.Core.Logic.{⊎_elim}
 use Prim.Native.Nat.{◌-◌}
 use native.Mathlib.Omega.{arith}
 use borrow.Author.Count.{below_none}
 use Rattle.table_checks.specs.Well.{none_above_more}
 use borrow.Author.Rules.{rules}
 use Rattle.table_checks.proofs.scan.highest.Goals as goal
+use Rattle.table_checks.proofs.scan.highest.Goals.{then-highest-number, else-highest-number}
 
 pub loop-i-init : goal.loop-i-init
 loop-i-init c = (search rules, search rules, below_none _)
@@ -16,9 +16,7 @@ loop-i-preserved c =
     let passed = none_above_more turn.loop-i.i turn.loop-i.highest c.if-highest-number.highest turn.args.numbers.now turn.loop-i.invariant.2 in (
       search rules,
       search rules,
-      ⊎_elim (λ came. passed (omega (arith, came.0.taken, came.1)) (omega (arith, came.1)))
-          (λ came. passed (omega (arith, came.1)) (omega (arith, came.0.left, came.1)))
-          c.if-highest-number.branch,
+      elim c.if-highest-number.branch [ then-highest-number came ↦ passed (omega (arith, came.if-highest-number.true, came.highest-is)) (omega (arith, came.highest-is)) | else-highest-number came ↦ passed (omega (arith, came.highest-is)) (omega (arith, came.if-highest-number.false, came.highest-is)) ],
     )
 
 pub returns : goal.returns
