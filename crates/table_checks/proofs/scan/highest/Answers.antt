@@ -16,7 +16,12 @@ loop-i-preserved c =
     let passed = none_above_more turn.loop-i.i turn.loop-i.highest c.if-highest-number.highest turn.args.numbers.now turn.loop-i.invariant.2 in (
       search rules,
       search rules,
-      elim c.if-highest-number.branch [ then-highest-number came ↦ passed (omega (arith, came.if-highest-number.true, came.highest-is)) (omega (arith, came.highest-is)) | else-highest-number came ↦ passed (omega (arith, came.highest-is)) (omega (arith, came.if-highest-number.false, came.highest-is)) ],
+      elim c.if-highest-number.branch [
+        | then-highest-number came ↦
+            passed (omega (arith, came.if-highest-number.true, came.highest-is)) (omega (arith, came.highest-is))
+        | else-highest-number came ↦
+            passed (omega (arith, came.highest-is)) (omega (arith, came.if-highest-number.false, came.highest-is))
+      ],
     )
 
 pub returns : goal.returns

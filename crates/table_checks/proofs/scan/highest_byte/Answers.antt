@@ -16,7 +16,12 @@ loop-i-preserved c =
     let passed = none_above_more turn.loop-i.i turn.loop-i.highest c.if-highest-byte.highest turn.args.bytes.now turn.loop-i.invariant.2 in (
       search rules,
       search rules,
-      elim c.if-highest-byte.branch [ then-highest-byte came ↦ passed (omega (arith, came.if-highest-byte.true, came.highest-is)) (omega (arith, came.highest-is)) | else-highest-byte came ↦ passed (omega (arith, came.highest-is)) (omega (arith, came.if-highest-byte.false, came.highest-is)) ],
+      elim c.if-highest-byte.branch [
+        | then-highest-byte came ↦
+            passed (omega (arith, came.if-highest-byte.true, came.highest-is)) (omega (arith, came.highest-is))
+        | else-highest-byte came ↦
+            passed (omega (arith, came.highest-is)) (omega (arith, came.if-highest-byte.false, came.highest-is))
+      ],
     )
 
 pub returns : goal.returns

@@ -16,7 +16,12 @@ loop-v-preserved c =
     let offsets = turn.args.offsets.now in (
       search rules,
       λ none.
-          elim c.if-offsets-v.branch [ then-offsets-v came ↦ absurd (omega (arith, came.some-is, none)) | else-offsets-v came ↦ rises_more turn.loop-v.v offsets (turn.loop-v.invariant.1 (omega (arith, came.some-is, none))) (omega (arith, came.if-offsets-v.false)) ],
+          elim c.if-offsets-v.branch [
+            | then-offsets-v came ↦
+                absurd (omega (arith, came.some-is, none))
+            | else-offsets-v came ↦
+                rises_more turn.loop-v.v offsets (turn.loop-v.invariant.1 (omega (arith, came.some-is, none))) (omega (arith, came.if-offsets-v.false))
+          ],
     )
 
 pub returns : goal.returns
