@@ -14,7 +14,7 @@ use mathlib.Core.Path.{◌≡◌}
 use Prim.Native.Nat.{ℕ, zero, suc}
 use lib.Dec.{T as Holds}
 use seplogic.Ra.Ura.{Ura}
-use seplogic.Ra.TreeShare.{full_share}
+use base.Fraction.{full_share}
 use mir.Syntax.{Ty, Local, local, Rv as Right, Opd as Operand, Body as Code, place, copy, assign, seq, skip, cond, exit}
 use mir.Val.{Val, vbool}
 use base.Logic.{SProp, ent, sep, id⊢, via, mono_l, mono_r, assoc∗, assoc', comm∗}
