@@ -1,5 +1,4 @@
 -- `put_winners` meets its contract. The loop's invariant: the winners of the vertices passed are put.
-use mathlib.Core.Logic.{⊎_elim}
 use mathlib.Core.Path.{◌≡◌, sym, subst, ◌∙◌}
 use Prim.Native.Nat.{ℕ, ◌+◌, ◌-◌, ◌<◌}
 use native.Mathlib.Omega.{arith}
@@ -12,6 +11,7 @@ use Rattle.putting.proofs.put.put_winners.Lts as lts
 use Rattle.putting.proofs.put.put_winners.Reads as reads
 use Rattle.putting.proofs.put.put_winners.Tie as tie
 use Rattle.putting.proofs.put.put_winners.Goals as goal
+use Rattle.putting.proofs.put.put_winners.Goals.{then-contains, else-contains}
 
 abbrev AtAtLoop : Type 0
 AtAtLoop = lts.At-loop tie.the-claims reads.Pre reads.Post goal.the-invariant-loop-v goal.the-decreases-loop-v
@@ -48,10 +48,12 @@ digit_is c =
     let n = (start at).args.n in
     let odd = set_of (start at).args.odd.now in
     let less : at.loop-v.v < n = omega arith in
-    ⊎_elim
-    (λ w. w.1 ∙ winner_odd n odd at.loop-v.v less (sym c.contains.ensures ∙ w.0.taken))
-    (λ w. w.1 ∙ winner_even n odd at.loop-v.v less (sym c.contains.ensures ∙ w.0.left))
-    c.if-contains.branch
+    elim c.if-contains.branch [
+      | then-contains w ↦
+          w.digit-is ∙ winner_odd n odd at.loop-v.v less (sym c.contains.ensures ∙ w.if-contains.true)
+      | else-contains w ↦
+          w.digit-is ∙ winner_even n odd at.loop-v.v less (sym c.contains.ensures ∙ w.if-contains.false)
+    ]
 
 pub loop-v-preserved : goal.loop-v-preserved
 loop-v-preserved c =
