@@ -1,10 +1,10 @@
 -- `begin_layers` meets its contract. The invariant: so far the first i words, with their marks.
 use Prim.Native.Nat.{◌-◌}
-use mathlib.Core.Logic.{⊎_elim}
 use native.Mathlib.Omega.{arith}
 use lib.ListN.{length-set}
 use Rattle.attractor_begin.specs.LayersBegin.{beginning_none, more_some, more_none, layers_begun}
 use Rattle.attractor_begin.proofs.begin.begin_layers.Goals as goal
+use Rattle.attractor_begin.proofs.begin.begin_layers.Goals.{then-word-ne0, else-word-ne0}
 
 pub loop-i-init : goal.loop-i-init
 loop-i-init c = beginning_none
@@ -23,10 +23,10 @@ loop-i-preserved c =
     let l = d.loop-i in
     let second = p.behind_layer-second.ensures in
     let met = p.behind_layer-met.ensures in
-    ⊎_elim
-    (λ y. rw (y.1, met, second) (more_some given l.invariant d.loop-i-test.true y.0.taken))
-    (λ y. rw (y.1, met, second) (more_none given l.invariant d.loop-i-test.true y.0.left))
-    c.if-word-ne0.branch
+    elim c.if-word-ne0.branch [
+      | then-word-ne0 y ↦ rw (y.marks-is, met, second) (more_some given l.invariant d.loop-i-test.true y.if-word-ne0.true)
+      | else-word-ne0 y ↦ rw (y.marks-is, met, second) (more_none given l.invariant d.loop-i-test.true y.if-word-ne0.false)
+    ]
 
 pub bounds-work-marks_at-2 : goal.bounds-work-marks_at-2
 bounds-work-marks_at-2 c = simp length-set (omega arith)
