@@ -15,7 +15,7 @@ abbrev AtAfterContains : Type 0
 AtAfterContains = lts.After-contains tie.the-claims reads.Pre reads.Post
 
 abbrev AtAfterCounters : Type 0
-AtAfterCounters = lts.After-counters tie.the-claims reads.Pre reads.Post
+AtAfterCounters = lts.After-contains-arg tie.the-claims reads.Pre reads.Post
 
 abbrev AtElse1 : Type 0
 AtElse1 = lts.Else1 tie.the-claims reads.Pre reads.Post
@@ -28,10 +28,10 @@ AtThen1 = lts.Then1 tie.the-claims reads.Pre reads.Post
 
 -- where the function begins, and where the places are known
 abbrev start_of : AtAfterCounters → AtStart
-start_of c = c.before.before.before.before.before
+start_of c = c.before.before.before.before.before.before
 
 abbrev placed : AtAfterContains → AtAfterCounters
-placed c = c.before.before.before
+placed c = c.before
 
 -- whether v was met
 was_met :
@@ -58,7 +58,7 @@ met-met-requires c =
     (g.requires.size, small)
 
 pub contains-requires : goal.contains-requires
-contains-requires c = let k = c.before.before.before in met_bit (start_of k).requires k.met-met.ensures k.counters.ensures
+contains-requires c = let k = c.before in met_bit (start_of k).requires k.met-met.ensures k.counters.ensures
 
 pub overflow_sub-left : goal.overflow_sub-left
 overflow_sub-left c =
@@ -77,22 +77,22 @@ insert-requires c =
 pub inside_edges-left-requires : goal.inside_edges-left-requires
 inside_edges-left-requires c =
     let i = c.before.before.before.before.before in
-    let e = i.before.before in
+    let e = i.before in
     let k = placed e.before in
-    inside_ready (start_of k).requires k.met-met.ensures k.counters.ensures (was_new e) i.insert.new.set i.insert.ensures
+    inside_ready (start_of k).requires k.met-met.ensures k.counters.ensures (was_new e) c.insert.new.set c.insert.ensures
 
 pub overflow_sub-left-2 : goal.overflow_sub-left-2
 overflow_sub-left-2 c =
     let i = c.before.before.before.before.before.before in
-    let e = i.before.before in
+    let e = i.before in
     let k = placed e.before in
-    new_some (start_of k).requires k.met-met.ensures k.counters.ensures (was_new e) i.insert.new.set i.insert.ensures
+    new_some (start_of k).requires k.met-met.ensures k.counters.ensures (was_new e) c.insert.new.set c.insert.ensures
     c.inside_edges-left.result c.inside_edges-left.ensures
 
 pub returns : goal.returns
 returns c =
     let i = c.before.before.before.before.before.before in
-    let e = i.before.before in
+    let e = i.before in
     let k = placed e.before in
-    new_down (start_of k).requires k.met-met.ensures k.counters.ensures (was_new e) i.insert.new.set i.insert.ensures
+    new_down (start_of k).requires k.met-met.ensures k.counters.ensures (was_new e) c.insert.new.set c.insert.ensures
     c.inside_edges-left.result c.inside_edges-left.ensures

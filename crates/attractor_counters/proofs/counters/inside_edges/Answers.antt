@@ -1,6 +1,5 @@
 -- `inside_edges` meets its contract: the count is that of the edges of v before edge e that end inside.
 use Prim.Native.Nat.{◌-◌}
-use mathlib.Core.Logic.{⊎_elim}
 use mathlib.Core.Path.{sym, ◌∙◌}
 use native.Mathlib.Omega.{arith}
 use lib.ListN.{get_or}
@@ -12,6 +11,7 @@ use Rattle.attractor_counters.proofs.counters.inside_edges.Lts as lts
 use Rattle.attractor_counters.proofs.counters.inside_edges.Reads as reads
 use Rattle.attractor_counters.proofs.counters.inside_edges.Tie as tie
 use Rattle.attractor_counters.proofs.counters.inside_edges.Goals as goal
+use Rattle.attractor_counters.proofs.counters.inside_edges.Goals.{then-contains, else-contains}
 
 abbrev AtAtLoop : Type 0
 AtAtLoop = lts.At-loop tie.the-claims reads.Pre reads.Post goal.the-invariant-loop-e goal.the-decreases-loop-e
@@ -50,14 +50,16 @@ loop-e-preserved c =
     let old = l.invariant.3 in
     let low = l.invariant.0 in
     let few = l.invariant.2 in
-    ⊎_elim
-    (λ y.
-    let one = flag_one (set_of a.set.now (get_or a.targets.now l.e 0)) (sym found ∙ y.0.taken) in
-    (omega arith, omega arith, omega arith, omega arith))
-    (λ y.
-    let none = flag_zero (set_of a.set.now (get_or a.targets.now l.e 0)) (sym found ∙ y.0.left) in
-    (omega arith, omega arith, omega arith, omega arith))
-    c.if-contains.branch
+    elim c.if-contains.branch [
+      | then-contains y ↦
+          let one = flag_one (set_of a.set.now (get_or a.targets.now l.e 0)) (sym found ∙ y.if-contains.true) in
+          let now = y.inside-is in
+          (omega arith, omega arith, omega arith, omega arith)
+      | else-contains y ↦
+          let none = flag_zero (set_of a.set.now (get_or a.targets.now l.e 0)) (sym found ∙ y.if-contains.false) in
+          let now = y.inside-is in
+          (omega arith, omega arith, omega arith, omega arith)
+    ]
 
 pub returns : goal.returns
 returns c =
