@@ -26,7 +26,7 @@ abbrev start : AtAfterMarks → AtStart
 start c = c.before.before.before.before.before.before
 
 abbrev row_of : AtAfterNextEdge → AtAfterMarks
-row_of c = c.before.before.before
+row_of c = c.before.before
 
 abbrev graph_of : AtStart → Graph
 graph_of s = graph s.args.priorities.now s.args.offsets.now s.args.targets.now s.args.entries.now s.args.p
@@ -46,7 +46,7 @@ pub overflow_sub-from : goal.overflow_sub-from
 overflow_sub-from c = rw (row_is c.before.before) (search rules)
 
 pub next_edge-e-requires : goal.next_edge-e-requires
-next_edge-e-requires c = rw (row_is c.before.before.before) (search rules)
+next_edge-e-requires c = rw (row_is c.before.before) (search rules)
 
 pub overflow_cast-y : goal.overflow_cast-y
 overflow_cast-y c = omega (arith, c.shared_slice_known-then-e-offsets-1.given c.next_edge-e.result)
@@ -63,7 +63,7 @@ push-requires c =
 pub shape_of-work-then-e-offsets : goal.shape_of-work-then-e-offsets
 shape_of-work-then-e-offsets c =
     let s = start (row_of c.before.before.before.before.before.before.before.before.before) in
-    c.push.auto.1.1.0 ∙ length-set s.args.work.now _ _
+    c.push.auto.work ∙ length-set s.args.work.now _ _
 
 pub returns-then-e-offsets : goal.returns-then-e-offsets
 returns-then-e-offsets c =

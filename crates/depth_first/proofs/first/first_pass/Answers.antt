@@ -1,5 +1,4 @@
 -- `first_pass` meets its contract. The loop's invariant: the roots below r were searched from.
-use mathlib.Core.Logic.{⊎_elim}
 use mathlib.Core.Path.{refl, sym, ◌∙◌}
 use Prim.Native.Nat.{◌-◌, ◌<◌}
 use lib.ListN.{length}
@@ -11,6 +10,7 @@ use Rattle.depth_first.proofs.first.first_pass.Lts as lts
 use Rattle.depth_first.proofs.first.first_pass.Reads as reads
 use Rattle.depth_first.proofs.first.first_pass.Tie as tie
 use Rattle.depth_first.proofs.first.first_pass.Goals as goal
+use Rattle.depth_first.proofs.first.first_pass.Goals.{then-is_fresh, else-is_fresh}
 
 abbrev AtAfterMarks : Type 0
 AtAfterMarks = lts.After-marks tie.the-claims reads.Pre reads.Post goal.the-invariant-loop-r goal.the-decreases-loop-r
@@ -35,7 +35,7 @@ loop-r-init c =
 
 pub is_fresh-requires : goal.is_fresh-requires
 is_fresh-requires c =
-    let l = c.before.before.before in
+    let l = c.before.before in
     let start = (row_of l).before.before.before.before.before.before in (
       search rules,
       omega (arith, (row_of l).marks-marks.ensures, start.requires.room, l.loop-r.invariant.1.long),
@@ -43,7 +43,7 @@ is_fresh-requires c =
 
 pub search_from-done-requires : goal.search_from-done-requires
 search_from-done-requires c =
-    let a = c.before.before.before.before.before.before in
+    let a = c.before.before.before.before.before in
     let s = (row_of a).before.before.before.before.before.before in
     let l = a.loop-r in
     root_ready (graph_of s) s.args.work.now s.requires l.work l.r l.done l.invariant.1 (omega arith)
@@ -51,21 +51,21 @@ search_from-done-requires c =
 
 pub loop-r-preserved : goal.loop-r-preserved
 loop-r-preserved c =
-    let a = c.before.before.before.before.before in
+    let a = c.before.before.before.before in
     let s = (row_of a).before.before.before.before.before.before in
     let l = a.loop-r in
     let more : l.r < length s.args.priorities.now = omega arith in (
       refl,
-      ⊎_elim
-          (λ w.
-          rooting_as w.5 w.6
-          (root_searched (graph_of s) s.args.work.now s.requires l.work l.r l.done l.invariant.1 more
-          w.2.new.1.1.1.1.1.0 w.2.result w.2.ensures))
-          (λ w.
-          rooting_as w.1 w.2
-          (root_passes (graph_of s) s.args.work.now s.requires l.work l.r l.done l.invariant.1 more
-          (rw (row_of a).marks-marks.ensures at (sym c.is_fresh.ensures ∙ w.0.left))))
-          c.if-is_fresh.branch,
+      elim c.if-is_fresh.branch [
+        | then-is_fresh w ↦
+            rooting_as w.work-is w.done-is
+            (root_searched (graph_of s) s.args.work.now s.requires l.work l.r l.done l.invariant.1 more
+            w.search_from-done.new.work w.search_from-done.result w.search_from-done.ensures)
+        | else-is_fresh w ↦
+            rooting_as w.work-is w.done-is
+            (root_passes (graph_of s) s.args.work.now s.requires l.work l.r l.done l.invariant.1 more
+            (rw (row_of a).marks-marks.ensures at (sym c.is_fresh.ensures ∙ w.if-is_fresh.false)))
+      ],
     )
 
 pub shape_of-work : goal.shape_of-work
