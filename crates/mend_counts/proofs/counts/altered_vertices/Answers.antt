@@ -1,5 +1,4 @@
 -- `altered_vertices` meets its contract. The loop's invariant: the vertices passed that keep no edge are counted.
-use mathlib.Core.Logic.{⊎_elim}
 use mathlib.Core.Path.{◌≡◌, refl, sym}
 use Prim.Native.Nat.{◌-◌}
 use native.Mathlib.Omega.{arith}
@@ -15,6 +14,7 @@ use Rattle.mend_counts.proofs.counts.altered_vertices.Lts as lts
 use Rattle.mend_counts.proofs.counts.altered_vertices.Reads as reads
 use Rattle.mend_counts.proofs.counts.altered_vertices.Tie as tie
 use Rattle.mend_counts.proofs.counts.altered_vertices.Goals as goal
+use Rattle.mend_counts.proofs.counts.altered_vertices.Goals.{then-kept_edges-eq0, else-kept_edges-eq0}
 
 abbrev AtStart : Type 0
 AtStart = lts.Start tie.the-claims reads.Pre reads.Post goal.the-invariant-loop-v goal.the-decreases-loop-v
@@ -42,12 +42,12 @@ loop-v-preserved c =
     let kept = c.kept_edges in (
       search rules,
       search rules,
-      ⊎_elim
-          (λ w.
-          rw (w.1, at.loop-v.invariant.2) (altered_one_more t v (alone_altered t v kept.result kept.ensures w.0.taken)))
-          (λ w.
-          rw (w.1, at.loop-v.invariant.2) (altered_none_more t v (kept_unaltered t v kept.result kept.ensures w.0.left)))
-          c.if-kept_edges-eq0.branch,
+      elim c.if-kept_edges-eq0.branch [
+        | then-kept_edges-eq0 w ↦
+            rw (w.alone-is, at.loop-v.invariant.2) (altered_one_more t v (alone_altered t v kept.result kept.ensures w.if-kept_edges-eq0.true))
+        | else-kept_edges-eq0 w ↦
+            rw (w.alone-is, at.loop-v.invariant.2) (altered_none_more t v (kept_unaltered t v kept.result kept.ensures w.if-kept_edges-eq0.false))
+      ],
     )
 
 pub returns : goal.returns

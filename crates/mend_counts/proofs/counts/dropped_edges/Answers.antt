@@ -1,6 +1,5 @@
 -- `dropped_edges` meets its contract. The loop's invariant: those passed that lead to no vertex are counted.
 use mathlib.Core.List.{[]}
-use mathlib.Core.Logic.{⊎_elim}
 use mathlib.Core.Path.{◌≡◌, refl, sym, ap}
 use Prim.Native.Nat.{◌-◌}
 use native.Mathlib.Omega.{arith}
@@ -11,6 +10,7 @@ use Rattle.mend_counts.specs.Bare.{bare}
 use Rattle.mend_counts.specs.Steps.{dropped_one_more, dropped_skip, dropped_few}
 use borrow.Author.Rules.{rules}
 use Rattle.mend_counts.proofs.counts.dropped_edges.Goals as goal
+use Rattle.mend_counts.proofs.counts.dropped_edges.Goals.{then-n-targets, else-n-targets}
 
 pub loop-e-init : goal.loop-e-init
 unfolding dropped_up_to
@@ -33,14 +33,14 @@ loop-e-preserved c =
     let e = at.loop-e.e in (
       search rules,
       search rules,
-      ⊎_elim
-          (λ w.
-          let gone = le-ltb (get_or t.targets e 0) (length t.owners) (omega (arith, w.0.taken)) in
-          rw (w.1, at.loop-e.invariant.2) (dropped_one_more t e gone))
-          (λ w.
-          let kept = lt-ltb (get_or t.targets e 0) (length t.owners) (omega (arith, w.0.left)) in
-          rw (w.1, at.loop-e.invariant.2) (sym (ap length (dropped_skip t e kept))))
-          c.if-n-targets.branch,
+      elim c.if-n-targets.branch [
+        | then-n-targets w ↦
+            let gone = le-ltb (get_or t.targets e 0) (length t.owners) (omega (arith, w.if-n-targets.true)) in
+            rw (w.dropped-is, at.loop-e.invariant.2) (dropped_one_more t e gone)
+        | else-n-targets w ↦
+            let kept = lt-ltb (get_or t.targets e 0) (length t.owners) (omega (arith, w.if-n-targets.false)) in
+            rw (w.dropped-is, at.loop-e.invariant.2) (sym (ap length (dropped_skip t e kept)))
+      ],
     )
 
 pub returns : goal.returns

@@ -1,5 +1,4 @@
 -- `kept_edges` meets its contract. The loop's invariant: of the edges passed those that lead to a vertex are counted.
-use mathlib.Core.Logic.{⊎_elim}
 use mathlib.Core.Path.{◌≡◌, sym, ap, ◌∙◌}
 use Prim.Native.Nat.{◌+◌, ◌-◌}
 use native.Mathlib.Omega.{arith}
@@ -13,6 +12,7 @@ use borrow.Author.Rules.{rules}
 use Rattle.mend_counts.proofs.counts.kept_edges.Lts as lts
 use Rattle.mend_counts.proofs.counts.kept_edges.Reads as reads
 use Rattle.mend_counts.proofs.counts.kept_edges.Goals as goal
+use Rattle.mend_counts.proofs.counts.kept_edges.Goals.{then-targets-e, else-targets-e}
 
 abbrev AtStart : Type 0
 AtStart = lts.Start reads.Pre reads.Post goal.the-invariant-loop-e goal.the-decreases-loop-e
@@ -70,13 +70,13 @@ loop-e-preserved c =
       search rules,
       search rules,
       at.loop-e.invariant.3,
-      ⊎_elim
-          (λ w.
-          rw (w.1, at.loop-e.invariant.4) (kept_one_more t from e at.loop-e.invariant.0 (omega arith) (lt-ltb _ _ w.0.taken)))
-          (λ w.
-          rw (w.1, at.loop-e.invariant.4)
-          (sym (ap length (kept_skip t from e at.loop-e.invariant.0 (omega arith) (le-ltb _ _ w.0.left)))))
-          c.if-targets-e.branch,
+      elim c.if-targets-e.branch [
+        | then-targets-e w ↦
+            rw (w.kept-is, at.loop-e.invariant.4) (kept_one_more t from e at.loop-e.invariant.0 (omega arith) (lt-ltb _ _ w.if-targets-e.true))
+        | else-targets-e w ↦
+            rw (w.kept-is, at.loop-e.invariant.4)
+            (sym (ap length (kept_skip t from e at.loop-e.invariant.0 (omega arith) (le-ltb _ _ w.if-targets-e.false))))
+      ],
     )
 
 pub returns : goal.returns

@@ -39,7 +39,7 @@ new_priority-requires c = ((start c.before.before).requires.0, omega arith)
 room :
     (c : AtAfterNewPriority) →
     let at = c.before.before in
-    (at.loop-v.v < length (start at).args.new-priorities.now) × (at.loop-v.v < length at.loop-v.new-priorities)
+    (at.loop-v.v < length (start at).args.new_priorities.now) × (at.loop-v.v < length at.loop-v.new_priorities)
 room c =
     let at = c.before.before in
     let long = written_length _ _ _ _ _ at.loop-v.invariant.2 in
@@ -55,7 +55,7 @@ loop-v-preserved c =
       search rules,
       search rules,
       rw c.new_priority.ensures
-          (written_listed (new_priority t) (start at).args.new-priorities.now at.loop-v.new-priorities at.loop-v.v
+          (written_listed (new_priority t) (start at).args.new_priorities.now at.loop-v.new_priorities at.loop-v.v
           at.loop-v.invariant.2
           (room c.before).0),
     )
@@ -70,6 +70,6 @@ returns c =
     let t = tables (start at) in
     let all : at.loop-v.v ≡ length t.owners = omega arith in
     rw (sym all)
-    (written_front (listed at.loop-v.v (new_priority t)) (start at).args.new-priorities.now at.loop-v.new-priorities
+    (written_front (listed at.loop-v.v (new_priority t)) (start at).args.new_priorities.now at.loop-v.new_priorities
     at.loop-v.v
     at.loop-v.invariant.2)
