@@ -1,5 +1,4 @@
 -- `lowest_inside` meets its contract: the lowest end inside the set of the edges before place e.
-use mathlib.Core.Logic.{⊎_elim}
 use mathlib.Core.Path.{sym, subst, ◌∙◌}
 use Prim.Native.Nat.{◌+◌, ◌-◌}
 use native.Mathlib.Omega.{arith}
@@ -10,6 +9,7 @@ use Rattle.successors.proofs.inside.lowest_inside.Lts as lts
 use Rattle.successors.proofs.inside.lowest_inside.Reads as reads
 use Rattle.successors.proofs.inside.lowest_inside.Tie as tie
 use Rattle.successors.proofs.inside.lowest_inside.Goals as goal
+use Rattle.successors.proofs.inside.lowest_inside.Goals.{then-w-lowest+then-contains, then-w-lowest+else-contains, else-w-lowest}
 
 abbrev AtAtLoop : Type 0
 AtAtLoop = lts.At-loop tie.the-claims reads.Pre reads.Post goal.the-invariant-loop-e goal.the-decreases-loop-e
@@ -40,18 +40,16 @@ loop-e-preserved c =
     let a = g.args in
     let more = c.loop-e-test.true in
     let To = LowestTo a.n a.offsets.now a.targets.now a.vertex.0 (set_of a.set.now) (l.loop-e.e + 1) in
-    ⊎_elim
-    (λ y.
-    subst To (sym y.3)
-    (lowest_new g.requires a.n l.loop-e.invariant more (omega (arith, y.0.taken)) (sym y.1.ensures ∙ y.2.taken)))
-    (λ z.
-    ⊎_elim
-    (λ y.
-    subst To (sym y.3)
-    (lowest_same g.requires a.n l.loop-e.invariant more (λ i. absurd (clash i (sym y.1.ensures ∙ y.2.left)))))
-    (λ y. subst To (sym y.1) (lowest_same g.requires a.n l.loop-e.invariant more (λ i. omega (arith, y.0.left))))
-    z)
-    c.if-w-lowest.branch
+    elim c.if-w-lowest.branch [
+      | then-w-lowest+then-contains y ↦
+          subst To (sym y.lowest-is)
+          (lowest_new g.requires a.n l.loop-e.invariant more (omega (arith, y.if-w-lowest.true)) (sym y.contains.ensures ∙ y.if-contains.true))
+      | then-w-lowest+else-contains y ↦
+          subst To (sym y.lowest-is)
+          (lowest_same g.requires a.n l.loop-e.invariant more (λ i. absurd (clash i (sym y.contains.ensures ∙ y.if-contains.false))))
+      | else-w-lowest y ↦
+          subst To (sym y.lowest-is) (lowest_same g.requires a.n l.loop-e.invariant more (λ i. omega (arith, y.if-w-lowest.false)))
+    ]
 
 pub returns : goal.returns
 returns c =
