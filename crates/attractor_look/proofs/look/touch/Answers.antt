@@ -2,7 +2,7 @@
 use mathlib.Core.Bool.{true, false, ◌&&◌, not}
 use mathlib.Core.Path.{◌≡◌, sym, ap₂, ◌∙◌}
 use Prim.Native.Nat.{ℕ, ◌+◌}
-use borrow.Author.Tests.{not-true, not-false, eq-eqb, ne_eqb}
+use borrow.Author.Tests.{not-true, eq-eqb, ne_eqb}
 use lib.ListN.{length, set}
 use Rattle.rules.specs.Counting.{Set}
 use Rattle.basics.specs.Basics.{and_left, and_right}
@@ -63,7 +63,7 @@ abbrev state : AtStart → State
 state c = state_at (counts c) (n c) (m c) c.args.set c.args.next c.args.work.now
 
 abbrev at1 : AtAfterInDifference → AtStart
-at1 c = c.before.before.before.before.before.before.before.before
+at1 c = c.before.before.before.before.before.before.before
 
 abbrev at2 : AtAfterSharedSliceKnown4 → AtStart
 at2 c = at1 c.before.before
@@ -83,7 +83,7 @@ is_new c =
 
 new : (c : AtElse1) → (inside (at1 c.before) (at1 c.before).args.v && not ((state (at1 c.before)).members (at1
     c.before).args.v)) ≡ true
-new c = sym (is_new c.before) ∙ not-false _ c.if-not-in_difference.false
+new c = sym (is_new c.before) ∙ c.if-not-in_difference.false
 
 in2 : (c : AtAfterSharedSliceKnown4) → inside (at2 c) (at2 c).args.v ≡ true
 in2 c = and_left _ _ (new c.before)
@@ -122,7 +122,7 @@ count_given c =
 
 pub in_difference-requires : goal.in_difference-requires
 in_difference-requires c =
-    let g = c.before.before.before.before.before.before.before.before in
+    let g = c.before.before.before.before.before.before.before in
     let a = g.args in (
       bit_fits (n g) a.s a.within a.v a.work.now g.requires.size g.requires.placed.within_high g.requires.safe.below,
       bit_fits (n g) a.s a.set a.v a.work.now g.requires.size g.requires.placed.set_high g.requires.safe.below,
@@ -135,7 +135,7 @@ returns-then-not-in_difference c =
     (touched (inside g) (own g) g.args.w g.args.far g.args.v)
     (becomes_same (counts g) (n g) (m g) g.args.set g.args.next g.args.work.now)
     (touched_passed (inside g) (own g) g.args.w g.args.far g.args.v (state g) (sym (is_new c.before.before) ∙
-    not-true _ c.if-not-in_difference.true))
+    c.if-not-in_difference.true))
 
 pub join-requires : goal.join-requires
 join-requires c =
