@@ -10,14 +10,14 @@ returns-then-kept-ne-KEPT c = simp (ne_eqb _ _ c.if-kept-ne-KEPT.true)
 pub returns-in-Sizes : goal.returns-in-Sizes
 returns-in-Sizes c =
     simp (eq-eqb _ _ c.if-kept-ne-KEPT.false)
-    (ap fits_said (sym c.enum_told-1.given.1) ∙ c.check_rooms.ensures)
+    (ap fits_said (sym c.in-Sizes.is) ∙ c.check_rooms.ensures)
 
 pub returns-in-Work : goal.returns-in-Work
 returns-in-Work c =
     simp (eq-eqb _ _ c.if-kept-ne-KEPT.false)
-    (ap fits_said (sym c.enum_told-in-Work-1.given.1) ∙ c.check_rooms.ensures)
+    (ap fits_said (sym c.in-Work.is) ∙ c.check_rooms.ensures)
 
 pub returns-in-Fit : goal.returns-in-Fit
 returns-in-Fit c =
     simp (eq-eqb _ _ c.if-kept-ne-KEPT.false)
-    (ap fits_said (sym c.enum_told-in-Fit-1.given.1) ∙ c.check_rooms.ensures)
+    (ap fits_said (sym c.in-Fit.is) ∙ c.check_rooms.ensures)
