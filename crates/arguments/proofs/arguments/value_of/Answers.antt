@@ -19,7 +19,7 @@ pub loop-i-init : goal.loop-i-init
 loop-i-init c = (search rules, valued_none c.requires.0 c.requires.1)
 
 pub overflow_mul-value : goal.overflow_mul-value
-overflow_mul-value c = omega (arith, valued_fits c.loop-i.invariant.1 (less c))
+overflow_mul-value c = omega (arith, valued_fits c.loop-i.invariant.1 (less c.before))
 
 pub bounds-digits-i : goal.bounds-digits-i
 bounds-digits-i c = less c.before.before
