@@ -12,7 +12,7 @@ use Rattle.promotion_sets.proofs.level.forget.Tie as tie
 use Rattle.promotion_sets.proofs.level.forget.Goals as goal
 
 abbrev AtAfterKnownTold : Type 0
-AtAfterKnownTold = lts.After-known_told tie.the-claims reads.Pre reads.Post goal.the-invariant-loop-member goal.the-decreases-loop-member
+AtAfterKnownTold = lts.Past-After-known_told tie.the-claims reads.Pre reads.Post goal.the-invariant-loop-member goal.the-decreases-loop-member
 
 abbrev AtAtLoop : Type 0
 AtAtLoop = lts.At-loop tie.the-claims reads.Pre reads.Post goal.the-invariant-loop-member goal.the-decreases-loop-member
@@ -22,17 +22,17 @@ AtStart = lts.Start tie.the-claims reads.Pre reads.Post goal.the-invariant-loop-
 
 -- where the function begins, and the loop's head of a turn
 abbrev start_of : AtAtLoop → AtStart
-start_of c = c.before.before.before.before
+start_of c = c.before.before.before
 
 abbrev turn : AtAfterKnownTold → AtAtLoop
-turn c = c.before.before.before.before.before
+turn c = c.before.before
 
 -- the vertex that the walk came to, and the walk after it
 abbrev vertex : AtAfterKnownTold → ℕ
-vertex c = c.next-1.given.0.0.0
+vertex c = c.in-Member.member.0
 
 abbrev after : AtAfterKnownTold → Members
-after c = c.next-1.given.0.1.0
+after c = c.in-Member.rest
 
 reached :
     (c : AtAfterKnownTold) →
@@ -41,7 +41,7 @@ reached :
     Reached ((turn c).loop-member.invariant.1 n given) (vertex c) (after c)
 reached c n given =
     walked_next (forget_walkable given) ((turn c).loop-member.invariant.1 n given) c.next-next.ensures
-    c.next-1.given.1
+    c.in-Member.is
 
 -- its entry is a word of the work area
 stored_fits :
@@ -58,13 +58,13 @@ loop-member-init c = (refl, λ n given. walked_none (forget_walkable given) tt c
 
 pub next-next-requires : goal.next-next-requires
 next-next-requires c =
-    let d = c.before in
+    let d = c in
     let (n, given) = (start_of d).requires in walked_few (forget_walkable given) (d.loop-member.invariant.1 n given)
 
 pub returns-in_default : goal.returns-in_default
 returns-in_default c n given =
-    let d = c.before.before.before.before in
-    walked_all (forget_walkable given) (d.loop-member.invariant.1 n given) c.next-next.ensures c.enum_told-1.given.1
+    let d = c.before.before in
+    walked_all (forget_walkable given) (d.loop-member.invariant.1 n given) c.next-next.ensures c.in_default.is
 
 pub overflow_add-work : goal.overflow_add-work
 overflow_add-work c = omega (arith, stored_fits c, (turn c).loop-member.invariant.0, (start_of (turn c)).well_formed)
