@@ -11,7 +11,7 @@ use Rattle.highest_priority.proofs.highest.collect.Tie as tie
 use Rattle.highest_priority.proofs.highest.collect.Goals as goal
 
 abbrev AtAfterKnownTold : Type 0
-AtAfterKnownTold = lts.After-known_told tie.the-claims reads.Pre reads.Post goal.the-invariant-loop-member goal.the-decreases-loop-member
+AtAfterKnownTold = lts.Past-After-known_told tie.the-claims reads.Pre reads.Post goal.the-invariant-loop-member goal.the-decreases-loop-member
 
 abbrev AtAtLoop : Type 0
 AtAtLoop = lts.At-loop tie.the-claims reads.Pre reads.Post goal.the-invariant-loop-member goal.the-decreases-loop-member
@@ -21,40 +21,40 @@ AtStart = lts.Start tie.the-claims reads.Pre reads.Post goal.the-invariant-loop-
 
 -- where the function begins, and the loop's head of a turn
 abbrev start_of : AtAtLoop → AtStart
-start_of c = c.before.before.before.before.before
+start_of c = c.before.before.before.before
 
 abbrev turn : AtAfterKnownTold → AtAtLoop
-turn c = c.before.before.before.before.before
+turn c = c.before.before
 
 -- the vertex that the walk came to, and the walk after it
 abbrev vertex : AtAfterKnownTold → ℕ
-vertex c = c.next-1.given.0.0.0
+vertex c = c.in-Member.member.0
 
 abbrev after : AtAfterKnownTold → Members
-after c = c.next-1.given.0.1.0
+after c = c.in-Member.rest
 
 reached : (c : AtAfterKnownTold) → Reached (turn c).loop-member.invariant (vertex c) (after c)
 reached c =
     let g = start_of (turn c) in
     walked_next (collect_walkable g.args.priorities.now g.requires) (turn c).loop-member.invariant c.next-next.ensures
-    c.next-1.given.1
+    c.in-Member.is
 
 pub loop-member-init : goal.loop-member-init
 loop-member-init c =
-    let g = c.before.before.before.before.before in
+    let g = c.before.before.before.before in
     walked_none (collect_walkable g.args.priorities.now g.requires) (λ u l. g.requires.nothing u) c.new-walk.ensures
 
 pub next-next-requires : goal.next-next-requires
 next-next-requires c =
-    let d = c.before.before in
+    let d = c.before in
     let g = start_of d in walked_few (collect_walkable g.args.priorities.now g.requires) d.loop-member.invariant
 
 pub returns-in_default : goal.returns-in_default
 returns-in_default c =
-    let d = c.before.before.before.before.before in
+    let d = c.before.before.before in
     let g = start_of d in
     collecting_all g.args.priorities.now g.requires
-    (walked_all (collect_walkable g.args.priorities.now g.requires) d.loop-member.invariant c.next-next.ensures c.enum_told-1.given.1)
+    (walked_all (collect_walkable g.args.priorities.now g.requires) d.loop-member.invariant c.next-next.ensures c.in_default.is)
 
 pub offset_bounds-priorities-v : goal.offset_bounds-priorities-v
 offset_bounds-priorities-v c = omega (arith, (reached c.before).small, (start_of (turn c.before)).well_formed)

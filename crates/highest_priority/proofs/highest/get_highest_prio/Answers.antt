@@ -11,7 +11,7 @@ use Rattle.highest_priority.proofs.highest.get_highest_prio.Tie as tie
 use Rattle.highest_priority.proofs.highest.get_highest_prio.Goals as goal
 
 abbrev AtAfterKnownTold : Type 0
-AtAfterKnownTold = lts.After-known_told tie.the-claims reads.Pre reads.Post goal.the-invariant-loop-member goal.the-decreases-loop-member
+AtAfterKnownTold = lts.Past-After-known_told tie.the-claims reads.Pre reads.Post goal.the-invariant-loop-member goal.the-decreases-loop-member
 
 abbrev AtAtLoop : Type 0
 AtAtLoop = lts.At-loop tie.the-claims reads.Pre reads.Post goal.the-invariant-loop-member goal.the-decreases-loop-member
@@ -24,19 +24,19 @@ abbrev start_of : AtAtLoop → AtStart
 start_of c = c.before.before.before.before
 
 abbrev turn : AtAfterKnownTold → AtAtLoop
-turn c = c.before.before.before.before
+turn c = c.before.before
 
 -- the vertex that the walk came to, and the walk after it
 abbrev vertex : AtAfterKnownTold → ℕ
-vertex c = c.next-1.given.0.0.0
+vertex c = c.in-Member.member.0
 
 abbrev after : AtAfterKnownTold → Members
-after c = c.next-1.given.0.1.0
+after c = c.in-Member.rest
 
 reached : (c : AtAfterKnownTold) → Reached (turn c).loop-member.invariant.1.passed (vertex c) (after c)
 reached c =
     walked_next (start_of (turn c)).requires.walkable (turn c).loop-member.invariant.1.passed c.next-next.ensures
-    c.next-1.given.1
+    c.in-Member.is
 
 pub loop-member-init : goal.loop-member-init
 loop-member-init c = (search rules, searched_none c.requires c.new-walk.ensures)
@@ -46,8 +46,8 @@ next-next-requires c = walked_few (start_of c.before).requires.walkable c.loop-m
 
 pub returns-in_default : goal.returns-in_default
 returns-in_default c =
-    let d = c.before.before.before.before in
-    searched_all (start_of d).requires d.loop-member.invariant.1 c.next-next.ensures c.enum_told-1.given.1
+    let d = c.before.before.before in
+    searched_all (start_of d).requires d.loop-member.invariant.1 c.next-next.ensures c.in_default.is
 
 pub offset_bounds-priorities-v : goal.offset_bounds-priorities-v
 offset_bounds-priorities-v c = omega (arith, (reached c.before).small, (start_of (turn c.before)).well_formed)
@@ -72,7 +72,7 @@ loop-member-preserved-then-highest-p c =
     let known = c.shared_slice_known-in-loop-member-1.given (vertex d) in (
       omega arith,
       searched_more (start_of (turn d)).requires (turn d).loop-member.invariant.1 d.next-next.ensures
-          d.next-1.given.1
+          d.in-Member.is
           (omega (arith, c.if-highest-p.true)),
     )
 
@@ -84,6 +84,6 @@ loop-member-preserved c =
     let d = c.before.before.before.before.before in (
       (turn d).loop-member.invariant.0,
       searched_more (start_of (turn d)).requires (turn d).loop-member.invariant.1 d.next-next.ensures
-          d.next-1.given.1
+          d.in-Member.is
           (omega (arith, c.if-highest-p.false)),
     )
