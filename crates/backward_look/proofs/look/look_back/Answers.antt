@@ -1,5 +1,4 @@
 -- `look_back` meets its contract. The loop's invariant: the entries before e were looked at.
-use mathlib.Core.Logic.{⊎_elim}
 use mathlib.Core.Path.{◌≡◌, refl, subst, ◌∙◌}
 use Prim.Native.Nat.{ℕ, ◌+◌, ◌-◌, ◌<◌}
 use native.Mathlib.Nat.{le_refl}
@@ -10,6 +9,7 @@ use Rattle.backward_look.proofs.look.look_back.Lts as lts
 use Rattle.backward_look.proofs.look.look_back.Reads as reads
 use Rattle.backward_look.proofs.look.look_back.Tie as tie
 use Rattle.backward_look.proofs.look.look_back.Goals as goal
+use Rattle.backward_look.proofs.look.look_back.Goals.{then-opens, else-opens}
 
 abbrev AtAfterLabels : Type 0
 AtAfterLabels = lts.After-labels tie.the-claims reads.Pre reads.Post goal.the-invariant-loop-e goal.the-decreases-loop-e
@@ -55,7 +55,7 @@ loop-e-init c =
 
 pub opens-requires : goal.opens-requires
 opens-requires c =
-    let a = c.before.before.before.before in
+    let a = c.before.before.before in
     let s = start a in
     let l = a.loop-e in
     let below = entry_vertex (graph_of s) s.args.work.now s.args.w s.args.r s.args.tail s.requires l.e l.work l.end
@@ -64,7 +64,7 @@ opens-requires c =
 
 pub put-requires : goal.put-requires
 put-requires c =
-    let a = c.before.before.before.before.before.before.before in
+    let a = c.before.before.before.before.before.before in
     let s = start a in
     let l = a.loop-e in
     rw (sources_of_lem a).sources_at-sources.ensures
@@ -76,24 +76,22 @@ put-requires c =
 
 pub loop-e-preserved : goal.loop-e-preserved
 loop-e-preserved c =
-    let a = c.before.before.before.before.before.before in
+    let a = c.before.before.before.before.before in
     let s = start a in
     let l = a.loop-e in
     let more : l.e < row_start s.args.work.now (s.args.w + 1) = omega arith in
-    let next = ⊎_elim
-    (λ w.
-    looking_as {before = s.args.work.now}
-    (w.5 ∙ (rw (sources_of_lem a).sources_at-sources.ensures at w.2.ensures ∙ putting_as (source (graph_of s) l.work l.e) (s.args.r + 1) l.end
-    l.work (labels_of a).labels-labels.ensures (queue_of a).queue-queue.ensures)) w.6
-    (looked_puts (graph_of s) s.args.work.now s.args.w s.args.r s.args.tail s.requires l.e l.work l.end l.invariant.looked
-    l.invariant.low_end more (opens_as (graph_of s) l.work l.e s.args.w (labels_of a).labels-labels.ensures (sources_of_lem a).sources_at-sources.ensures
-    c.opens.ensures w.0.taken)))
-    (λ w.
-    looking_as {before = s.args.work.now} w.1 w.2
-    (looked_passes (graph_of s) s.args.work.now s.args.w s.args.r s.args.tail s.requires l.e l.work l.end l.invariant.looked
-    l.invariant.low_end more (opens_as (graph_of s) l.work l.e s.args.w (labels_of a).labels-labels.ensures (sources_of_lem a).sources_at-sources.ensures
-    c.opens.ensures w.0.left)))
-    c.if-opens.branch in
+    let next : Looked (graph_of s) s.args.work.now s.args.w s.args.r s.args.tail (l.e + 1) c.if-opens.work c.if-opens.end = elim c.if-opens.branch [
+      | then-opens w ↦ looking_as {before = s.args.work.now}
+          (w.work-is ∙ (rw (sources_of_lem a).sources_at-sources.ensures at w.put.ensures ∙ putting_as (source (graph_of s) l.work l.e) (s.args.r + 1) l.end
+          l.work (labels_of a).labels-labels.ensures (queue_of a).queue-queue.ensures)) w.end-is
+          (looked_puts (graph_of s) s.args.work.now s.args.w s.args.r s.args.tail s.requires l.e l.work l.end l.invariant.looked
+          l.invariant.low_end more (opens_as (graph_of s) l.work l.e s.args.w (labels_of a).labels-labels.ensures (sources_of_lem a).sources_at-sources.ensures
+          c.opens.ensures w.if-opens.true))
+      | else-opens w ↦ looking_as {before = s.args.work.now} w.work-is w.end-is
+          (looked_passes (graph_of s) s.args.work.now s.args.w s.args.r s.args.tail s.requires l.e l.work l.end l.invariant.looked
+          l.invariant.low_end more (opens_as (graph_of s) l.work l.e s.args.w (labels_of a).labels-labels.ensures (sources_of_lem a).sources_at-sources.ensures
+          c.opens.ensures w.if-opens.false))
+    ] in
     record {
       is_last = refl;
       low_end = omega arith;
