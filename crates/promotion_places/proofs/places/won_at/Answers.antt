@@ -16,7 +16,7 @@ abbrev behind : AtStart → Player → ℕ
 behind g q = won_behind g.args.s g.args.held (is q)
 
 pub returns-in-Even : goal.returns-in-Even
-returns-in-Even c = ap (behind c.before.before) (sym c.enum_told-1.given.1)
+returns-in-Even c = ap (behind c.before) (sym c.in-Even.is)
 
 pub returns-in-Odd : goal.returns-in-Odd
-returns-in-Odd c = ap (behind c.before.before) (sym c.enum_told-in-Odd-1.given.1)
+returns-in-Odd c = ap (behind c.before) (sym c.in-Odd.is)
