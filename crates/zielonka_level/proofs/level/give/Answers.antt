@@ -7,8 +7,8 @@ use Rattle.zielonka_level.proofs.level.give.Goals as goal
 
 pub returns-in-Even : goal.returns-in-Even
 returns-in-Even c n size =
-    gave_of Even (ap is c.enum_told-1.given.1) (gave_even c.difference_with.ensures n size)
+    gave_of Even (ap is c.in-Even.is) (gave_even c.difference_with.ensures n size)
 
 pub returns-in-Odd : goal.returns-in-Odd
 returns-in-Odd c n size =
-    gave_of Odd (ap is c.enum_told-in-Odd-1.given.1) (gave_odd c.union_with.ensures n size)
+    gave_of Odd (ap is c.in-Odd.is) (gave_odd c.union_with.ensures n size)

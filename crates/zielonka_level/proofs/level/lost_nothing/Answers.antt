@@ -7,15 +7,11 @@ use Rattle.zielonka_level.proofs.level.lost_nothing.Goals as goal
 pub part_won-requires : goal.part_won-requires
 part_won-requires c =
     let d = c.before.before.before in
-    told_parts d.requires d.odd_at_lem.ensures d.drawn_at_lem.ensures c.next_set.ensures
+    told_parts d.requires d.odd_at-odd.ensures d.drawn_at-drawn.ensures c.next_set.ensures
 
 pub returns : goal.returns
 returns c =
-    let won = c.before.before.before.before.before in
-    let named = won.before.before.before in
-    let d = named.before in
-    let g = d.before.before.before in
-    told_made (opponent (parity g.args.p.0)) (is named.opponent_of.result) g.requires d.odd_at_lem.ensures
-    d.drawn_at_lem.ensures won.next_set.ensures named.opponent_of.ensures
-    (won.part_won.ensures g.args.n g.requires.places.size)
+    told_made (opponent (parity c.args.p.0)) (is c.opponent_of.result) c.requires c.odd_at-odd.ensures
+    c.drawn_at-drawn.ensures c.next_set.ensures c.opponent_of.ensures
+    (c.part_won.ensures c.args.n c.requires.places.size)
     c.is_empty.ensures

@@ -51,7 +51,7 @@ meet-requires c =
     let placed = c.before.before in
     let at = after_places placed in
     let g = start_of at in
-    highest_parts g.requires.ready g.requires.small at.set_at-of.ensures placed.drawn_at_lem.ensures
+    highest_parts g.requires.ready g.requires.small at.set_at-of.ensures placed.drawn_at-drawn.ensures
 
 pub extend_lowest-requires : goal.extend_lowest-requires
 extend_lowest-requires c =
@@ -59,7 +59,7 @@ extend_lowest-requires c =
     let placed = met.before.before in
     let at = after_places placed in
     let g = start_of at in
-    all_extends g.args.p.0 g.requires.ready g.requires.small at.set_at-of.ensures placed.drawn_at_lem.ensures
+    all_extends g.args.p.0 g.requires.ready g.requires.small at.set_at-of.ensures placed.drawn_at-drawn.ensures
     (met.meet.ensures _ g.requires.ready.size)
 
 pub give-requires : goal.give-requires
@@ -68,7 +68,7 @@ give-requires c =
     let met = after_meet walked in
     let placed = met.before.before in
     let g = start_of (after_places placed) in
-    let odd = placed.odd_at_lem.ensures in
+    let odd = placed.odd_at-odd.ensures in
     let above = g.requires.ready.called.above in
     let high = g.requires.ready.high in
     let size = g.requires.ready.size in
@@ -83,9 +83,9 @@ returns c priorities ready =
     let placed = met.before.before in
     let at = after_places placed in
     let g = start_of at in
-    all_made g.args.p.0 ready g.requires.small at.set_at-of.ensures placed.drawn_at_lem.ensures
+    all_made g.args.p.0 ready g.requires.small at.set_at-of.ensures placed.drawn_at-drawn.ensures
     (met.meet.ensures _ ready.size)
     walked.extend_lowest.ensures
     named.from_priority.ensures
-    placed.odd_at_lem.ensures
+    placed.odd_at-odd.ensures
     (given.give.ensures _ ready.size)

@@ -7,7 +7,7 @@ pub odd_at-requires : goal.odd_at-requires
 odd_at-requires c = c.requires
 
 pub next_set-requires : goal.next_set-requires
-next_set-requires c = let few = placed_few c.requires in omega (arith, c.odd_at_lem.ensures, c.requires.size)
+next_set-requires c = let few = placed_few c.requires in omega (arith, c.odd_at.ensures, c.requires.size)
 
 pub returns : goal.returns
-returns c = omega (arith, c.next_set.ensures, c.odd_at_lem.ensures, c.requires.size)
+returns c = omega (arith, c.next_set.ensures, c.odd_at.ensures, c.requires.size)
