@@ -7,8 +7,4 @@ use Rattle.rules.specs.Pgsolver.{parity_word}
 use Rattle.pgsolver_moves.proofs.moves.letter.Goals as goal
 
 pub returns-in_default : goal.returns-in_default
-returns-in_default c =
-    let no = c.in-0.rest in
-    let past : 6 ≤ c.args.k =
-    omega (arith, no.1, no.0.1, no.0.0.1, no.0.0.0.1, no.0.0.0.0.1, no.0.0.0.0.0.1) in
-    sym (get_or-eq_default parity_word 0 past)
+returns-in_default c = sym (get_or-eq_default parity_word 0 (omega (arith, c.in_default)))
