@@ -1,5 +1,4 @@
 -- `collect` meets its contract. The loop's invariant: the vertices below v were tested.
-use mathlib.Core.Logic.{⊎_elim}
 use mathlib.Core.List.{List}
 use mathlib.Core.Path.{◌≡◌, refl, sym, subst, ◌∙◌}
 use Prim.Native.Nat.{ℕ, ◌+◌, ◌-◌}
@@ -12,6 +11,7 @@ use Rattle.good_parts.proofs.collect.Lts as lts
 use Rattle.good_parts.proofs.collect.Reads as reads
 use Rattle.good_parts.proofs.collect.Tie as tie
 use Rattle.good_parts.proofs.collect.Goals as goal
+use Rattle.good_parts.proofs.collect.Goals.{then-is_good, else-is_good}
 
 abbrev AtStart : Type 0
 AtStart = lts.Start tie.the-claims reads.Pre reads.Post goal.the-invariant-loop-v goal.the-decreases-loop-v
@@ -26,24 +26,24 @@ loop-v-init c =
 
 pub is_good-requires : goal.is_good-requires
 is_good-requires c =
-    let s = c.before.before.before.before.before.before.before.before.before in
+    let s = c.before.before.before.before.before.before.before.before in
     let l = c.loop-v in
     test_ready (graph_of s) s.args.work.now s.args.base s.requires l.v l.work l.invariant.3 (omega arith)
 
 pub loop-v-preserved : goal.loop-v-preserved
 loop-v-preserved c =
-    let s = c.before.before.before.before.before.before.before.before.before.before.before in
+    let s = c.before.before.before.before.before.before.before.before.before.before in
     let l = c.loop-v in
     let on : List ℕ → Type 0 = λ (xs : List ℕ). TestedBelow (graph_of s) s.args.work.now s.args.base (l.v + 1) xs in
     let next : on c.if-is_good.work =
-    ⊎_elim
-    (λ w. subst on (sym w.1)
-    (collected_marks (graph_of s) s.args.work.now s.args.base s.requires l.v l.work l.invariant.3 (omega arith)
-    (sym c.is_good.ensures ∙ w.0.taken)))
-    (λ w. subst on (sym w.1)
-    (collected_passes (graph_of s) s.args.work.now s.args.base s.requires l.v l.work l.invariant.3 (omega arith)
-    (sym c.is_good.ensures ∙ w.0.left)))
-    c.if-is_good.branch in
+    elim c.if-is_good.branch [
+      | then-is_good w ↦ subst on (sym w.work-is)
+          (collected_marks (graph_of s) s.args.work.now s.args.base s.requires l.v l.work l.invariant.3 (omega arith)
+          (sym c.is_good.ensures ∙ w.if-is_good.true))
+      | else-is_good w ↦ subst on (sym w.work-is)
+          (collected_passes (graph_of s) s.args.work.now s.args.base s.requires l.v l.work l.invariant.3 (omega arith)
+          (sym c.is_good.ensures ∙ w.if-is_good.false))
+    ] in
     (omega arith, refl, next.within.long, next)
 
 pub shape_of-work : goal.shape_of-work

@@ -20,7 +20,7 @@ graph_of s = graph s.args.priorities.now s.args.offsets.now s.args.targets.now s
 pub returns-then-not-keeps : goal.returns-then-not-keeps
 returns-then-not-keeps c =
     let s = c.before.before.before.before.before.before.before in
-    loop_unkept (graph_of s) s.args.v s.requires (sym c.keeps.ensures ∙ not-true _ c.if-not-keeps.true)
+    loop_unkept (graph_of s) s.args.v s.requires (sym c.keeps.ensures ∙ c.if-not-keeps.true)
 
 pub loop-e-init : goal.loop-e-init
 loop-e-init c =
@@ -28,7 +28,7 @@ loop-e-init c =
       s.requires.rising,
       refl,
       record {
-        kept = sym c.keeps.ensures ∙ not-false _ c.if-not-keeps.false;
+        kept = sym c.keeps.ensures ∙ c.if-not-keeps.false;
         low_end = le_refl _;
         none = λ i a b. absurd (omega arith);
       },

@@ -1,5 +1,4 @@
 -- `note` meets its contract. The loop's invariant: the vertices below u have told.
-use mathlib.Core.Logic.{⊎_elim}
 use mathlib.Core.List.{List}
 use mathlib.Core.Path.{◌≡◌, refl, sym, subst, ◌∙◌}
 use Prim.Native.Nat.{ℕ, ◌+◌, ◌-◌}
@@ -12,6 +11,7 @@ use Rattle.good_parts.proofs.note.Lts as lts
 use Rattle.good_parts.proofs.note.Reads as reads
 use Rattle.good_parts.proofs.note.Tie as tie
 use Rattle.good_parts.proofs.note.Goals as goal
+use Rattle.good_parts.proofs.note.Goals.{then-tells, else-tells}
 
 abbrev AtAfterLabels : Type 0
 AtAfterLabels = lts.After-labels tie.the-claims reads.Pre reads.Post goal.the-invariant-loop-u goal.the-decreases-loop-u
@@ -98,16 +98,14 @@ loop-u-preserved c =
     let l = b.loop-u in
     let on : List ℕ → Type 0 = λ (xs : List ℕ). Noted a.priorities.now a.m a.p a.work.now a.row a.two (l.u + 1) xs in
     let next : on c.if-tells.work =
-    ⊎_elim
-    (λ w.
-    subst on (sym (rw (row_of b).labels-labels.ensures at w.1))
-    (noted_marks a.priorities.now a.m a.p a.work.now a.row a.two s.requires l.u l.work l.invariant.2 (omega arith)
-    (sym (told c.before.before) ∙ w.0.taken)))
-    (λ w.
-    subst on (sym w.1)
-    (noted_passes a.priorities.now a.m a.p a.work.now a.row a.two s.requires l.u l.work l.invariant.2 (omega arith)
-    (sym (told c.before.before) ∙ w.0.left)))
-    c.if-tells.branch in
+    elim c.if-tells.branch [
+      | then-tells w ↦ subst on (sym (rw (row_of b).labels-labels.ensures at w.work-is))
+          (noted_marks a.priorities.now a.m a.p a.work.now a.row a.two s.requires l.u l.work l.invariant.2 (omega arith)
+          (sym (told c.before.before) ∙ w.if-tells.true))
+      | else-tells w ↦ subst on (sym w.work-is)
+          (noted_passes a.priorities.now a.m a.p a.work.now a.row a.two s.requires l.u l.work l.invariant.2 (omega arith)
+          (sym (told c.before.before) ∙ w.if-tells.false))
+    ] in
     (search rules, next.within.long, next)
 
 pub shape_of-work : goal.shape_of-work
