@@ -1,5 +1,4 @@
 -- `second_pass` meets its contract. The loop's invariant: the parts of the last i vertices of the order are found.
-use mathlib.Core.Logic.{⊎_elim}
 use mathlib.Core.List.{List}
 use mathlib.Core.Path.{◌≡◌, sym, ap₂, subst, ◌∙◌}
 use Prim.Native.Nat.{ℕ, ◌+◌, ◌-◌, ◌<◌}
@@ -12,6 +11,7 @@ use Rattle.part_labels.proofs.second.second_pass.Lts as lts
 use Rattle.part_labels.proofs.second.second_pass.Reads as reads
 use Rattle.part_labels.proofs.second.second_pass.Tie as tie
 use Rattle.part_labels.proofs.second.second_pass.Goals as goal
+use Rattle.part_labels.proofs.second.second_pass.Goals.{then-work-labels-eq0, else-work-labels-eq0}
 
 abbrev AtAfterLabels : Type 0
 AtAfterLabels = lts.After-labels tie.the-claims reads.Pre reads.Post goal.the-invariant-loop-i goal.the-decreases-loop-i
@@ -93,14 +93,16 @@ loop-i-preserved c =
     let s = start a in
     let l = a.loop-i in
     let on : List ℕ → Type 0 = λ (xs : List ℕ). Passing (graph_of s) s.args.work.now s.args.done (l.i + 1) xs in
-    ⊎_elim
-    (λ w. subst on (sym w.5)
-    (passing_finds (graph_of s) s.args.work.now s.args.done s.requires l.i l.work l.invariant (omega arith) w.2.new.1.1.1.1.1.0
-    (sym (word_is a) ∙ w.0.taken)
-    (rw (order_of a).order-order.ensures at w.2.ensures)))
-    (λ w. subst on (sym w.1) (passing_skips (graph_of s) s.args.work.now s.args.done s.requires l.i l.work l.invariant (omega arith)
-    (λ e. w.0.left (word_is a ∙ e))))
-    c.if-work-labels-eq0.branch
+    elim c.if-work-labels-eq0.branch [
+      | then-work-labels-eq0 w ↦
+          subst on (sym w.work-is)
+          (passing_finds (graph_of s) s.args.work.now s.args.done s.requires l.i l.work l.invariant (omega arith) w.find_part.new.work
+          (sym (word_is a) ∙ w.if-work-labels-eq0.true)
+          (rw (order_of a).order-order.ensures at w.find_part.ensures))
+      | else-work-labels-eq0 w ↦
+          subst on (sym w.work-is) (passing_skips (graph_of s) s.args.work.now s.args.done s.requires l.i l.work l.invariant (omega arith)
+          (λ e. w.if-work-labels-eq0.false (word_is a ∙ e)))
+    ]
 
 pub shape_of-work : goal.shape_of-work
 shape_of-work c = c.loop-i.invariant.long
