@@ -2,10 +2,10 @@
 // then the number, place and count given back.
 #![tactic(auto)]
 
-use libc::STDOUT_FILENO;
 use record::KEPT;
+use std::io;
 
-fn report(name: &[u8], budget: u64, work: &mut [u64]) {
+fn report(rt: &impl Print, name: &str, budget: u64, work: &mut [u64]) -> io::Result<()> {
     let mut even = [0u64; 1];
     let mut odd = [0u64; 1];
     let mut strategy = [0u16; 2];
@@ -29,19 +29,13 @@ fn report(name: &[u8], budget: u64, work: &mut [u64]) {
         &mut place,
         &mut count,
     );
-    io::write_all(STDOUT_FILENO, name);
-    io::print_decimal(STDOUT_FILENO, number);
-    io::write_all(STDOUT_FILENO, b" ");
-    io::print_decimal(STDOUT_FILENO, place);
-    io::write_all(STDOUT_FILENO, b" ");
-    io::print_decimal(STDOUT_FILENO, count);
-    io::write_all(STDOUT_FILENO, b"\n");
+    println!(rt; "{name}: {number} {place} {count}")
 }
 
-fn main() {
+fn main(rt: HostRuntime) -> io::Result<()> {
     let mut enough = [0u64; 316];
     let mut short = [0u64; 315];
-    report(b"budget 3: ", 3, &mut enough);
-    report(b"budget 4: ", 4, &mut enough);
-    report(b"W - 1 words: ", 4, &mut short);
+    report(&rt, "budget 3", 3, &mut enough)?;
+    report(&rt, "budget 4", 4, &mut enough)?;
+    report(&rt, "W - 1 words", 4, &mut short)
 }

@@ -1,20 +1,19 @@
 // C5's attractor run: the number, place and looks given back, then the set as a word, the two entries and the two
-// distances.
+// distances, and the first and the last word of the work area.
 #![tactic(auto)]
 
-use libc::STDOUT_FILENO;
 use record::KEPT;
+use std::io;
 
-fn put(n: u64) {
-    io::print_decimal(STDOUT_FILENO, n);
-    io::write_all(STDOUT_FILENO, b" ");
+fn put(rt: &impl Print, n: u64) -> io::Result<()> {
+    print!(rt; "{n} ")
 }
 
-fn put_entry(w: u16) {
-    put(w as u64);
+fn put_entry(rt: &impl Print, w: u16) -> io::Result<()> {
+    put(rt, w as u64)
 }
 
-fn main() {
+fn main(rt: HostRuntime) -> io::Result<()> {
     let mut result = [0u64; 1];
     let mut strategy = [0u16; 2];
     let mut distances = [7u16; 2];
@@ -41,16 +40,16 @@ fn main() {
         &mut place,
         &mut count,
     );
-    io::write_all(STDOUT_FILENO, b"C5 ");
-    put(number);
-    put(place);
-    put(count);
-    put(result[0]);
-    put_entry(strategy[0]);
-    put_entry(strategy[1]);
-    put_entry(distances[0]);
-    put_entry(distances[1]);
-    put(work[0]);
-    put(work[317]);
-    io::write_all(STDOUT_FILENO, b"\n");
+    print!(rt; "C5 ")?;
+    put(&rt, number)?;
+    put(&rt, place)?;
+    put(&rt, count)?;
+    put(&rt, result[0])?;
+    put_entry(&rt, strategy[0])?;
+    put_entry(&rt, strategy[1])?;
+    put_entry(&rt, distances[0])?;
+    put_entry(&rt, distances[1])?;
+    put(&rt, work[0])?;
+    put(&rt, work[317])?;
+    println!(rt)
 }

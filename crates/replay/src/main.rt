@@ -6,9 +6,13 @@
 mod said;
 mod text;
 
-use libc::STDOUT_FILENO;
 use record::KEPT;
 use replay_solvers::{solitaire_differs, solver_differs};
+use std::io;
+use std::io::Read;
+
+// The list, or as much of it as this room holds.
+const MOST_BYTES: usize = 65536;
 
 // On one line: where the next begins, and 1 for each solver that differs.
 #[derive(Clone, Copy)]
@@ -95,30 +99,33 @@ fn replay_line(list: &[u8], from: usize) -> Line {
     )
 }
 
-fn print(name: &[u8], number: u64) {
-    io::write_all(STDOUT_FILENO, name);
-    io::print_decimal(STDOUT_FILENO, number);
-    io::write_all(STDOUT_FILENO, b"\n");
+fn print(rt: &impl Print, name: &str, number: u64) -> io::Result<()> {
+    println!(rt; "{name}{number}")
 }
 
-fn main() {
-    let mut buffer = io::large_buffer();
-    let length = io::read_full(0, &mut buffer);
+fn main(rt: HostRuntime) -> io::Result<()> {
+    let mut buffer = [0u8; MOST_BYTES];
+    let read = io::copy(
+        &mut rt.reader().take(MOST_BYTES as u64),
+        &mut &mut buffer[..],
+    )?;
+    // no more than the room, which no clause of `copy` says
+    let length = MOST_BYTES.min(read as usize);
     let list: &[u8] = &buffer[0..length];
     let games = text::lines(list);
     let mut at = 0;
-    let mut zielonka = 0;
-    let mut promotion = 0;
-    let mut solitaire = 0;
+    let mut zielonka: u64 = 0;
+    let mut promotion: u64 = 0;
+    let mut solitaire: u64 = 0;
     for _ in 0..games {
         let line = replay_line(list, at);
         at = line.next;
-        zielonka = std::num::wrapping_add_u64(zielonka, line.zielonka);
-        promotion = std::num::wrapping_add_u64(promotion, line.promotion);
-        solitaire = std::num::wrapping_add_u64(solitaire, line.solitaire);
+        zielonka = zielonka.wrapping_add(line.zielonka);
+        promotion = promotion.wrapping_add(line.promotion);
+        solitaire = solitaire.wrapping_add(line.solitaire);
     }
-    print(b"games: ", games);
-    print(b"Zielonka differs on ", zielonka);
-    print(b"priority promotion differs on ", promotion);
-    print(b"solitaire differs on ", solitaire);
+    print(&rt, "games: ", games)?;
+    print(&rt, "Zielonka differs on ", zielonka)?;
+    print(&rt, "priority promotion differs on ", promotion)?;
+    print(&rt, "solitaire differs on ", solitaire)
 }

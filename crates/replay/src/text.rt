@@ -112,7 +112,7 @@ pub fn lines(list: &[u8]) -> u64 {
     let mut found: u64 = 0;
     for i in 0..list.len() {
         if list[i] == b'\n' {
-            found = std::num::wrapping_add_u64(found, 1);
+            found = found.wrapping_add(1);
         }
     }
     found

@@ -1,19 +1,27 @@
 // The worked games of one owner: name, then for each vertex in order whether it is in the solitaire set (1) or not (0).
 #![tactic(auto)]
 
-use libc::STDOUT_FILENO;
 use record::KEPT;
+use std::io;
 
 // The first n bits of the set's only word.
-fn print_set(n: usize, set: u64) {
+fn print_set(rt: &impl Print, n: usize, set: u64) -> io::Result<()> {
     let mut rest = set;
-    for v in 0..n {
-        io::print_decimal(STDOUT_FILENO, rest % 2);
+    for _ in 0..n {
+        print!(rt; "{}", rest % 2)?;
         rest = rest / 2;
     }
+    Ok(())
 }
 
-fn report(name: &[u8], owners: &[u8], priorities: &[u16], offsets: &[u16], targets: &[u16]) {
+fn report(
+    rt: &impl Print,
+    name: &str,
+    owners: &[u8],
+    priorities: &[u16],
+    offsets: &[u16],
+    targets: &[u16],
+) -> io::Result<()> {
     let mut set = [0u64; 1];
     let mut work = [0u64; 344];
     let mut kept = [0u64; KEPT];
@@ -26,19 +34,20 @@ fn report(name: &[u8], owners: &[u8], priorities: &[u16], offsets: &[u16], targe
         n as u64, m as u64, owners, priorities, offsets, targets, &kept, &mut set, &mut work,
         &mut place, &mut count,
     );
-    io::write_all(STDOUT_FILENO, name);
-    print_set(n, set[0]);
-    io::write_all(STDOUT_FILENO, b"\n");
+    print!(rt; "{name} ")?;
+    print_set(rt, n, set[0])?;
+    println!(rt)
 }
 
-fn main() {
-    io::write_all(STDOUT_FILENO, b"game set\n");
+fn main(rt: HostRuntime) -> io::Result<()> {
+    println!(rt; "game set")?;
     report(
-        b"C8 ",
+        &rt,
+        "C8",
         &[0, 0, 0, 0],
         &[1, 2, 1, 3],
         &[0, 1, 2, 3, 4],
         &[1, 2, 1, 3],
-    );
-    report(b"C9 ", &[0, 0], &[2, 1], &[0, 1, 2], &[1, 1]);
+    )?;
+    report(&rt, "C9", &[0, 0], &[2, 1], &[0, 1, 2], &[1, 1])
 }

@@ -3,30 +3,43 @@
 #![tactic(auto)]
 
 use arguments::Asked;
-use libc::STDOUT_FILENO;
+use std::env::FillError;
+use std::io;
+use std::io::Read;
+use std::rt::Env;
 
 // One byte more than the limit is enough: the line for so many bytes is the line for the whole input
 // (`front-prints` of solving/specs/Front.antt).
-fn print_text(budget: u64) {
-    let mut text = [0u8; 16385];
+const ENOUGH: usize = 16385;
+
+fn print_text(rt: &(impl Input + Print), budget: u64) -> io::Result<()> {
+    let mut text = [0u8; ENOUGH];
     let mut line = [0u8; 256];
-    let length = io::read_full(0, &mut text);
+    let read = io::copy(&mut rt.reader().take(ENOUGH as u64), &mut &mut text[..])?;
+    // no more than the room, which no clause of `copy` says
+    let length = ENOUGH.min(read as usize);
     let end = solving::solve_text(&text[0..length], budget, &mut line);
-    io::write_all(STDOUT_FILENO, &line[0..end]);
+    rt.write_all(&line[0..end])
 }
 
-fn print_refused() {
+fn print_refused(rt: &impl Print) -> io::Result<()> {
     let mut line = [0u8; 256];
     let end = printing::refused_line(36, 0, &mut line);
-    io::write_all(STDOUT_FILENO, &line[0..end]);
+    rt.write_all(&line[0..end])
+}
+
+// Whether the program was started with an argument i, however long.
+fn is_given(rt: &impl Env, i: usize) -> bool {
+    !matches!(rt.arg(i, &mut []), Err(FillError::NotPresent))
 }
 
 // An argument that is too long for the room is given as empty, and neither is a budget.
-fn main() {
+fn main(rt: HostRuntime) -> io::Result<()> {
     let mut first = [0u8; 16];
-    let length = os::arg(1, &mut first);
-    match arguments::ask(os::arg_count(), &first[0..length]) {
-        Asked::Budget(budget) => print_text(budget),
-        Asked::Wrong => print_refused(),
+    let length = rt.arg(1, &mut first).unwrap_or(0);
+    let given = 1 + is_given(&rt, 1) as usize + is_given(&rt, 2) as usize;
+    match arguments::ask(given, &first[0..length]) {
+        Asked::Budget(budget) => print_text(&rt, budget),
+        Asked::Wrong => print_refused(&rt),
     }
 }

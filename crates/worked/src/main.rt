@@ -1,16 +1,17 @@
 // Document 01's table of worked games: name, winner of each vertex in order (0 Even, 1 Odd), calls, rounds.
 #![tactic(auto)]
 
-use libc::STDOUT_FILENO;
 use record::KEPT;
+use std::io;
 
 // The winners of n vertices, from the word of Odd's set.
-fn print_winners(n: usize, odd: u64) {
+fn print_winners(rt: &impl Print, n: usize, odd: u64) -> io::Result<()> {
     let mut rest = odd;
-    for v in 0..n {
-        io::print_decimal(STDOUT_FILENO, rest % 2);
+    for _ in 0..n {
+        print!(rt; "{}", rest % 2)?;
         rest = rest / 2;
     }
+    Ok(())
 }
 
 // The calls that Zielonka needs; the word of Odd's set is written.
@@ -80,13 +81,14 @@ fn rounds(
 }
 
 fn report(
-    name: &[u8],
+    rt: &impl Print,
+    name: &str,
     owners: &[u8],
     priorities: &[u16],
     offsets: &[u16],
     targets: &[u16],
     strategy: &mut [u16],
-) {
+) -> io::Result<()> {
     let mut kept = [0u64; KEPT];
     let mut odd = [0u64; 1];
     let n = owners.len();
@@ -102,33 +104,47 @@ fn report(
     let made = calls(
         owners, priorities, offsets, targets, &kept, &mut odd, strategy,
     );
-    io::write_all(STDOUT_FILENO, name);
-    print_winners(n, odd[0]);
-    io::write_all(STDOUT_FILENO, b" ");
-    io::print_decimal(STDOUT_FILENO, made);
+    print!(rt; "{name} ")?;
+    print_winners(rt, n, odd[0])?;
+    print!(rt; " {made}")?;
     let made = rounds(
         owners, priorities, offsets, targets, &kept, &mut odd, strategy,
     );
-    io::write_all(STDOUT_FILENO, b" ");
-    io::print_decimal(STDOUT_FILENO, made);
-    io::write_all(STDOUT_FILENO, b"\n");
+    println!(rt; " {made}")
 }
 
-fn main() {
+fn main(rt: HostRuntime) -> io::Result<()> {
     let mut one = [0u16; 1];
     let mut two = [0u16; 2];
     let mut four = [0u16; 4];
-    io::write_all(STDOUT_FILENO, b"game winner calls rounds\n");
-    report(b"C2 ", &[0], &[0], &[0, 1], &[0], &mut one);
-    report(b"C5 ", &[1, 0], &[1, 2], &[0, 2, 3], &[1, 1, 1], &mut two);
-    report(b"C6 ", &[0, 1], &[2, 1], &[0, 1, 2], &[1, 1], &mut two);
-    report(b"C7 ", &[0, 1], &[2, 0], &[0, 1, 3], &[1, 0, 1], &mut two);
+    println!(rt; "game winner calls rounds")?;
+    report(&rt, "C2", &[0], &[0], &[0, 1], &[0], &mut one)?;
     report(
-        b"C8 ",
+        &rt,
+        "C5",
+        &[1, 0],
+        &[1, 2],
+        &[0, 2, 3],
+        &[1, 1, 1],
+        &mut two,
+    )?;
+    report(&rt, "C6", &[0, 1], &[2, 1], &[0, 1, 2], &[1, 1], &mut two)?;
+    report(
+        &rt,
+        "C7",
+        &[0, 1],
+        &[2, 0],
+        &[0, 1, 3],
+        &[1, 0, 1],
+        &mut two,
+    )?;
+    report(
+        &rt,
+        "C8",
         &[0, 0, 0, 0],
         &[1, 2, 1, 3],
         &[0, 1, 2, 3, 4],
         &[1, 2, 1, 3],
         &mut four,
-    );
+    )
 }

@@ -1,9 +1,6 @@
--- `line_end` is safe and ends.
+-- `line_end` ends.
 use Rattle.std.proofs.Common.{◌-◌, length}
 use Rattle.replay.proofs.text.line_end.Given as goal
-
-abbrev pub invariant-loop-at : goal.invariant-loop-at
-invariant-loop-at l = Unit {0}
 
 abbrev pub decreases-loop-at : goal.decreases-loop-at
 decreases-loop-at l = length l.list - l.at
