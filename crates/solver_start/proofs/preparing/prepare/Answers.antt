@@ -31,7 +31,7 @@ build-requires c =
 
 pub clear-requires : goal.clear-requires
 clear-requires c =
-    let b = c.before.before.before.before in omega (arith, (start b).requires.high, b.build.auto.1.1.1.0)
+    let b = c.before.before.before.before in omega (arith, (start b).requires.high, b.build.auto.table)
 
 pub fill-requires : goal.fill-requires
 fill-requires c =
@@ -44,4 +44,4 @@ returns c =
     let f = c.before.before.before in
     let k = f.before.before.before.before in
     let b = listed k in
-    prepared_full (start b).requires b.build.ensures k.clear.ensures f.fill.new.set f.fill.auto.0 f.fill.ensures
+    prepared_full (start b).requires b.build.ensures k.clear.ensures f.fill.new.set f.fill.auto.set f.fill.ensures
