@@ -7,8 +7,7 @@ ghost use Rattle.telling.specs.Doors.{told};
 use parity_game::Player;
 use telling::tell;
 
-#[unsafe(no_mangle)]
-pub extern "C" fn reckonbough_attractor(
+pub fn reckonbough_attractor(
     n: u64,
     m: u64,
     owners: &[u8],

@@ -5,8 +5,7 @@ ghost use Rattle.telling.specs.Doors.{told};
 
 use telling::tell;
 
-#[unsafe(no_mangle)]
-pub extern "C" fn reckonbough_check(
+pub fn reckonbough_check(
     n: u64,
     m: u64,
     owners: &[u8],

@@ -4,8 +4,7 @@ ghost use Rattle.telling.specs.Doors.{told};
 
 use telling::tell;
 
-#[unsafe(no_mangle)]
-pub extern "C" fn reckonbough_fresh_count(
+pub fn reckonbough_fresh_count(
     n: u64,
     m: u64,
     owners: &[u8],
@@ -31,8 +30,7 @@ pub extern "C" fn reckonbough_fresh_count(
     )
 }
 
-#[unsafe(no_mangle)]
-pub extern "C" fn reckonbough_set_priority(
+pub fn reckonbough_set_priority(
     n: u64,
     m: u64,
     owners: &[u8],
@@ -69,8 +67,7 @@ pub extern "C" fn reckonbough_set_priority(
     )
 }
 
-#[unsafe(no_mangle)]
-pub extern "C" fn reckonbough_set_owner(
+pub fn reckonbough_set_owner(
     n: u64,
     m: u64,
     owners: &mut [u8],
@@ -107,8 +104,7 @@ pub extern "C" fn reckonbough_set_owner(
     )
 }
 
-#[unsafe(no_mangle)]
-pub extern "C" fn reckonbough_turn_edge(
+pub fn reckonbough_turn_edge(
     n: u64,
     m: u64,
     owners: &[u8],

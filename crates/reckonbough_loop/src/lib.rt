@@ -2,4 +2,4 @@
 // answer, and writes the path's length, place and count through the last three references. It has no `requires`.
 #![tactic(auto)]
 
-mod looping;
+pub mod looping;

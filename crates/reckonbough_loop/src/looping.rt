@@ -7,8 +7,7 @@ ghost use Rattle.telling.specs.Doors.{told};
 use telling::tell;
 
 // The path's length is 0 before all else, and so after every refusal.
-#[unsafe(no_mangle)]
-pub extern "C" fn reckonbough_show_loop(
+pub fn reckonbough_show_loop(
     n: u64,
     m: u64,
     owners: &[u8],

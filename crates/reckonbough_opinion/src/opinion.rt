@@ -5,8 +5,7 @@ ghost use Rattle.telling.specs.Doors.{told};
 
 use telling::tell;
 
-#[unsafe(no_mangle)]
-pub extern "C" fn reckonbough_quasi_polynomial(
+pub fn reckonbough_quasi_polynomial(
     n: u64,
     m: u64,
     owners: &[u8],

@@ -3,4 +3,4 @@
 // has a `requires`.
 #![tactic(auto)]
 
-mod portions;
+pub mod portions;

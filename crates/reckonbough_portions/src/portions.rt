@@ -7,8 +7,7 @@ ghost use Rattle.telling.specs.Doors.{told};
 use telling::tell;
 
 // A fresh start.
-#[unsafe(no_mangle)]
-pub extern "C" fn reckonbough_read_start(
+pub fn reckonbough_read_start(
     most_bytes: u64,
     state: &mut [u64],
     owners: &mut [u8],
@@ -33,8 +32,7 @@ pub extern "C" fn reckonbough_read_start(
 }
 
 // One portion more.
-#[unsafe(no_mangle)]
-pub extern "C" fn reckonbough_read_portion(
+pub fn reckonbough_read_portion(
     portion: &[u8],
     state: &mut [u64],
     owners: &mut [u8],
@@ -59,8 +57,7 @@ pub extern "C" fn reckonbough_read_portion(
 }
 
 // The end of the text: a game, with the kept numbers of its record.
-#[unsafe(no_mangle)]
-pub extern "C" fn reckonbough_read_end(
+pub fn reckonbough_read_end(
     state: &mut [u64],
     owners: &mut [u8],
     priorities: &mut [u16],

@@ -3,5 +3,5 @@
 // references. None has a `requires`.
 #![tactic(auto)]
 
-mod reading;
-mod texts;
+pub mod reading;
+pub mod texts;

@@ -6,8 +6,7 @@ ghost use Rattle.telling.specs.Doors.{told};
 use telling::tell;
 
 // A game, with the kept numbers of its record.
-#[unsafe(no_mangle)]
-pub extern "C" fn reckonbough_read(
+pub fn reckonbough_read(
     text: &[u8],
     most_bytes: u64,
     owners: &mut [u8],

@@ -7,8 +7,7 @@ ghost use Rattle.telling.specs.Doors.{told};
 use telling::tell;
 
 // What the text says, also where it is no game.
-#[unsafe(no_mangle)]
-pub extern "C" fn reckonbough_read_tables(
+pub fn reckonbough_read_tables(
     text: &[u8],
     most_bytes: u64,
     owners: &mut [u8],

@@ -6,8 +6,7 @@ ghost use Rattle.telling.specs.Doors.{told};
 
 use telling::tell;
 
-#[unsafe(no_mangle)]
-pub extern "C" fn reckonbough_solitaire(
+pub fn reckonbough_solitaire(
     n: u64,
     m: u64,
     owners: &[u8],

@@ -7,8 +7,7 @@ ghost use Rattle.telling.specs.Doors.{told};
 
 use telling::tell;
 
-#[unsafe(no_mangle)]
-pub extern "C" fn reckonbough_priority_promotion(
+pub fn reckonbough_priority_promotion(
     n: u64,
     m: u64,
     owners: &[u8],

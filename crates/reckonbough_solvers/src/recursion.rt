@@ -7,8 +7,7 @@ ghost use Rattle.telling.specs.Doors.{told};
 
 use telling::tell;
 
-#[unsafe(no_mangle)]
-pub extern "C" fn reckonbough_zielonka(
+pub fn reckonbough_zielonka(
     n: u64,
     m: u64,
     owners: &[u8],

@@ -3,4 +3,4 @@
 // references. None has a `requires`.
 #![tactic(auto)]
 
-mod tables;
+pub mod tables;

@@ -9,8 +9,7 @@ ghost use Rattle.telling.specs.Doors.{told};
 
 use telling::tell;
 
-#[unsafe(no_mangle)]
-pub extern "C" fn reckonbough_check_tables(
+pub fn reckonbough_check_tables(
     owners: &[u8],
     priorities: &[u16],
     offsets: &[u16],
@@ -31,8 +30,7 @@ pub extern "C" fn reckonbough_check_tables(
     )
 }
 
-#[unsafe(no_mangle)]
-pub extern "C" fn reckonbough_compact(
+pub fn reckonbough_compact(
     n: u64,
     m: u64,
     owners: &[u8],

@@ -3,5 +3,5 @@
 // references. None has a `requires`.
 #![tactic(auto)]
 
-mod mending;
-mod writing;
+pub mod mending;
+pub mod writing_out;

@@ -6,8 +6,7 @@ ghost use Rattle.telling.specs.Doors.{told};
 
 use telling::tell;
 
-#[unsafe(no_mangle)]
-pub extern "C" fn reckonbough_mend(
+pub fn reckonbough_mend(
     owners: &[u8],
     priorities: &[u16],
     offsets: &[u16],

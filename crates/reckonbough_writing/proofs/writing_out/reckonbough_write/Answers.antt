@@ -10,10 +10,10 @@ use Rattle.rules.specs.Tables.{Tables}
 use Rattle.rules.specs.Writing.{Writes}
 use Rattle.theory.specs.Edits.{Roomy}
 use Rattle.record.specs.ByRecord.{refused_first, passed, passed_room, passed_accepted, done_past}
-use Rattle.reckonbough_writing.proofs.writing.reckonbough_write.Lts as lts
-use Rattle.reckonbough_writing.proofs.writing.reckonbough_write.Reads as reads
-use Rattle.reckonbough_writing.proofs.writing.reckonbough_write.Tie as tie
-use Rattle.reckonbough_writing.proofs.writing.reckonbough_write.Goals as goal
+use Rattle.reckonbough_writing.proofs.writing_out.reckonbough_write.Lts as lts
+use Rattle.reckonbough_writing.proofs.writing_out.reckonbough_write.Reads as reads
+use Rattle.reckonbough_writing.proofs.writing_out.reckonbough_write.Tie as tie
+use Rattle.reckonbough_writing.proofs.writing_out.reckonbough_write.Goals as goal
 
 abbrev AtAfterNumber : Type 0
 AtAfterNumber = lts.After-number tie.the-claims reads.Pre reads.Post

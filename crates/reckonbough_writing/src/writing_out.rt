@@ -5,8 +5,7 @@ ghost use Rattle.telling.specs.Doors.{told};
 
 use telling::tell;
 
-#[unsafe(no_mangle)]
-pub extern "C" fn reckonbough_write(
+pub fn reckonbough_write(
     n: u64,
     m: u64,
     owners: &[u8],
