@@ -1,6 +1,5 @@
 -- `strategy_entry` meets its contract, by the way that it goes.
 use native.Mathlib.Omega.{arith}
-use borrow.Author.Tests.{not-true, not-false}
 use Rattle.solver_entries.specs.Entries.{entry_even, entry_odd, narrow_even, narrow_odd}
 use Rattle.solver_entries.proofs.entries.strategy_entry.Lts as lts
 use Rattle.solver_entries.proofs.entries.strategy_entry.Reads as reads
@@ -27,7 +26,7 @@ pub returns-then-not-contains : goal.returns-then-not-contains
 returns-then-not-contains c =
     let d = c.before.before in
     entry_even (from_even d).requires d.if-owners-v-eq0.true d.contains.ensures
-    (not-true d.contains.result c.if-not-contains.true)
+    c.if-not-contains.true
 
 pub overflow_cast-result : goal.overflow_cast-result
 overflow_cast-result c =
@@ -35,20 +34,20 @@ overflow_cast-result c =
     omega (
       arith,
       narrow_even (from_even d).requires d.if-owners-v-eq0.true d.contains.ensures
-          (not-false d.contains.result c.if-not-contains.false),
+          c.if-not-contains.false,
     )
 
 pub returns-then-owners-v-eq0 : goal.returns-then-owners-v-eq0
 returns-then-owners-v-eq0 c =
     let d = c.before.before.before in
     entry_even (from_even d).requires d.if-owners-v-eq0.true d.contains.ensures
-    (not-false d.contains.result c.if-not-contains.false)
+    c.if-not-contains.false
 
 pub returns-then-not-contains-2 : goal.returns-then-not-contains-2
 returns-then-not-contains-2 c =
     let d = c.before.before in
     entry_odd (from_odd d).requires d.if-owners-v-eq0.false d.contains-2.ensures
-    (not-true d.contains-2.result c.if-not-contains-2.true)
+    c.if-not-contains-2.true
 
 pub overflow_cast-result-2 : goal.overflow_cast-result-2
 overflow_cast-result-2 c =
@@ -56,11 +55,11 @@ overflow_cast-result-2 c =
     omega (
       arith,
       narrow_odd (from_odd d).requires d.if-owners-v-eq0.false d.contains-2.ensures
-          (not-false d.contains-2.result c.if-not-contains-2.false),
+          c.if-not-contains-2.false,
     )
 
 pub returns : goal.returns
 returns c =
     let d = c.before.before.before in
     entry_odd (from_odd d).requires d.if-owners-v-eq0.false d.contains-2.ensures
-    (not-false d.contains-2.result c.if-not-contains-2.false)
+    c.if-not-contains-2.false
