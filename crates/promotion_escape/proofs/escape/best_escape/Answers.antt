@@ -14,7 +14,7 @@ use Rattle.promotion_escape.proofs.escape.best_escape.Tie as tie
 use Rattle.promotion_escape.proofs.escape.best_escape.Goals as goal
 
 abbrev AtAfterNext2 : Type 0
-AtAfterNext2 = lts.After-next2 tie.the-claims reads.Pre reads.Post goal.the-invariant-loop-highest goal.the-decreases-loop-highest
+AtAfterNext2 = lts.Past-After-known_told tie.the-claims reads.Pre reads.Post goal.the-invariant-loop-highest goal.the-decreases-loop-highest
 
 abbrev AtAtLoop : Type 0
 AtAtLoop = lts.At-loop tie.the-claims reads.Pre reads.Post goal.the-invariant-loop-highest goal.the-decreases-loop-highest
@@ -27,22 +27,22 @@ abbrev start_of : AtAtLoop → AtStart
 start_of c = c.before.before.before.before.before.before
 
 abbrev turn : AtAfterNext2 → AtAtLoop
-turn c = c.before.before.before.before
+turn c = c.before.before.before
 
 abbrev first : AtAfterNext2 → AtStart
 first c = start_of (turn c)
 
 -- the vertex that the walk came to, and the walk after it
 abbrev vertex : AtAfterNext2 → ℕ
-vertex c = c.next-1.given.0.0.0
+vertex c = c.in-Member.index.0
 
 abbrev after : AtAfterNext2 → Members
-after c = c.next-1.given.0.1.0
+after c = c.in-Member.rest
 
 reached : (c : AtAfterNext2) → Reached (turn c).loop-highest.invariant.1 (vertex c) (after c)
 reached c =
     walked_next (escape_walkable (first c).requires.escapes) (turn c).loop-highest.invariant.1 c.next-next.ensures
-    c.next-1.given.1
+    c.in-Member.is
 
 pub loop-highest-init : goal.loop-highest-init
 loop-highest-init c =
@@ -58,25 +58,25 @@ returns-then-highest-k c = highest_full c.loop-highest.invariant.0 c.if-highest-
 
 pub returns-in_default : goal.returns-in_default
 returns-in_default c =
-    let d = c.before.before.before.before.before in
+    let d = c.before.before.before.before in
     let g = start_of d in
     highest_done g.requires.nested d.loop-highest.invariant.0
-    (walked_all (escape_walkable g.requires.escapes) d.loop-highest.invariant.1 c.next-next.ensures c.enum_told-1.given.1).inside
+    (walked_all (escape_walkable g.requires.escapes) d.loop-highest.invariant.1 c.next-next.ensures c.in_default.is).inside
 
 pub bounds-owners-v : goal.bounds-owners-v
-bounds-owners-v c = (reached c.before.before.before).small
+bounds-owners-v c = (reached c.before.before).small
 
 pub best_of-highest-requires : goal.best_of-highest-requires
 best_of-highest-requires c =
-    let d = c.before.before.before.before in
+    let d = c.before.before.before in
     looks_ready (first d).requires (reached d).small (turn d).loop-highest.invariant.0.top
 
 pub loop-highest-smaller-then-owners-v : goal.loop-highest-smaller-then-owners-v
-loop-highest-smaller-then-owners-v c = (reached c.before.before.before.before.before).shorter
+loop-highest-smaller-then-owners-v c = (reached c.before.before.before.before).shorter
 
 pub loop-highest-preserved-then-owners-v : goal.loop-highest-preserved-then-owners-v
 loop-highest-preserved-then-owners-v c =
-    let d = c.before.before.before.before.before in
+    let d = c.before.before.before.before in
     let g = first d in
     let a = g.args in
     let same = levels_same (length a.owners.now) a.s a.levels a.work.now g.requires.escapes.size in
@@ -90,13 +90,13 @@ loop-highest-preserved-then-owners-v c =
           (passed_weaker {Q = NoneFrom a.owners.now a.offsets.now a.targets.now a.alpha L a.k r}
           (λ u none other w m out. outside_later g.requires.nested best r w here.up here.top (none other w m out))
           (turn d).loop-highest.invariant.1)
-          d.next-next.ensures d.next-1.given.1).more (passes (λ other w m out. here.none w m out)),
+          d.next-next.ensures d.in-Member.is).more (passes (λ other w m out. here.none w m out)),
     )
 
 pub loop-highest-smaller : goal.loop-highest-smaller
-loop-highest-smaller c = (reached c.before.before.before.before).shorter
+loop-highest-smaller c = (reached c.before.before.before).shorter
 
 pub loop-highest-preserved : goal.loop-highest-preserved
 loop-highest-preserved c =
-    let d = c.before.before.before.before in
+    let d = c.before.before.before in
     ((turn d).loop-highest.invariant.0, (reached d).more (passes (λ other w m out. absurd (other c.if-owners-v.false))))

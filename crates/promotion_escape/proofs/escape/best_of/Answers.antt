@@ -1,6 +1,5 @@
 -- `best_of` meets its contract: no edge before place e leads higher than level `highest` - 1.
 use mathlib.Core.Bool.{◌&&◌, not}
-use mathlib.Core.Logic.{⊎_elim}
 use mathlib.Core.Path.{◌≡◌, sym, subst, ◌∙◌}
 use Prim.Native.Nat.{ℕ, ◌+◌, ◌-◌, ◌*◌, ◌≤◌, ◌<◌, ◌^◌}
 use native.Mathlib.Omega.{arith}
@@ -12,6 +11,7 @@ use Rattle.promotion_escape.proofs.escape.best_of.Lts as lts
 use Rattle.promotion_escape.proofs.escape.best_of.Reads as reads
 use Rattle.promotion_escape.proofs.escape.best_of.Tie as tie
 use Rattle.promotion_escape.proofs.escape.best_of.Goals as goal
+use Rattle.promotion_escape.proofs.escape.best_of.Goals.{then-in_difference, else-in_difference}
 
 abbrev AtAfterInDifference : Type 0
 AtAfterInDifference = lts.After-in_difference tie.the-claims reads.Pre reads.Post goal.the-invariant-loop-e goal.the-decreases-loop-e
@@ -73,8 +73,8 @@ high_room c = omega (arith, room c.before.before.before, c.level_at-at.ensures)
 base_room :
     (c : AtAtLoop) →
     let a = (start_of c).args in
-    (base_of c).level_at_lem.result + a.s ≤ length a.work.now
-base_room c = omega (arith, (start_of c).requires.room, (base_of c).level_at_lem.ensures)
+    (base_of c).level_at-base.result + a.s ≤ length a.work.now
+base_room c = omega (arith, (start_of c).requires.room, (base_of c).level_at-base.ensures)
 
 -- what the test said of the edge's end
 asked :
@@ -88,8 +88,8 @@ asked c =
     let a = (start_of l).args in
     sym
     (c.in_difference.ensures ∙
-    parts_asked a.s d.level_at-at.result (a.levels + l.loop-e.highest * a.s) b.level_at_lem.result (a.levels + a.k * a.s)
-    (end l) a.work.now d.level_at-at.ensures b.level_at_lem.ensures)
+    parts_asked a.s d.level_at-at.result (a.levels + l.loop-e.highest * a.s) b.level_at-base.result (a.levels + a.k * a.s)
+    (end l) a.work.now d.level_at-at.ensures b.level_at-base.ensures)
 
 pub level_at-base-requires : goal.level_at-base-requires
 level_at-base-requires c =
@@ -167,7 +167,7 @@ in_difference-requires c =
     let l = i.before in
     let a = (start_of l).args in (
       part_bit a.s d.level_at-at.result (end l) a.work.now (high_room d) (bit i),
-      part_bit a.s (base_of l).level_at_lem.result (end l) a.work.now (base_room l) (bit i),
+      part_bit a.s (base_of l).level_at-base.result (end l) a.work.now (base_room l) (bit i),
     )
 
 pub climb-highest-requires : goal.climb-highest-requires
@@ -187,15 +187,15 @@ loop-e-preserved c =
     let g = start_of l in
     let a = g.args in
     let To = HighestTo a.offsets.now a.targets.now (all l) a.k a.v.0 a.best (l.loop-e.e + 1) in
-    ⊎_elim
-    (λ y.
-    subst To (sym y.2)
-    (highest_new l.loop-e.invariant i.loop-e-test.true g.requires.nested g.requires.edges.top
-    (asked c.before.before ∙ y.0.taken) y.1.ensures))
-    (λ y.
-    subst To (sym y.1)
-    (highest_same l.loop-e.invariant i.loop-e-test.true g.requires.nested (asked c.before.before ∙ y.0.left)))
-    c.if-in_difference.branch
+    elim c.if-in_difference.branch [
+      | then-in_difference y ↦
+          subst To (sym y.highest-is)
+          (highest_new l.loop-e.invariant i.loop-e-test.true g.requires.nested g.requires.edges.top
+          (asked c.before.before ∙ y.if-in_difference.true) y.climb-highest.ensures)
+      | else-in_difference y ↦
+          subst To (sym y.highest-is)
+          (highest_same l.loop-e.invariant i.loop-e-test.true g.requires.nested (asked c.before.before ∙ y.if-in_difference.false))
+    ]
 
 pub returns : goal.returns
 returns c = highest_all c.loop-e.invariant c.loop-e-test.false

@@ -1,8 +1,9 @@
 -- `climb` meets its contract: every level from `best` up to the current one holds w.
+use mathlib.Core.Bool.{not}
+use mathlib.Core.Path.{ap}
 use mathlib.Core.Path.{◌≡◌, sym, ◌∙◌}
 use Prim.Native.Nat.{◌+◌, ◌-◌, ◌*◌, ◌≤◌, ◌<◌, ◌^◌}
 use native.Mathlib.Omega.{arith}
-use borrow.Author.Tests.{not-true, not-false}
 use lib.ListN.{length}
 use Rattle.promotion_escape.specs.Escapes.{sets_from, level_room, part_bit, part_asked}
 use Rattle.promotion_escape.specs.Highest.{climb_none, climb_more, climb_stop, climb_end}
@@ -45,8 +46,8 @@ room c =
 placed :
     (c : AtAfterLevelAt) →
     let a = (start_of c.before.before).args in
-    c.level_at_lem.result + a.s ≤ length a.work.now
-placed c = omega (arith, room c.before, c.level_at_lem.ensures)
+    c.level_at-at.result + a.s ≤ length a.work.now
+placed c = omega (arith, room c.before, c.level_at-at.ensures)
 
 -- what the test said of w
 asked :
@@ -60,7 +61,7 @@ asked c =
     let a = (start_of l).args in
     sym
     (c.contains.ensures ∙
-    part_asked a.s d.level_at_lem.result (a.levels + l.loop-level.level * a.s) a.w.0 a.work.now d.level_at_lem.ensures)
+    part_asked a.s d.level_at-at.result (a.levels + l.loop-level.level * a.s) a.w.0 a.work.now d.level_at-at.ensures)
 
 pub loop-level-init : goal.loop-level-init
 loop-level-init c = climb_none c.requires.low
@@ -86,15 +87,15 @@ contains-requires c =
     let d = c.before.before in
     let g = start_of d.before.before in
     let a = g.args in
-    part_bit a.s d.level_at_lem.result a.w.0 a.work.now (placed d) g.requires.bit
+    part_bit a.s d.level_at-at.result a.w.0 a.work.now (placed d) g.requires.bit
 
 pub returns-then-not-contains : goal.returns-then-not-contains
-returns-then-not-contains c = climb_stop c.loop-level.invariant (asked c.before.before ∙ not-true _ c.if-not-contains.true)
+returns-then-not-contains c = climb_stop c.loop-level.invariant (asked c.before.before ∙ c.if-not-contains.true)
 
 pub loop-level-preserved : goal.loop-level-preserved
 loop-level-preserved c =
     let i = c.before.before.before.before.before in
-    climb_more i.loop-level.invariant i.loop-level-test.true (asked c.before.before ∙ not-false _ c.if-not-contains.false)
+    climb_more i.loop-level.invariant i.loop-level-test.true (asked c.before.before ∙ c.if-not-contains.false)
 
 pub returns : goal.returns
 returns c = climb_end c.loop-level.invariant c.loop-level-test.false
