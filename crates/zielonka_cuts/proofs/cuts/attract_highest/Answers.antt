@@ -47,7 +47,7 @@ meet-requires c =
     let placed = c.before.before in
     let at = placed.before in
     let g = start_of at in
-    highest_parts g.requires.ready g.requires.small at.set_at-of.ensures placed.drawn_at_lem.ensures
+    highest_parts g.requires.ready g.requires.small at.set_at-of.ensures placed.drawn_at-drawn.ensures
 
 pub cut-requires : goal.cut-requires
 cut-requires c =
@@ -55,7 +55,7 @@ cut-requires c =
     let placed = after_places met in
     let at = placed.before in
     let g = start_of at in
-    highest_cuttable g.requires.ready g.requires.small at.set_at-of.ensures placed.drawn_at_lem.ensures
+    highest_cuttable g.requires.ready g.requires.small at.set_at-of.ensures placed.drawn_at-drawn.ensures
     (met.meet.ensures _ g.requires.ready.size)
 
 pub returns : goal.returns
@@ -66,6 +66,6 @@ returns c priorities ready =
     let placed = after_places met in
     let at = placed.before in
     let g = start_of at in
-    highest_made ready g.requires.small at.set_at-of.ensures placed.drawn_at_lem.ensures (met.meet.ensures _ ready.size)
+    highest_made ready g.requires.small at.set_at-of.ensures placed.drawn_at-drawn.ensures (met.meet.ensures _ ready.size)
     named.from_priority.ensures
     (parted.cut.ensures priorities ready.called.accepted)

@@ -45,9 +45,9 @@ give-requires c =
     let high = g.requires.ready.high in
     let above = g.requires.ready.called.above in
     let size = g.requires.ready.size in
-    let odd = placed.odd_at_lem.ensures in
-    let there = placed.drawn_at_lem.ensures in
-    behind (omega arith) (omega (arith, parted.cut.kept.1.1.1.1.1.0))
+    let odd = placed.odd_at-odd.ensures in
+    let there = placed.drawn_at-drawn.ensures in
+    behind (omega arith) (omega (arith, parted.cut.auto.work))
 
 pub returns : goal.returns
 returns c priorities ok =
@@ -55,7 +55,7 @@ returns c priorities ok =
     let placed = given.before.before in
     let parted = after_cut placed.before in
     let named = after_named parted in
-    lost_made (start_of named).requires named.opponent_of-player.ensures placed.odd_at_lem.ensures placed.drawn_at_lem.ensures
+    lost_made (start_of named).requires named.opponent_of-player.ensures placed.odd_at-odd.ensures placed.drawn_at-drawn.ensures
     priorities
     (parted.cut.ensures priorities ok)
     given.give.ensures

@@ -38,7 +38,7 @@ pub attract-requires : goal.attract-requires
 attract-requires c =
     let named = c.before.before in
     let placed = named.before in
-    cut_attractable (start_of placed).requires named.index.ensures.1 placed.drawn_at_lem.ensures
+    cut_attractable (start_of placed).requires named.index.ensures.1 placed.drawn_at-drawn.ensures
 
 pub without-requires : goal.without-requires
 without-requires c =
@@ -48,9 +48,9 @@ without-requires c =
     let high = g.requires.ready.high in
     let above = g.requires.ready.called.above in
     let size = g.requires.ready.size in
-    let there = placed.drawn_at_lem.ensures in
+    let there = placed.drawn_at-drawn.ensures in
     let next = c.next_set.ensures in
-    let long = drawn.attract.auto.1.1.1.1.0 in
+    let long = drawn.attract.auto.work in
     (before (omega arith) (omega arith), before (omega arith) (omega arith))
 
 pub returns : goal.returns
@@ -61,6 +61,6 @@ returns c =
     let named = after_index drawn in
     let placed = named.before in
     let g = start_of placed in
-    cut_done g.requires named.index.result named.index.ensures.0 placed.drawn_at_lem.ensures taken.next_set.ensures priorities ok
+    cut_done g.requires named.index.result named.index.ensures.0 placed.drawn_at-drawn.ensures taken.next_set.ensures priorities ok
     (drawn.attract.ensures priorities ok)
     (taken.without.ensures _ g.requires.ready.size)
