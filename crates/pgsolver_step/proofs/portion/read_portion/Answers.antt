@@ -44,10 +44,10 @@ abbrev start : AtAtLoop → AtStart
 start c = c.before.before.before.before.before.before.before.before
 
 below : (c : AtAfterSliceKnown8) → (loop_at c).loop-i.i < length (start (loop_at c)).args.text.now
-below c = omega (arith, (limited (done_at c)).before.loop-i-test.taken)
+below c = omega (arith, (limited (done_at c)).before.loop-i-test.true)
 
 early : (c : AtAfterSliceKnown8) → (loop_at c).loop-i.at < (start (loop_at c)).args.most_bytes
-early c = (limited (done_at c)).if-most_bytes-at.left
+early c = (limited (done_at c)).if-most_bytes-at.false
 
 -- a step that ends the portion
 stops :
@@ -161,24 +161,24 @@ returns-then-most_bytes-at c =
     (λ h. at.loop-i.invariant.1.capped h)
 
 pub returns-in-Off : goal.returns-in-Off
-returns-in-Off c = stops c.before.before.before Off (Stuck (loop_at c.before.before.before).loop-i.at) stuck c.enum_told-1.given.1
+returns-in-Off c = stops c.before.before Off (Stuck (loop_at c.before.before).loop-i.at) stuck c.in-Off.is
 
 pub returns-in-Over : goal.returns-in-Over
-returns-in-Over c = stops c.before.before.before Over (Beyond (loop_at c.before.before.before).loop-i.at) beyond c.enum_told-in-Over-1.given.1
+returns-in-Over c = stops c.before.before Over (Beyond (loop_at c.before.before).loop-i.at) beyond c.in-Over.is
 
 pub overflow_add-at : goal.overflow_add-at
-overflow_add-at c = omega (arith, early c.before.before.before.before, (start (loop_at c.before.before.before.before)).fits.most_bytes)
+overflow_add-at c = omega (arith, early c.before.before, (start (loop_at c.before.before)).ranges.most_bytes.fits)
 
 pub overflow_step-i : goal.overflow_step-i
 overflow_step-i c =
-    let here = c.before.before.before.before in
+    let here = c.before.before in
     let at = loop_at here in
     let more : at.loop-i.i < length (start at).args.text.now = below here in
     search rules
 
 pub loop-i-preserved : goal.loop-i-preserved
 loop-i-preserved c =
-    let here = c.before.before.before.before in
+    let here = c.before.before in
     let done = done_at here in
     let at = loop_at here in
     let args = (start at).args in (
@@ -199,12 +199,12 @@ loop-i-preserved c =
           at.loop-i.invariant.1
           (below here)
           done.read_byte.result
-          c.next-1.given.0.0
+          c.in-On.next
           done.read_byte.new.owners
           done.read_byte.new.priorities
           done.read_byte.new.offsets
           done.read_byte.new.targets
-          c.next-1.given.1
+          c.in-On.is
           (early here)
           (search rules)
           (search rules)
@@ -217,7 +217,7 @@ pub returns : goal.returns
 returns c =
     let at = c.before.before in
     let args = (start at).args in
-    let all : at.loop-i.i ≡ length args.text.now = omega (arith, at.loop-i.invariant.1.up_to_lem, c.loop-i-test.false) in
+    let all : at.loop-i.i ≡ length args.text.now = omega (arith, at.loop-i.invariant.1.up_to, c.loop-i-test.false) in
     portions args.most_bytes at.limit-vertices.result at.limit-edges.result args.place args.state
     args.text.now
     args.owners.now

@@ -55,47 +55,36 @@ moved c is = rw c.advance.ensures at is
 
 pub returns-in-On : goal.returns-in-On
 returns-in-On c =
-    let at = c.before.before.before.before in
-    let on = c.next-1.given in
-    here steps_on at on.0.0 (moved at on.1)
+    let at = c.before.before in
+    here steps_on at c.in-On.next (moved at c.in-On.is)
 
 pub returns-in-Off : goal.returns-in-Off
 returns-in-Off c =
-    let at = c.before.before.before in
-    here steps_off at (moved at c.enum_told-1.given.1)
+    let at = c.before.before in
+    here steps_off at (moved at c.in-Off.is)
 
 pub returns-in-Over : goal.returns-in-Over
 returns-in-Over c =
-    let at = c.before.before.before in
-    here steps_over at (moved at c.enum_told-in-Over-1.given.1)
+    let at = c.before.before in
+    here steps_over at (moved at c.in-Over.is)
 
 pub returns-in-Aim : goal.returns-in-Aim
 returns-in-Aim c =
-    let aimed = c.before.before.before in
-    let known = aimed.before.before.before in
-    let at = known.before.before in
-    let on = known.next-in-Aim-1.given in
-    here steps_aim at on.0.0 aimed.aim.new.targets (moved at on.1) aimed.aim.ensures
+    let at = c.before.before.before.before.before.before in
+    here steps_aim at c.in-Aim.next c.aim.new.targets (moved at c.in-Aim.is) c.aim.ensures
 
 pub returns-in-Close : goal.returns-in-Close
 returns-in-Close c =
-    let done = c.before.before.before.before.before.before.before in
-    let known = done.before.before.before.before.before in
-    let at = known.before.before in
-    let on = known.next-in-Close-1.given in
-    here steps_close at on.0.0 done.close.new.owners done.close.new.priorities done.close.new.offsets
-    (moved at on.1)
-    done.close.ensures
+    let at = c.before.before.before.before.before.before.before.before.before.before.before.before in
+    here steps_close at c.in-Close.next c.close.new.owners c.close.new.priorities c.close.new.offsets
+    (moved at c.in-Close.is)
+    c.close.ensures
 
 pub returns-in-AimClose : goal.returns-in-AimClose
 returns-in-AimClose c =
-    let done = c.before.before.before.before.before.before.before in
-    let aimed = done.before.before.before.before.before.before in
-    let known = aimed.before.before.before in
-    let at = known.before.before in
-    let on = known.next-in-AimClose-1.given in
-    here steps_aim_close at on.0.0 done.close-in-AimClose.new.owners done.close-in-AimClose.new.priorities done.close-in-AimClose.new.offsets
-    aimed.aim-in-AimClose.new.targets
-    (moved at on.1)
-    aimed.aim-in-AimClose.ensures
-    done.close-in-AimClose.ensures
+    let at = c.before.before.before.before.before.before.before.before.before.before.before.before.before.before.before.before in
+    here steps_aim_close at c.in-AimClose.next c.close-in-AimClose.new.owners c.close-in-AimClose.new.priorities c.close-in-AimClose.new.offsets
+    c.aim-in-AimClose.new.targets
+    (moved at c.in-AimClose.is)
+    c.aim-in-AimClose.ensures
+    c.close-in-AimClose.ensures
