@@ -95,8 +95,8 @@ without-requires c =
     let fits = given_fits q in
     let next = at.next_set-below.ensures in
     let long = (all.attract.ensures q.priorities q.accepted).long in (
-      record { into-fits = omega arith; from-fits = omega arith; apart = inr (omega arith) },
-      record { into-fits = omega arith; from-fits = omega arith; apart = inr (omega arith) },
+      record { into_fits = omega arith; from_fits = omega arith; apart = inr (omega arith) },
+      record { into_fits = omega arith; from_fits = omega arith; apart = inr (omega arith) },
     )
 
 pub union_with-requires : goal.union_with-requires
@@ -104,7 +104,7 @@ union_with-requires c =
     let at = c.before.before.before.before in
     let fits = given_fits (first at).requires.asked in
     let next = at.next_set-below.ensures in
-    record { into-fits = omega arith; from-fits = omega arith; apart = inr (omega arith) }
+    record { into_fits = omega arith; from_fits = omega arith; apart = inr (omega arith) }
 
 pub attract-requires-else-work-mark-eq0 : goal.attract-requires-else-work-mark-eq0
 attract-requires-else-work-mark-eq0 c =
@@ -121,7 +121,7 @@ difference_with-requires c =
     let fits = given_fits q in
     let next = at.next_set-below.ensures in
     let long = (drawn.attract-else-work-mark-eq0.ensures q.priorities q.accepted).long ∙ joined.union_with.ensures.long in
-    record { into-fits = omega arith; from-fits = omega arith; apart = inr (omega arith) }
+    record { into_fits = omega arith; from_fits = omega arith; apart = inr (omega arith) }
 
 pub without-requires-else-work-mark-eq0 : goal.without-requires-else-work-mark-eq0
 without-requires-else-work-mark-eq0 c =
@@ -136,20 +136,20 @@ without-requires-else-work-mark-eq0 c =
     lost.difference_with.ensures.long ∙
     (drawn.attract-else-work-mark-eq0.ensures q.priorities q.accepted).long ∙
     joined.union_with.ensures.long in (
-      record { into-fits = omega arith; from-fits = omega arith; apart = inl (omega arith) },
-      record { into-fits = omega arith; from-fits = omega arith; apart = inl (omega arith) },
+      record { into_fits = omega arith; from_fits = omega arith; apart = inl (omega arith) },
+      record { into_fits = omega arith; from_fits = omega arith; apart = inl (omega arith) },
     )
 
 pub offset_bounds-work-mark-else-work-mark-eq0 : goal.offset_bounds-work-mark-else-work-mark-eq0
 offset_bounds-work-mark-else-work-mark-eq0 c =
-    record { fits = (mul-if1 (known (joined_of (drawn_of (lost_of c.before.before.before))))).fits }
+    let fits = given_fits c.requires.asked in search rules
 
 pub returns-then-work-mark-eq0 : goal.returns-then-work-mark-eq0
 returns-then-work-mark-eq0 c =
     let lost = c.before.before.before in
     let all = all_of lost in
     let at = whole_known all in
-    given_whole (first at).requires at.next_set-below.ensures (unmarked_of all).if-work-mark-eq0.taken all.attract.ensures lost.without.ensures
+    given_whole (first at).requires at.next_set-below.ensures (unmarked_of all).if-work-mark-eq0.true all.attract.ensures lost.without.ensures
 
 pub returns-else-work-mark-eq0 : goal.returns-else-work-mark-eq0
 returns-else-work-mark-eq0 c =
@@ -164,4 +164,4 @@ returns-else-work-mark-eq0 c =
 pub shape_of-work-else-work-mark-eq0 : goal.shape_of-work-else-work-mark-eq0
 shape_of-work-else-work-mark-eq0 c =
     let g = first (known (joined_of (drawn_of (lost_of c.before.before.before)))) in
-    given_long g.requires.asked g.requires.player (returns-2 c.before)
+    given_long g.requires.asked g.requires.player (returns-else-work-mark-eq0 c)

@@ -68,8 +68,8 @@ meet-requires c =
     let last = (placed named).next_set-heads.ensures in
     let low = given_low q c.set_at-of.ensures in
     let long = given_long q (own_of named) drawn.draw_region.ensures in (
-      record { into-fits = omega arith; from-fits = omega arith; apart = inr (omega arith) },
-      record { into-fits = omega arith; from-fits = omega arith; apart = inr (omega arith) },
+      record { into_fits = omega arith; from_fits = omega arith; apart = inr (omega arith) },
+      record { into_fits = omega arith; from_fits = omega arith; apart = inr (omega arith) },
     )
 
 pub returns : goal.returns
