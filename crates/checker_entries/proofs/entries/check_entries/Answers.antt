@@ -1,5 +1,6 @@
 -- `check_entries` meets its contract. The loop over vertices: no entry passed is wrong. The loop over a vertex's edges: none
 -- passed is the entry.
+use mathlib.Core.Bool.{not}
 use mathlib.Core.Bool.{false}
 use mathlib.Core.Path.{◌≡◌, refl, sym, ap, ◌∙◌}
 use Prim.Native.Nat.{ℕ, ◌+◌, ◌-◌}
@@ -63,7 +64,7 @@ returns-then-strategy-v c =
     let l = (turn d).vertices in
     c.bad_entry.ensures ∙
     outcome_found (entry_number s.args.strategy.now) _ (wrong s) (answered 0) l.v (omega arith) l.invariant.2
-    (entry_other s.requires l.v (omega arith) (sym d.is_own.ensures ∙ not-true _ b.if-not-is_own.true)
+    (entry_other s.requires l.v (omega arith) (sym d.is_own.ensures ∙ not-true _ (ap not b.if-not-is_own.true))
     b.if-strategy-v.true)
 
 pub vertices-preserved-then-not-is_own : goal.vertices-preserved-then-not-is_own
@@ -74,7 +75,7 @@ vertices-preserved-then-not-is_own c =
       refl,
       below_more _ _ l.invariant.2
           (entry_none (start d).requires l.v (omega arith)
-          (sym d.is_own.ensures ∙ not-true _ c.if-not-is_own.true) c.if-strategy-v.false),
+          (sym d.is_own.ensures ∙ not-true _ (ap not c.if-not-is_own.true)) c.if-strategy-v.false),
     )
 
 pub overflow_step-e : goal.overflow_step-e
@@ -102,15 +103,13 @@ vertices-preserved c =
     let d = owned e in
     let s = start d in
     let l = (turn d).vertices in
-    let i = e.loop-e in
-    let is : i.v ≡ l.v = i.invariant.0 in (
+    let i = e.loop-e in (
       omega arith,
       refl,
-      rw is
-          (below_more _ _ l.invariant.2
+      below_more _ _ l.invariant.2
           (entry_target s.requires l.v (omega arith)
-          (sym d.is_own.ensures ∙ not-false _ e.if-not-is_own.false) i.e i.invariant.1 (omega arith)
-          (c.if-targets-e.true ∙ ap (λ (k : ℕ). get_or s.args.strategy.now k 0) is))),
+          (sym d.is_own.ensures ∙ e.if-not-is_own.false) i.e i.invariant.1 (omega arith)
+          c.if-targets-e.true),
     )
 
 pub loop-e-preserved : goal.loop-e-preserved
@@ -137,12 +136,10 @@ returns-in-vertices c =
     let s = start d in
     let l = (turn d).vertices in
     let i = e.loop-e in
-    let is : i.v ≡ l.v = i.invariant.0 in
     c.bad_entry-in-vertices.ensures ∙
-    rw is
     (outcome_found (entry_number s.args.strategy.now) _ (wrong s) (answered 0) l.v (omega arith) l.invariant.2
     (entry_no_target s.requires l.v (omega arith)
-    (sym d.is_own.ensures ∙ not-false _ e.if-not-is_own.false) i.e (omega arith) i.invariant.5))
+    (sym d.is_own.ensures ∙ e.if-not-is_own.false) i.e (omega arith) i.invariant.5))
 
 pub returns : goal.returns
 returns c =
