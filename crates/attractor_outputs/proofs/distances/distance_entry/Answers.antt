@@ -1,4 +1,6 @@
 -- `distance_entry` meets its contract, by the cases of its tests.
+use mathlib.Core.Bool.{not}
+use mathlib.Core.Path.{ap}
 use mathlib.Core.Path.{◌≡◌, sym, ◌∙◌}
 use mathlib.Core.Bool.{true, false}
 use native.Mathlib.Omega.{arith}
@@ -28,7 +30,7 @@ at1 c = c.before.before.before.before
 
 -- what the tests say
 in_result : (c : AtElse1) → set_of (at1 c.before).args.res.now (at1 c.before).args.v ≡ true
-in_result c = sym c.contains.ensures ∙ not-false _ c.if-not-contains.false
+in_result c = sym c.contains.ensures ∙ not-false _ (ap not c.if-not-contains.false)
 
 out_target : (c : AtElse2) → let a = (at1 c.before.before.before).args in set_of a.target.now a.v ≡ false
 out_target c = sym c.contains-2.ensures ∙ c.if-contains.false
@@ -36,14 +38,14 @@ out_target c = sym c.contains-2.ensures ∙ c.if-contains.false
 pub returns-then-not-contains : goal.returns-then-not-contains
 returns-then-not-contains c =
     let a = (at1 c.before.before).args in
-    measure_out a.target.now a.result.now (word_of a.work.now a.far) a.v
-    (sym c.contains.ensures ∙ not-true _ c.if-not-contains.true)
+    measure_out a.target.now a.res.now (word_of a.work.now a.far) a.v
+    (sym c.contains.ensures ∙ c.if-not-contains.true)
 
 pub returns-then-contains : goal.returns-then-contains
 returns-then-contains c =
     let e = c.before.before.before in
     let a = (at1 e.before).args in
-    measure_target a.target.now a.result.now (word_of a.work.now a.far) a.v
+    measure_target a.target.now a.res.now (word_of a.work.now a.far) a.v
     (in_result e) (sym c.contains-2.ensures ∙ c.if-contains.true)
 
 pub overflow_cast-result : goal.overflow_cast-result
@@ -58,4 +60,4 @@ returns c =
     let d = c.before.before in
     let e = d.before.before in
     let a = (at1 e.before).args in
-    measure_drawn a.target.now a.result.now (word_of a.work.now a.far) a.v (in_result e) (out_target d)
+    measure_drawn a.target.now a.res.now (word_of a.work.now a.far) a.v (in_result e) (out_target d)

@@ -46,7 +46,7 @@ loop-v-preserved c =
     let l = d.loop-v in (
       search rules,
       length-set l.distances l.v _ ∙ l.invariant.1,
-      stored_more (measure a.target.now a.result.now (word_of a.work.now a.far)) l.distances l.v
+      stored_more (measure a.target.now a.res.now (word_of a.work.now a.far)) l.distances l.v
           c.distance_entry.result (fits d) c.distance_entry.ensures l.invariant.2,
     )
 
@@ -59,6 +59,6 @@ returns c =
     let g = start_of c.before.before in
     let a = g.args in
     listed_is (length a.distances.now)
-    (measure a.target.now a.result.now (word_of a.work.now a.far)) 0 l.distances
+    (measure a.target.now a.res.now (word_of a.work.now a.far)) 0 l.distances
     l.invariant.1
     (λ v less. l.invariant.2 v (omega (arith, c.loop-v-test.false)))

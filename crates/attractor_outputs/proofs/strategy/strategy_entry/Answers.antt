@@ -1,4 +1,6 @@
 -- `strategy_entry` meets its contract, by the cases of its tests.
+use mathlib.Core.Bool.{not}
+use mathlib.Core.Path.{ap}
 use mathlib.Core.Path.{◌≡◌, sym, ◌∙◌}
 use mathlib.Core.Bool.{true, false}
 use native.Mathlib.Omega.{arith}
@@ -28,7 +30,7 @@ at1 c = c.before.before.before.before.before
 
 -- what the tests say
 in_result : (c : AtElse1) → set_of (at1 c.before).args.res.now (at1 c.before).args.v ≡ true
-in_result c = sym c.contains.ensures ∙ not-false _ c.if-not-contains.false
+in_result c = sym c.contains.ensures ∙ not-false _ (ap not c.if-not-contains.false)
 
 out_target : (c : AtElse2) → let a = (at1 c.before.before.before).args in set_of a.target.now a.v ≡ false
 out_target c = sym c.contains-2.ensures ∙ c.if-contains.false
@@ -36,14 +38,14 @@ out_target c = sym c.contains-2.ensures ∙ c.if-contains.false
 pub returns-then-not-contains : goal.returns-then-not-contains
 returns-then-not-contains c =
     let a = (at1 c.before.before).args in
-    chosen_out a.owners.now a.alpha a.target.now a.result.now (word_of a.work.now a.entries) a.v
-    (sym c.contains.ensures ∙ not-true _ c.if-not-contains.true)
+    chosen_out a.owners.now a.alpha a.target.now a.res.now (word_of a.work.now a.entries) a.v
+    (sym c.contains.ensures ∙ c.if-not-contains.true)
 
 pub returns-then-contains : goal.returns-then-contains
 returns-then-contains c =
     let e = c.before.before.before in
     let a = (at1 e.before).args in
-    chosen_target a.owners.now a.alpha a.target.now a.result.now (word_of a.work.now a.entries) a.v
+    chosen_target a.owners.now a.alpha a.target.now a.res.now (word_of a.work.now a.entries) a.v
     (in_result e) (sym c.contains-2.ensures ∙ c.if-contains.true)
 
 pub returns-then-owners-v : goal.returns-then-owners-v
@@ -51,7 +53,7 @@ returns-then-owners-v c =
     let d = c.before.before.before in
     let e = d.before.before in
     let a = (at1 e.before).args in
-    chosen_other a.owners.now a.alpha a.target.now a.result.now (word_of a.work.now a.entries) a.v
+    chosen_other a.owners.now a.alpha a.target.now a.res.now (word_of a.work.now a.entries) a.v
     (in_result e) (out_target d) (ne_eqb _ _ c.if-owners-v.true)
 
 pub overflow_cast-result : goal.overflow_cast-result
@@ -63,7 +65,7 @@ overflow_cast-result c =
     omega (
       arith,
       g.requires.narrow
-          (drawn_so a.owners.now a.alpha a.target.now a.result.now (word_of a.work.now a.entries) a.v
+          (drawn_so a.owners.now a.alpha a.target.now a.res.now (word_of a.work.now a.entries) a.v
           (in_result e) (out_target d) (eq-eqb _ _ c.if-owners-v.false)),
     )
 
@@ -72,5 +74,5 @@ returns c =
     let d = c.before.before.before.before in
     let e = d.before.before in
     let a = (at1 e.before).args in
-    chosen_own a.owners.now a.alpha a.target.now a.result.now (word_of a.work.now a.entries) a.v
+    chosen_own a.owners.now a.alpha a.target.now a.res.now (word_of a.work.now a.entries) a.v
     (in_result e) (out_target d) (eq-eqb _ _ c.if-owners-v.false)

@@ -46,7 +46,7 @@ loop-v-preserved c =
     let l = d.loop-v in (
       search rules,
       length-set l.strategy l.v _ ∙ l.invariant.1,
-      stored_more (chosen a.owners.now a.alpha a.target.now a.result.now (word_of a.work.now a.entries))
+      stored_more (chosen a.owners.now a.alpha a.target.now a.res.now (word_of a.work.now a.entries))
           l.strategy l.v
           c.strategy_entry.result (fits d) c.strategy_entry.ensures l.invariant.2,
     )
@@ -60,6 +60,6 @@ returns c =
     let g = start_of c.before.before in
     let a = g.args in
     listed_is (length a.owners.now)
-    (chosen a.owners.now a.alpha a.target.now a.result.now (word_of a.work.now a.entries)) 0 l.strategy
+    (chosen a.owners.now a.alpha a.target.now a.res.now (word_of a.work.now a.entries)) 0 l.strategy
     (l.invariant.1 ∙ g.requires.each)
     (λ v less. l.invariant.2 v (omega (arith, c.loop-v-test.false)))
