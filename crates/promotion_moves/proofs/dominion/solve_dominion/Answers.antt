@@ -35,11 +35,11 @@ own : (c : AtAfterDrawUnsolved) → player_of c.index.result ≡ parity (first c
 own c = let named = c.before.before in named.index.ensures.0 ∙ named.from_priority-player.ensures
 
 -- the place of the set won
-picked : (c : AtAfterWonAt) → let a = (first (drawn c)).args in c.won_at_lem.result ≡ won_behind a.s a.held (parity a.p.0)
+picked : (c : AtAfterWonAt) → let a = (first (drawn c)).args in c.won_at-won.result ≡ won_behind a.s a.held (parity a.p.0)
 picked c =
     let d = drawn c in
     let a = (first d).args in
-    c.won_at_lem.ensures ∙ ap (won_behind a.s a.held) d.from_priority-player.ensures
+    c.won_at-won.ensures ∙ ap (won_behind a.s a.held) d.from_priority-player.ensures
 
 pub draw_unsolved-requires : goal.draw_unsolved-requires
 draw_unsolved-requires c =

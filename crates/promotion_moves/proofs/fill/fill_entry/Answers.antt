@@ -4,14 +4,11 @@ use Rattle.promotion_moves.proofs.fill.fill_entry.Goals as goal
 
 pub lowest_inside-w-requires : goal.lowest_inside-w-requires
 lowest_inside-w-requires c =
-    let g = c.before.before.before.before.before.before.before.before.before.before.before in search_ready g.requires
+    search_ready c.requires
 
 pub returns-then-work-entry-eq-NO_ENTRY : goal.returns-then-work-entry-eq-NO_ENTRY
 returns-then-work-entry-eq-NO_ENTRY c =
-    let then-none = c.before.before.before.before in
-    let then-own = then-none.before.before in
-    let g = then-own.before.before.before.before.before.before in
-    filled_now g.requires then-own.if-owners-at.true then-none.if-work-entry-eq-NO_ENTRY.true c.lowest_inside-w.ensures
+    filled_now c.requires c.if-owners-at.true c.if-work-entry-eq-NO_ENTRY.true c.lowest_inside-w.ensures
 
 pub returns-else-work-entry-eq-NO_ENTRY : goal.returns-else-work-entry-eq-NO_ENTRY
 returns-else-work-entry-eq-NO_ENTRY c =

@@ -25,15 +25,15 @@ depth_long :
     (lost : AtAfterDifferenceWith) (x : ℕ) →
     length (set lost.difference_with.new.words (start_of lost).args.depth x) ≡ length (start_of lost).args.work.now
 depth_long lost x =
-    length-set lost.difference_with.new.words (start_of lost).args.depth x ∙ lost.difference_with.auto.0
+    length-set lost.difference_with.new.words (start_of lost).args.depth x ∙ lost.difference_with.auto.words
 
 pub difference_with-requires : goal.difference_with-requires
 difference_with-requires c =
     let next = c.next_set-below.ensures in
     let given = c.requires in
     record {
-      into-fits = omega (arith, given.high);
-      from-fits = omega (arith, given.held_low, given.depth_low, given.mark_low, given.high);
+      into_fits = omega (arith, given.high);
+      from_fits = omega (arith, given.held_low, given.depth_low, given.mark_low, given.high);
       apart = inr (omega (arith, given.held_low, given.depth_low, given.mark_low));
     }
 
