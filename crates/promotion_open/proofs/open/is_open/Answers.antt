@@ -5,7 +5,7 @@ use native.Mathlib.Omega.{arith}
 use mathlib.Core.Bool.{true, false}
 use mathlib.Core.Logic.{⊎_elim, inl, inr}
 use mathlib.Core.Path.{◌≡◌, sym, ◌∙◌}
-use borrow.Author.Tests.{not-true, not-false}
+use borrow.Author.Tests.{eq-eqb, ne_eqb}
 use lib.Dec.{eqb}
 use lib.ListN.{length, get_or}
 use Rattle.rules.specs.Counting.{Set, some_of}
@@ -21,6 +21,7 @@ use Rattle.promotion_open.proofs.open.is_open.Lts as lts
 use Rattle.promotion_open.proofs.open.is_open.Reads as reads
 use Rattle.promotion_open.proofs.open.is_open.Tie as tie
 use Rattle.promotion_open.proofs.open.is_open.Goals as goal
+use Rattle.promotion_open.proofs.open.is_open.Goals.{then-own, else-own}
 
 abbrev AtAfterContains : Type 0
 AtAfterContains = lts.After-contains tie.the-claims reads.Pre reads.Post goal.the-invariant-loop-e goal.the-decreases-loop-e goal.the-invariant-vertices goal.the-decreases-vertices
@@ -28,8 +29,8 @@ AtAfterContains = lts.After-contains tie.the-claims reads.Pre reads.Post goal.th
 abbrev AtAfterLoop : Type 0
 AtAfterLoop = lts.After-loop tie.the-claims reads.Pre reads.Post goal.the-invariant-loop-e goal.the-decreases-loop-e goal.the-invariant-vertices goal.the-decreases-vertices
 
-abbrev AtAfterNext2 : Type 0
-AtAfterNext2 = lts.After-next2 tie.the-claims reads.Pre reads.Post goal.the-invariant-loop-e goal.the-decreases-loop-e goal.the-invariant-vertices goal.the-decreases-vertices
+abbrev AtMember : Type 0
+AtMember = lts.Past-After-known_told tie.the-claims reads.Pre reads.Post goal.the-invariant-loop-e goal.the-decreases-loop-e goal.the-invariant-vertices goal.the-decreases-vertices
 
 abbrev AtAtLoop : Type 0
 AtAtLoop = lts.At-loop tie.the-claims reads.Pre reads.Post goal.the-invariant-loop-e goal.the-decreases-loop-e goal.the-invariant-vertices goal.the-decreases-vertices
@@ -53,37 +54,37 @@ AtStart = lts.Start tie.the-claims reads.Pre reads.Post goal.the-invariant-loop-
 abbrev start_of : AtAtVertices → AtStart
 start_of c = c.before.before.before.before.before.before
 
-abbrev turn : AtAfterNext2 → AtAtVertices
-turn c = c.before.before.before
+abbrev turn : AtMember → AtAtVertices
+turn c = c.before.before
 
-abbrev first : AtAfterNext2 → AtStart
+abbrev first : AtMember → AtStart
 first c = start_of (turn c)
 
 -- the vertex that the walk came to, and the walk after it
-abbrev vertex : AtAfterNext2 → ℕ
-vertex c = c.next-1.given.0.0.0
+abbrev vertex : AtMember → ℕ
+vertex c = c.in-Member.index.0
 
-abbrev after : AtAfterNext2 → Members
-after c = c.next-1.given.0.1.0
+abbrev after : AtMember → Members
+after c = c.in-Member.rest
 
-reached : (c : AtAfterNext2) → Reached (turn c).vertices.invariant (vertex c) (after c)
+reached : (c : AtMember) → Reached (turn c).vertices.invariant (vertex c) (after c)
 reached c =
     walked_next (escape_walkable (first c).requires.escapes) (turn c).vertices.invariant c.next-next.ensures
-    c.next-1.given.1
+    c.in-Member.is
 
 -- where the vertex has its place to look, and the turn of the outer loop that the inner one stands in
 abbrev joined : AtAtLoop → AtJoined1
 joined c = c.before.before.before
 
-abbrev told : AtJoined1 → AtAfterNext2
-told c = c.before.before.before
+abbrev told : AtJoined1 → AtMember
+told c = c.before.before
 
-abbrev outer : AtAtLoop → AtAfterNext2
+abbrev outer : AtAtLoop → AtMember
 outer c = told (joined c)
 
 -- its edges
 edges :
-    (c : AtAfterNext2) →
+    (c : AtMember) →
     let a = (first c).args in
     EdgesIn a.offsets.now a.targets.now a.s (vertex c)
 edges c = edges_ready (first c).requires.escapes (vertex c) (reached c).small
@@ -93,7 +94,7 @@ looked :
     (c : AtJoined1) →
     let a = (first (told c)).args in
     Looked (eqb (get_or a.owners.now (vertex (told c)) 0) a.alpha) a.held a.below c.if-own.place
-looked c = ⊎_elim (λ y. inl (y.0.taken, y.1)) (λ y. inr (y.0.left, y.1)) c.if-own.branch
+looked c = elim c.if-own.branch [ then-own y ↦ inl (eq-eqb _ _ y.if-own.true, y.place-is) | else-own y ↦ inr (ne_eqb _ _ y.if-own.false, y.place-is) ]
 
 fits :
     (c : AtJoined1) →
@@ -138,14 +139,14 @@ next-next-requires c = walked_few (escape_walkable (start_of c.before).requires.
 
 pub returns-in_default : goal.returns-in_default
 returns-in_default c =
-    let d = c.before.before.before.before in
+    let d = c.before.before.before in
     let g = start_of d in
     let a = g.args in
     open_none a.owners.now a.offsets.now a.targets.now a.alpha a.heads a.held a.below a.work.now
-    (walked_all (escape_walkable g.requires.escapes) d.vertices.invariant c.next-next.ensures c.enum_told-1.given.1)
+    (walked_all (escape_walkable g.requires.escapes) d.vertices.invariant c.next-next.ensures c.in_default.is)
 
 pub bounds-owners-v : goal.bounds-owners-v
-bounds-owners-v c = (reached c.before.before.before).small
+bounds-owners-v c = (reached c.before.before).small
 
 pub offset_bounds-offsets-v : goal.offset_bounds-offsets-v
 offset_bounds-offsets-v c = let d = told c.before in omega (arith, (edges d).each, (first d).well_formed)
@@ -219,7 +220,7 @@ loop-e-preserved c =
       omega (arith, l.loop-e.invariant.0),
       omega (arith, i.loop-e-test.true),
       none_more a.offsets.now a.targets.now (vertex d) (there (joined l)) l.loop-e.e l.loop-e.invariant.2
-          (asked c.before.before ∙ not-true _ c.if-not-contains.true),
+          (asked c.before.before ∙ c.if-not-contains.true),
     )
 
 -- an edge into the set was found
@@ -233,7 +234,7 @@ found c =
     let l = i.before in
     let a = (first (outer l)).args in
     some_at a.offsets.now a.targets.now (vertex (outer l)) (there (joined l)) l.loop-e.e l.loop-e.invariant.0
-    i.loop-e-test.true (edge_inside i) (asked c.before ∙ not-false _ c.if-not-contains.false)
+    i.loop-e-test.true (edge_inside i) (asked c.before ∙ c.if-not-contains.false)
 
 -- none was
 none :
@@ -258,7 +259,7 @@ vertices-preserved-then-own-2 c =
     (reached d).more
     (passes
     (shut_own a.owners.now a.offsets.now a.targets.now a.alpha a.held a.below a.work.now (vertex d)
-    (joined l).if-own.place c.if-own-2.true (looked (joined l)) (found c.before.before)))
+    (joined l).if-own.place (eq-eqb _ _ c.if-own-2.true) (looked (joined l)) (found c.before.before)))
 
 pub returns-in-loop-e : goal.returns-in-loop-e
 returns-in-loop-e c =
@@ -268,7 +269,7 @@ returns-in-loop-e c =
     open_found a.owners.now a.offsets.now a.targets.now a.alpha a.heads a.held a.below a.work.now
     (vertex d) (reached d).small (reached d).member
     (open_other a.owners.now a.offsets.now a.targets.now a.alpha a.held a.below a.work.now (vertex d)
-    (joined l).if-own.place c.if-own-2.false (looked (joined l)) (found c.before.before))
+    (joined l).if-own.place (ne_eqb _ _ c.if-own-2.false) (looked (joined l)) (found c.before.before))
 
 pub returns-then-own-3 : goal.returns-then-own-3
 returns-then-own-3 c =
@@ -278,7 +279,7 @@ returns-then-own-3 c =
     open_found a.owners.now a.offsets.now a.targets.now a.alpha a.heads a.held a.below a.work.now
     (vertex d) (reached d).small (reached d).member
     (open_own a.owners.now a.offsets.now a.targets.now a.alpha a.held a.below a.work.now (vertex d)
-    (joined l).if-own.place c.if-own-3.true (looked (joined l)) (none c.before.before))
+    (joined l).if-own.place (eq-eqb _ _ c.if-own-3.true) (looked (joined l)) (none c.before.before))
 
 pub vertices-smaller : goal.vertices-smaller
 vertices-smaller c = (reached (outer c.before.before.before)).shorter
@@ -291,4 +292,4 @@ vertices-preserved c =
     (reached d).more
     (passes
     (shut_other a.owners.now a.offsets.now a.targets.now a.alpha a.held a.below a.work.now (vertex d)
-    (joined l).if-own.place c.if-own-3.false (looked (joined l)) (none c.before.before)))
+    (joined l).if-own.place (ne_eqb _ _ c.if-own-3.false) (looked (joined l)) (none c.before.before)))
