@@ -107,31 +107,30 @@ here law c =
 
 pub returns-in-Reading : goal.returns-in-Reading
 returns-in-Reading c =
-    let on = c.s-1.given in
-    here takes_on c.before.before.before.before on.0.0 on.1
+    here takes_on c.before.before c.in-Reading.s c.in-Reading.is
 
 pub returns-in-Stuck : goal.returns-in-Stuck
 returns-in-Stuck c =
     let end = c.before.before.before.before.before.before.before.before.before in
     let at = end.before.before.before.before.before.before in
     let zero = end.clear_tables in
-    let same = same_lengths at.before.before in
-    here takes_stuck at.before.before zero.new.owners zero.new.priorities zero.new.offsets zero.new.targets
+    let same = same_lengths at in
+    here takes_stuck at zero.new.owners zero.new.priorities zero.new.offsets zero.new.targets
     same.priorities
     same.offsets
     zero.ensures
-    at.k-1.given.0.0
-    at.k-1.given.1
+    c.in-Stuck.k
+    c.in-Stuck.is
 
 pub returns-in-Beyond : goal.returns-in-Beyond
 returns-in-Beyond c =
     let end = c.before.before.before.before.before.before.before.before.before in
     let at = end.before.before.before.before.before.before in
     let zero = end.clear_tables-in-Beyond in
-    let same = same_lengths at.before.before in
-    here takes_beyond at.before.before zero.new.owners zero.new.priorities zero.new.offsets zero.new.targets
+    let same = same_lengths at in
+    here takes_beyond at zero.new.owners zero.new.priorities zero.new.offsets zero.new.targets
     same.priorities
     same.offsets
     zero.ensures
-    at.k-in-Beyond-1.given.0.0
-    at.k-in-Beyond-1.given.1
+    c.in-Beyond.k
+    c.in-Beyond.is
