@@ -73,10 +73,10 @@ module _ {t : ℕ} where
   start_of c = c.before.before.before.before.before.before.before
 
   abbrev after_words : At lts.After-is_empty t → At lts.After-set_words t
-  after_words c = c.before.before.before
+  after_words c = c.before.before
 
   abbrev after_test : At lts.After-get_highest_prio t → At lts.After-is_empty t
-  after_test c = c.before.before.before
+  after_test c = c.before.before
 
   abbrev after_highest : At lts.After-attract_highest t → At lts.After-get_highest_prio t
   after_highest c = c.before.before
@@ -86,7 +86,7 @@ module _ {t : ℕ} where
   up_cut c = c.before.before.before
 
   abbrev rest_up : At lts.After-is_empty2 t → At lts.After-next_set t
-  rest_up c = c.before.before.before
+  rest_up c = c.before.before
 
   -- it is empty
   abbrev counted_rest : At lts.After-count_call t → At lts.After-is_empty2 t
@@ -125,7 +125,7 @@ module _ {t : ℕ} where
   again_up c = c.before.before
 
   abbrev again_cut : At lts.After-is_empty3 t → At lts.After-attract_lost t
-  again_cut c = again_up c.before.before.before
+  again_cut c = again_up c.before.before
 
   abbrev after_second_cut : At lts.After-zielonka_rec2 t → At lts.After-attract_lost t
   after_second_cut c = again_cut c.before.before.before
@@ -169,23 +169,23 @@ module _ {t : ℕ} where
   work₄ c = c.attract_lost.new.work
 
   -- there is room for the level
-  fits : (c : At lts.After-set_words) t → let a = (start_of c).args in a.base + c.set_words-s.result ≤ length a.work.now
+  fits : (c : At lts.After-set_words t) → let a = (start_of c).args in a.base + c.set_words-s.result ≤ length a.work.now
   fits c = level_fits (start_of c).requires.called c.set_words-s.ensures
 
   -- V has a member
   member :
-      (c : At lts.After-get_highest_prio) t →
+      (c : At lts.After-get_highest_prio t) →
       let g = start_of (after_words (after_test c)) in
       (v : ℕ) × (on_level (tables g) g.args.base g.args.work.now v ≡ true)
   member c =
       let tested = after_test c in
       let sized = after_words tested in
       level_some (start_of sized).requires.called sized.set_words-s.ensures tested.is_empty.ensures
-      c.before.before.if-is_empty.false
+      c.if-is_empty.false
 
   -- the first cut is made
   begun :
-      (c : At lts.After-attract_highest) t →
+      (c : At lts.After-attract_highest t) →
       FirstCut (tables (start c)) (wide c) (start c).args.base (top c) (work₀ c) (work₁ c)
   begun c =
       let called = (start c).requires.called in
@@ -199,15 +199,15 @@ module _ {t : ℕ} where
       }
 
   -- a call on the next level has what it asks for, and there is room for it
-  nested : (c : At lts.After-next_set) t → let d = up_cut c in Called (tables (start d)) c.next_set-up.result (work₁ d)
+  nested : (c : At lts.After-next_set t) → let d = up_cut c in Called (tables (start d)) c.next_set-up.result (work₁ d)
   nested c = (begun_called (begun (up_cut c)) c.next_set-up.ensures).called
 
-  up_fits : (c : At lts.After-next_set) t → let d = up_cut c in c.next_set-up.result + wide d ≤ length (work₁ d)
+  up_fits : (c : At lts.After-next_set t) → let d = up_cut c in c.next_set-up.result + wide d ≤ length (work₁ d)
   up_fits c = level_fits (nested c) (begun (up_cut c)).ready.size
 
   -- nothing is there
   rest_none :
-      (c : At lts.Then3) t →
+      (c : At lts.Then3 t) →
       let u = rest_up c.before in
       let d = up_cut u in
       (v : ℕ) →
@@ -218,7 +218,7 @@ module _ {t : ℕ} where
 
   -- so a call on it ends as it is counted
   rest_ends :
-      (c : At lts.After-count_call) t →
+      (c : At lts.After-count_call t) →
       let u = rest_up (counted_rest c) in
       let d = up_cut u in
       let a = (start d).args in
@@ -227,7 +227,7 @@ module _ {t : ℕ} where
 
   -- within the budget
   rest_came :
-      (c : At lts.Else4) t →
+      (c : At lts.Else4 t) →
       let d = up_cut (rest_up (counted_rest c.before)) in
       let a = (start d).args in
       Came (tables (start d)) (wide d) a.base (top d) a.calls a.cap c.before.count_call-made.result
@@ -238,7 +238,7 @@ module _ {t : ℕ} where
 
   -- the first nested call was made, within the budget
   came :
-      (c : At lts.Else5) t →
+      (c : At lts.Else5 t) →
       let d = after_cut (after_first c) in
       let a = (start d).args in
       Came (tables (start d)) (wide d) a.base (top d) a.calls a.cap (made c)
@@ -250,7 +250,7 @@ module _ {t : ℕ} where
 
   -- what the opponent won was asked for
   told :
-      (c : At lts.After-lost_nothing) t →
+      (c : At lts.After-lost_nothing t) →
       let e = before_told c in
       let d = first_cut c in
       let a = (start d).args in
@@ -260,7 +260,7 @@ module _ {t : ℕ} where
 
   -- the second cut is made
   lost :
-      (c : At lts.After-attract_lost) t →
+      (c : At lts.After-attract_lost t) →
       let asked = told_some (before_second_cut c) in
       let e = before_told asked in
       let d = first_cut asked in
@@ -275,14 +275,14 @@ module _ {t : ℕ} where
       (c.attract_lost.ensures g.args.priorities.now g.requires.called.accepted)
 
   -- after the second cut too, a call on the next level has what it asks for, and there is room for it
-  again : (c : At lts.After-attract_lost) t → Called (tables (start (up_cut (up_of c)))) (up_of c).next_set-up.result (work₄ c)
+  again : (c : At lts.After-attract_lost t) → Called (tables (start (up_cut (up_of c)))) (up_of c).next_set-up.result (work₄ c)
   again c = (lost_called (lost c) (up_of c).next_set-up.ensures).called
 
-  again_fits : (c : At lts.After-attract_lost) t → (up_of c).next_set-up.result + wide (up_cut (up_of c)) ≤ length (work₄ c)
+  again_fits : (c : At lts.After-attract_lost t) → (up_of c).next_set-up.result + wide (up_cut (up_of c)) ≤ length (work₄ c)
   again_fits c = level_fits (again c) (begun (up_cut (up_of c))).ready.size
 
   -- the work area has its length
-  same_work : (c : At lts.After-attract_lost) t → length (work₄ c) ≡ length (work₀ (up_cut (up_of c)))
+  same_work : (c : At lts.After-attract_lost t) → length (work₄ c) ≡ length (work₀ (up_cut (up_of c)))
   same_work c =
       let asked = told_some (before_second_cut c) in
       let first = after_first (before_told asked) in
@@ -307,7 +307,7 @@ pub offset_bounds-work-base : goal.offset_bounds-work-base
 offset_bounds-work-base t c = omega (arith, fits c.before, (start_of c.before).well_formed)
 
 pub slice_bounds-is_empty-end : goal.slice_bounds-is_empty-end
-slice_bounds-is_empty-end t c = omega (arith, fits c.before.before)
+slice_bounds-is_empty-end t c = omega (arith, fits c.before)
 
 pub returns-then-is_empty : goal.returns-then-is_empty
 returns-then-is_empty t c =
@@ -320,7 +320,7 @@ returns-then-is_empty t c =
 
 pub get_highest_prio-p-requires : goal.get_highest_prio-p-requires
 get_highest_prio-p-requires t c =
-    let sized = after_words c.before.before.before in
+    let sized = after_words c.before.before in
     let given = (start_of sized).requires in
     highest_given given.called sized.set_words-s.ensures given.under
 
@@ -339,7 +339,7 @@ pub offset_bounds-work-up : goal.offset_bounds-work-up
 offset_bounds-work-up t c = omega (arith, up_fits c.before, (begun (up_cut c.before)).cut.stays.long, (start (up_cut c.before)).well_formed)
 
 pub slice_bounds-is_empty-end-2 : goal.slice_bounds-is_empty-end-2
-slice_bounds-is_empty-end-2 t c = omega (arith, up_fits c.before.before)
+slice_bounds-is_empty-end-2 t c = omega (arith, up_fits c.before)
 
 pub returns-then-made-eq0 : goal.returns-then-made-eq0
 returns-then-made-eq0 t c =
@@ -406,7 +406,7 @@ offset_bounds-work-up-2 t c =
     omega (arith, again_fits d, same_work d, (start (up_cut (up_of d))).well_formed)
 
 pub slice_bounds-is_empty-end-3 : goal.slice_bounds-is_empty-end-3
-slice_bounds-is_empty-end-3 t c = omega (arith, again_fits (again_up c.before.before))
+slice_bounds-is_empty-end-3 t c = omega (arith, again_fits (again_up c.before))
 
 pub shape_of-work-then-is_empty-3 : goal.shape_of-work-then-is_empty-3
 shape_of-work-then-is_empty-3 t c = same_work (again_cut c.before.before.before)
