@@ -19,4 +19,4 @@ returns-in-Game c =
     c.check_tables.ensures ∙
     ap (λ (x : Tables). outcome (table_checks x) (answered 0))
     (part_fronts args.n args.m args.owners.now args.priorities.now args.offsets.now args.targets.now) ∙
-    sym (ap (λ (a : Asks). outcome (list_asked (asks_in a) tables) (answered 0)) c.enum_told-in-Game-1.given.1)
+    sym (ap (λ (a : Asks). outcome (list_asked (asks_in a) tables) (answered 0)) c.in-Game.is)
