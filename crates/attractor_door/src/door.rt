@@ -61,13 +61,13 @@ pub fn attractor(
         (tables_of owners.now priorities.now offsets.now targets.now)
         (is player) within.now target.now
         (record {
-          res = res.entry.now;
+          result = res.old;
           strategy = strategy.old;
           distances = distances.old;
           work = work.old;
         })
         (record {
-          res = res.exit.now;
+          result = res.new;
           strategy = strategy.new;
           distances = distances.new;
           work = work.new;

@@ -25,17 +25,16 @@ pub fn reckonbough_attractor(
     place: &mut u64,
     count: &mut u64,
 ) -> u64
-    ensures* { λ number.
-        ⌜ (let before : LentResult =
+    ensures { (let before : LentResult =
         record {
-          result = res.entry.now;
+          result = res.old;
           strategy = strategy.old;
           distances = distances.old;
           work = work.old;
         } in
         let after : LentResult =
         record {
-          res = res.exit.now;
+          result = res.new;
           strategy = strategy.new;
           distances = distances.new;
           work = work.new;
@@ -43,10 +42,10 @@ pub fn reckonbough_attractor(
         ByRecord
         (record_of n m owners.now priorities.now offsets.now targets.now
         kept.now)
-        (told number place.new count.new) before after
+        (told result place.new count.new) before after
         (λ t.
         Attracts t (player_of player) within.now target.now before after
-        (told number place.new count.new))) ⌝ }
+        (told result place.new count.new))) }
 {
     let n = n as usize;
     let m = m as usize;

@@ -53,7 +53,7 @@ told c =
     let a = g.args in
     c.check_lent-verdict.ensures ∙
     ap (λ (v : Verdict). outcome v (answered 0))
-    (accepted_checks (tables g) a.within.now a.target.now (length a.result.now) (length a.strategy.now)
+    (accepted_checks (tables g) a.within.now a.target.now (length a.res.now) (length a.strategy.now)
     (length a.distances.now) (length a.work.now) g.requires)
 
 abbrev at2 : AtElse1 → AtStart
@@ -107,7 +107,7 @@ run-requires c =
     let w = d.before in
     let g = at2 w.before in
     let a = g.args in
-    run_ready (tables g) d.index-alpha.result w.work_words-w.result a.within.now a.target.now a.result.now
+    run_ready (tables g) d.index-alpha.result w.work_words-w.result a.within.now a.target.now a.res.now
     a.strategy.now a.distances.now a.work.now
     d.index-alpha.ensures.1 w.work_words-w.ensures (passed w.before)
 

@@ -38,7 +38,7 @@ write_strategy-requires c =
     let d = c.before.before.before.before.before in
     let g = at1 d in
     let a = g.args in
-    enter_ready a.owners.now a.m a.alpha a.target.now a.work.now a.set a.result.now a.strategy.now
+    enter_ready a.owners.now a.m a.alpha a.target.now a.work.now a.set a.res.now a.strategy.now
     a.distances.now g.requires d.copy_from.new.set d.copy_from.ensures (placed d).before.entries-entries.ensures
 
 pub write_distances-requires : goal.write_distances-requires
@@ -46,7 +46,7 @@ write_distances-requires c =
     let d = copied c.before.before.before.before.before in
     let g = at1 d in
     let a = g.args in
-    measure_ready a.owners.now a.m a.alpha a.target.now a.work.now a.set a.result.now a.strategy.now
+    measure_ready a.owners.now a.m a.alpha a.target.now a.work.now a.set a.res.now a.strategy.now
     a.distances.now g.requires d.copy_from.new.set d.copy_from.ensures (placed d).distances-far.ensures
 
 pub returns : goal.returns
@@ -56,7 +56,7 @@ returns c =
     let d = copied e in
     let g = at1 d in
     let a = g.args in
-    handed a.owners.now a.m a.alpha a.target.now a.work.now a.set a.result.now a.strategy.now
+    handed a.owners.now a.m a.alpha a.target.now a.work.now a.set a.res.now a.strategy.now
     a.distances.now g.requires d.copy_from.new.set d.copy_from.ensures (placed d).before.entries-entries.ensures
     (placed d).distances-far.ensures
     e.write_strategy.new.strategy w.write_distances.new.distances

@@ -52,7 +52,7 @@ long d =
     let g = at1 (placed p) in
     let a = g.args in
     two_long a.owners.now a.offsets.now a.targets.now a.alpha a.within.now a.target.now
-    a.result.now a.strategy.now a.distances.now a.work.now g.requires (placed p).before.free-base.ensures
+    a.res.now a.strategy.now a.distances.now a.work.now g.requires (placed p).before.free-base.ensures
     (placed p).next_set-set.ensures
     p.prepare.new.work p.prepare.ensures d.attract-looks.new.work d.attract.result
     d.attract.ensures
@@ -69,7 +69,7 @@ prepare-requires c =
     let g = at1 b in
     let a = g.args in
     prepare_ready a.owners.now a.offsets.now a.targets.now a.alpha a.within.now a.target.now
-    a.result.now a.strategy.now a.distances.now a.work.now g.requires b.free-base.ensures b.next_set-set.ensures
+    a.res.now a.strategy.now a.distances.now a.work.now g.requires b.free-base.ensures b.next_set-set.ensures
 
 pub attract-looks-requires : goal.attract-looks-requires
 attract-looks-requires c =
@@ -77,7 +77,7 @@ attract-looks-requires c =
     let g = at1 (placed p) in
     let a = g.args in
     attract_ready a.owners.now a.offsets.now a.targets.now a.alpha a.within.now a.target.now
-    a.result.now a.strategy.now a.distances.now a.work.now g.requires (placed p).before.free-base.ensures
+    a.res.now a.strategy.now a.distances.now a.work.now g.requires (placed p).before.free-base.ensures
     (placed p).next_set-set.ensures
     p.prepare.new.work p.prepare.ensures
 
@@ -88,7 +88,7 @@ hand_out-requires c =
     let g = at1 (placed p) in
     let a = g.args in
     hand_ready a.owners.now a.offsets.now a.targets.now a.alpha a.within.now a.target.now
-    a.result.now a.strategy.now a.distances.now a.work.now g.requires (placed p).before.free-base.ensures
+    a.res.now a.strategy.now a.distances.now a.work.now g.requires (placed p).before.free-base.ensures
     (placed p).next_set-set.ensures
     p.prepare.new.work p.prepare.ensures d.attract-looks.new.work d.attract-looks.result
     d.attract-looks.ensures
@@ -105,7 +105,7 @@ returns c =
     let g = at1 (placed p) in
     let a = g.args in (
       cleared_all a.work.now _ (long d) e.clear.ensures,
-      ran a.owners.now a.offsets.now a.targets.now a.alpha a.within.now a.target.now a.result.now
+      ran a.owners.now a.offsets.now a.targets.now a.alpha a.within.now a.target.now a.res.now
           a.strategy.now a.distances.now a.work.now g.requires (placed p).before.free-base.ensures
           (placed p).next_set-set.ensures
           p.prepare.new.work p.prepare.ensures d.attract-looks.new.work d.attract-looks.result

@@ -36,7 +36,7 @@ game c =
 abbrev lent : AtStart → LentResult
 lent c =
     let a = c.args in
-    record { result = a.result.now; strategy = a.strategy.now; distances = a.distances.now; work = a.work.now }
+    record { result = a.res.now; strategy = a.strategy.now; distances = a.distances.now; work = a.work.now }
 
 -- what it does with tables
 abbrev Does : AtStart → LentResult → Outcome → Tables → Type 0
