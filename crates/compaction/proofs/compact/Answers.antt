@@ -102,7 +102,7 @@ write-requires c =
 
 pub write_fresh-requires : goal.write_fresh-requires
 write_fresh-requires c =
-    let at = marked c.before.before.before.before.before in at.if-new_kept-ne-KEPT.left
+    let at = marked c.before.before.before.before.before in at.if-new_kept-ne-KEPT.false
 
 pub returns : goal.returns
 returns c =
@@ -113,6 +113,6 @@ returns c =
     (lent_of written.write.new.new_priorities counted.write_fresh.new.kept)
     (start2 at).requires
     (sized at.before)
-    at.if-new_kept-ne-KEPT.left
+    at.if-new_kept-ne-KEPT.false
     (wrote written)
     counted.write_fresh.ensures

@@ -15,11 +15,11 @@ loop-i-preserved c =
     let at = c.before.before.before in (
       search rules,
       simp length-set at.loop-i.invariant.1,
-      agree_set at.loop-i.i at.loop-i.auto at.args.count.now (omega arith) at.loop-i.invariant.2,
+      agree_set at.loop-i.i at.loop-i.kept at.args.count.now (omega arith) at.loop-i.invariant.2,
     )
 
 pub returns : goal.returns
 returns c =
     let at = c.before in
-    agree_all at.loop-i.auto at.args.count.now (at.loop-i.invariant.1 ∙ sym at.requires.0)
+    agree_all at.loop-i.kept at.args.count.now (at.loop-i.invariant.1 ∙ sym at.requires.0)
     (λ k l. at.loop-i.invariant.2 k (omega arith))

@@ -23,5 +23,5 @@ shape_of-kept c =
     let args = c.args in
     let kept = args.kept.now in
     let down = lowered kept args.old in
-    c.sum_up.kept.0 ∙ length-set down args.new (get_or down args.new 0 + 1) ∙
+    c.sum_up.auto.kept ∙ length-set down args.new (get_or down args.new 0 + 1) ∙
     length-set kept args.old (get_or kept args.old 0 - 1)

@@ -6,6 +6,7 @@ use native.Mathlib.Omega.{arith}
 use Rattle.kept_numbers.specs.Steps.{summed_none, summed_some, summed_zero, summed_all}
 use borrow.Author.Rules.{rules}
 use Rattle.kept_numbers.proofs.sum_up.Goals as goal
+use Rattle.kept_numbers.proofs.sum_up.Goals.{then-kept-p-ne0, else-kept-p-ne0}
 
 pub loop-p-init : goal.loop-p-init
 loop-p-init c = (search rules, search rules, summed_none _)
@@ -14,20 +15,20 @@ pub loop-p-preserved : goal.loop-p-preserved
 loop-p-preserved c =
     let at = c.before.before.before.before in
     let kept = at.args.kept.now in
-    ⊎_elim
-    (λ w.
-    rw (w.1, w.2) (
-      search rules,
-      search rules,
-      summed_some at.loop-p.p kept at.loop-p.different at.loop-p.highest at.loop-p.invariant.2 w.0.taken,
-    ))
-    (λ w.
-    rw (w.1, w.2) (
-      search rules,
-      search rules,
-      summed_zero at.loop-p.p kept at.loop-p.different at.loop-p.highest at.loop-p.invariant.2 w.0.left,
-    ))
-    c.if-kept-p-ne0.branch
+    elim c.if-kept-p-ne0.branch [
+      then-kept-p-ne0 w ↦
+      rw (w.different-is, w.highest-is) (
+        search rules,
+        search rules,
+        summed_some at.loop-p.p kept at.loop-p.different at.loop-p.highest at.loop-p.invariant.2 w.if-kept-p-ne0.true,
+      )
+    | else-kept-p-ne0 w ↦
+      rw (w.different-is, w.highest-is) (
+        search rules,
+        search rules,
+        summed_zero at.loop-p.p kept at.loop-p.different at.loop-p.highest at.loop-p.invariant.2 w.if-kept-p-ne0.false,
+      )
+    ]
 
 pub returns : goal.returns
 returns c =

@@ -9,6 +9,7 @@ use borrow.Author.Rules.{rules}
 use Rattle.kept_numbers.proofs.tally.Lts as lts
 use Rattle.kept_numbers.proofs.tally.Reads as reads
 use Rattle.kept_numbers.proofs.tally.Goals as goal
+use Rattle.kept_numbers.proofs.tally.Goals.{then-p-lt-PRIORITIES, else-p-lt-PRIORITIES}
 
 abbrev AtThen1 : Type 0
 AtThen1 = lts.Then1 reads.Pre reads.Post goal.the-invariant-loop-v goal.the-decreases-loop-v
@@ -36,20 +37,20 @@ pub loop-v-preserved : goal.loop-v-preserved
 loop-v-preserved c =
     let at = c.before.before.before.before in
     let ps = at.args.priorities.now in
-    ⊎_elim
-    (λ w.
-    rw w.1 (
-      search rules,
-      search rules,
-      tallied_more at.loop-v.v ps at.loop-v.counts at.loop-v.invariant.2 (omega arith) w.0.taken,
-    ))
-    (λ w.
-    rw w.1 (
-      search rules,
-      search rules,
-      tallied_other at.loop-v.v ps at.loop-v.counts at.loop-v.invariant.2 (omega arith) w.0.left,
-    ))
-    c.if-p-lt-PRIORITIES.branch
+    elim c.if-p-lt-PRIORITIES.branch [
+      then-p-lt-PRIORITIES w ↦
+      rw w.counts-is (
+        search rules,
+        search rules,
+        tallied_more at.loop-v.v ps at.loop-v.counts at.loop-v.invariant.2 (omega arith) w.if-p-lt-PRIORITIES.true,
+      )
+    | else-p-lt-PRIORITIES w ↦
+      rw w.counts-is (
+        search rules,
+        search rules,
+        tallied_other at.loop-v.v ps at.loop-v.counts at.loop-v.invariant.2 (omega arith) w.if-p-lt-PRIORITIES.false,
+      )
+    ]
 
 pub returns : goal.returns
 returns c =

@@ -58,10 +58,10 @@ abbrev gave : AtAfterRead → Outcome
 gave c = said c.read-read.result
 
 owners_kept : (c : AtAfterRead) → length (after c).rooms.owners ≡ 128
-owners_kept c = c.read-read.auto.1.1.0
+owners_kept c = c.read-read.auto.owners
 
 targets_kept : (c : AtAfterRead) → length (after c).rooms.targets ≡ 512
-targets_kept c = c.read-read.auto.1.1.1.1.1.0
+targets_kept c = c.read-read.auto.targets
 
 zero : (c : AtElse1) → (gave (reading c.before)).number ≡ 0
 zero c = sym c.number.ensures ∙ c.if-number-ne0.false
@@ -83,13 +83,13 @@ returns-then-number-ne0 c =
     let test = at-number.before in
     let at = reading test.before in
     let is =
-    puts_front line.refused_line_lem.ensures ∙
+    puts_front line.refused_line.ensures ∙
     ap (λ (k : ℕ). refused_line k at_place.place.result) at-number.number-then-number-ne0.ensures ∙
     ap (λ (p : ℕ). refused_line (gave at).number p) at_place.place.ensures in (
       subst (λ (bytes : List ℕ). PrintsText (start at).args.budget (text at) bytes) (sym is)
           (prints_refused (text at) (after at) (gave at) at.read-read.ensures (start at).args.budget
           (λ e. test.if-number-ne0.true (test.number.ensures ∙ e))),
-      puts_within line.refused_line_lem.ensures,
+      puts_within line.refused_line.ensures,
     )
 
 pub slice_bounds-solve_tables-end : goal.slice_bounds-solve_tables-end

@@ -67,19 +67,19 @@ abbrev odd_after : AtAfterSolveZielonka → List ℕ
 odd_after c = c.solve_zielonka-zielonka.new.odd
 
 even_same : (c : AtAfterSolvePriorityPromotion) → length (between c).even ≡ length (start c).args.even.now
-even_same c = c.solve_priority_promotion-promotion.auto.1.1.1.1.1.1.0
+even_same c = c.solve_priority_promotion-promotion.auto.even
 
 odd_same : (c : AtAfterSolvePriorityPromotion) → length (between c).odd ≡ length (start c).args.odd.now
-odd_same c = c.solve_priority_promotion-promotion.auto.1.1.1.1.1.1.1.0
+odd_same c = c.solve_priority_promotion-promotion.auto.odd
 
 strategy_same : (c : AtAfterSolvePriorityPromotion) → length (between c).strategy ≡ length (start c).args.strategy.now
-strategy_same c = c.solve_priority_promotion-promotion.auto.1.1.1.1.1.1.1.1.0
+strategy_same c = c.solve_priority_promotion-promotion.auto.strategy
 
 work_same : (c : AtAfterSolvePriorityPromotion) → length (between c).work ≡ length (start c).args.work.now
-work_same c = c.solve_priority_promotion-promotion.auto.1.1.1.1.1.1.1.1.1.0
+work_same c = c.solve_priority_promotion-promotion.auto.work
 
 odd_again : (c : AtAfterSolveZielonka) → length (odd_after c) ≡ length (between (promotion c)).odd
-odd_again c = c.solve_zielonka-zielonka.auto.1.1.1.1.1.1.1.0
+odd_again c = c.solve_zielonka-zielonka.auto.odd
 
 -- Zielonka's rooms have the sizes that promotion's had
 again : (c : AtAfterSolvePriorityPromotion) → EnginesReady (tables (start c)) (start c).args.kept.now (between c) (start c).args.out.now
@@ -89,9 +89,9 @@ again c =
       counted = r.counted;
       few = r.few;
       room = r.room;
-      even-size = even_same c ∙ r.even_size;
-      odd-size = odd_same c ∙ r.odd_size;
-      strategy-size = strategy_same c ∙ r.strategy_size;
+      even_size = even_same c ∙ r.even_size;
+      odd_size = odd_same c ∙ r.odd_size;
+      strategy_size = strategy_same c ∙ r.strategy_size;
       work-size =
           subst (λ (k : ℕ). work_words (vertices (tables (start c))) (edges_in (tables (start c))) ≤ k) (sym (work_same c))
           r.work_size;

@@ -40,8 +40,8 @@ solve_in-requires c =
       counted = record { accepted = at.requires.accepted; fresh = fresh.write_fresh.ensures };
       few = at.requires.few;
       room = at.requires.room;
-      even-size = simp length-take (omega (arith, two at1, at1.set_words-s.ensures));
-      odd-size = simp length-take (omega (arith, two at1, at1.set_words-s.ensures));
-      strategy-size = simp length-take (omega (arith, at.requires.few));
-      work-size = work_enough n (length at.args.targets.now) at.requires.few at.requires.short;
+      even_size = simp length-take (omega (arith, two at1, at1.set_words-s.ensures));
+      odd_size = simp length-take (omega (arith, two at1, at1.set_words-s.ensures));
+      strategy_size = simp length-take (omega (arith, at.requires.few));
+      work_size = work_enough n (length at.args.targets.now) at.requires.few at.requires.short;
     }

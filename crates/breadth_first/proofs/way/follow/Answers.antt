@@ -32,10 +32,10 @@ pub loop-v-init : goal.loop-v-init
 loop-v-init c = λ vs w fits. follow_starts _ _ _ _ _ vs w
 
 pub overflow_add-row : goal.overflow_add-row
-overflow_add-row c = let (a, b, d) = numbers c in omega (arith, c.requires.room)
+overflow_add-row c = let (a, b, d) = numbers c.before in omega (arith, c.requires.room)
 
 pub offset_bounds-work-row : goal.offset_bounds-work-row
-offset_bounds-work-row c = let (a, b, d) = numbers c in omega (arith, c.requires.room)
+offset_bounds-work-row c = let (a, b, d) = numbers c.before in omega (arith, c.requires.room)
 
 pub bounds-work-row : goal.bounds-work-row
 bounds-work-row c = let (a, b, d) = numbers c.before.before in omega (arith, c.requires.room)

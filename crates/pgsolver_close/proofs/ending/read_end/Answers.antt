@@ -61,7 +61,7 @@ end_fitting-requires c =
     let at = long.before.before.before in
     record {
       fitted = fitted (written_in (entry (start at))).rooms (checked at Fit long.enum_told-in-Fit-1.given.1);
-      long = long.if-state-lt32.left;
+      long = long.if-state-lt32.false;
     }
 
 pub returns-in-Sizes : goal.returns-in-Sizes
@@ -88,5 +88,5 @@ returns-else-state-lt32 c =
     let after = closing_of end.new.state end.new.owners end.new.priorities end.new.offsets end.new.targets
     end.new.work end.new.n end.new.m in
     unless_fit (end_checks e.lent e.work) (said end.result) e after (ClosedBy Stands e after (said end.result))
-    (end_fit e.lent e.work (checked at Fit long.enum_told-in-Fit-1.given.1) long.if-state-lt32.left)
+    (end_fit e.lent e.work (checked at Fit long.enum_told-in-Fit-1.given.1) long.if-state-lt32.false)
     end.ensures

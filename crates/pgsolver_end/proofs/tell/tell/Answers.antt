@@ -26,7 +26,7 @@ start c = c.before.before.before.before.before.before.before.before.before
 may : (c : AtAfterCheckIdentifiers) → may_end_on (start c).args.s.phase (start c).args.s.records ≡ true
 may c =
     let asked = c.before.before.before.before.before in
-    sym asked.may_end_lem.ensures ∙ not-false asked.may_end_lem.result c.if-not-may_end.false
+    sym asked.may_end.ensures ∙ not-false asked.may_end.result c.if-not-may_end.false
 
 -- what the check of the identifiers says
 checked :
@@ -40,7 +40,7 @@ pub returns-then-not-may_end : goal.returns-then-not-may_end
 returns-then-not-may_end c =
     let args = c.args in
     tells_early args.s args.place args.room args.offsets.now args.targets.now args.work.now
-    (sym c.may_end_lem.ensures ∙ not-true c.may_end_lem.result c.if-not-may_end.true)
+    (sym c.may_end.ensures ∙ not-true c.may_end.result c.if-not-may_end.true)
 
 pub returns-in-Wrong : goal.returns-in-Wrong
 returns-in-Wrong c =

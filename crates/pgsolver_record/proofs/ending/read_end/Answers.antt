@@ -44,7 +44,7 @@ write_beside-requires c =
     kept_fits_end (length r.kept) at.check_end_rooms-unfit.result (sizes_of (rooms_with r.closing.lent r.closing.work))
     (state_size (length r.closing.lent.state))
     at.check_end_rooms-unfit.ensures
-    past.if-unfit-ne0.left
+    past.if-unfit-ne0.false
 
 pub returns : goal.returns
 returns c =

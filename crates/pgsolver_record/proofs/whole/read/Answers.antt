@@ -43,7 +43,7 @@ write_beside-requires c =
     let at = past.before in
     let r = lent (start at) in
     kept_fits (length r.kept) at.check_record_rooms-unfit.result (sizes_of r.tables.rooms) at.check_record_rooms-unfit.ensures
-    past.if-unfit-ne0.left
+    past.if-unfit-ne0.false
 
 pub returns : goal.returns
 returns c =

@@ -85,8 +85,8 @@ held_at l = l.held_at-held.ensures
 levels_in :
     (l : AtAfterLevelsAt) →
     let c = sized_at l in
-    l.levels_at_lem.result ≡ held_in l + 3 * size_at_lem c + 1 + deep (length (start_at c).args.owners.now)
-levels_in l = omega (arith, l.depth_at_lem.ensures, l.levels_at_lem.ensures)
+    l.levels_at-levels.result ≡ held_in l + 3 * size_at_lem c + 1 + deep (length (start_at c).args.owners.now)
+levels_in l = omega (arith, l.depth_at.ensures, l.levels_at-levels.ensures)
 
 entries_at :
     (l : AtAfterLevelsAt) →
@@ -158,13 +158,13 @@ found :
     let d = solved w in
     (ended d).solve-end.result.unsolved ≡ 0 →
     let g = start d in
-    WinnersFound (tables g) (won_in (tables g)) (entries_in (tables g)) (size_at_lem (sized d)) w.won_at_lem.result (left d)
+    WinnersFound (tables g) (won_in (tables g)) (entries_in (tables g)) (size_at_lem (sized d)) w.won_at-won.result (left d)
 found w z =
     let d = solved w in
     let g = start d in
     subst
     (λ (at : ℕ). WinnersFound (tables g) (won_in (tables g)) (entries_in (tables g)) (size_at_lem (sized d)) at (left d))
-    (sym (w.won_at_lem.ensures ∙ ap (λ (h : ℕ). h + size_at_lem (sized d)) (held_at (placed d))))
+    (sym (w.won_at-won.ensures ∙ ap (λ (h : ℕ). h + size_at_lem (sized d)) (held_at (placed d))))
     (run_found (ended d).solve-end.ensures z)
 
 pub entries-entries-requires : goal.entries-entries-requires
@@ -177,7 +177,7 @@ pub held_at-held-requires : goal.held_at-held-requires
 held_at-held-requires c =
     let z = c.before.before in
     let (few-vertices, few-edges, _) = few (start_at z) in
-    record { size = z.set_words-s.ensures; few = few-vertices; few-edges = few-edges; small = omega arith }
+    record { size = z.set_words-s.ensures; few = few-vertices; few_edges = few-edges; small = omega arith }
 
 pub depth_at-requires : goal.depth_at-requires
 depth_at-requires c =
@@ -190,7 +190,7 @@ pub levels_at-levels-requires : goal.levels_at-levels-requires
 levels_at-levels-requires c =
     let h = c.before.before in
     let z = h.before.before in
-    omega (arith, few (start_at z), z.set_words-s.ensures, h.held_at-held.ensures, c.depth_at_lem.ensures)
+    omega (arith, few (start_at z), z.set_words-s.ensures, h.held_at-held.ensures, c.depth_at.ensures)
 
 pub prepare-requires : goal.prepare-requires
 prepare-requires p =
@@ -269,7 +269,7 @@ returns c =
     let d = solved w in
     let g = start d in
     let a = g.args in
-    let none : (ended d).solve-end.result.unsolved ≡ 0 = omega (arith, w.if-end-gt0.left) in (
+    let none : (ended d).solve-end.result.unsolved ≡ 0 = omega (arith, w.if-end-gt0.false) in (
       cleared_all a.work.now (left d) (same_long d) c.clear-2.ensures,
       found_finished (found w none) g.requires.0.strategy_size (entries_at (placed d)) o.write_out.ensures
           (run_rounds (ended d).solve-end.ensures none)

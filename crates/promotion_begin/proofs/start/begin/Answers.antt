@@ -38,7 +38,7 @@ won_cleared :
     Cleared (a.held + a.s) (2 * a.s) a.work.now c.clear.new.words
 won_cleared c =
     let gone = c.clear.ensures in
-    let at = c.won_at_lem.ensures in
+    let at = c.won_at-won.ensures in
     record {
       long = gone.long;
       zeros = λ i low high. gone.zeros i (omega arith) (omega arith);

@@ -89,7 +89,7 @@ placed q = q.before.before.before
 
 -- the number of the current level
 abbrev current : AtAfterLevelsAt → ℕ
-current l = get_or (start_of l).args.work.now l.depth_at_lem.result 0
+current l = get_or (start_of l).args.work.now l.depth_at-depth.result 0
 
 -- the place of R's heads
 abbrev heads : AtAfterIndex → ℕ
@@ -99,13 +99,13 @@ heads i = i.level-at3.result
 stands :
     (l : AtAfterLevelsAt) (j : ℕ) → j ≤ current l + 2 →
     let a = (start_of l).args in
-    l.levels_at_lem.result + j * a.s + a.s ≤ length a.work.now
+    l.levels_at-levels.result + j * a.s + a.s ≤ length a.work.now
 stands l j low =
-    level_fits (start_of l).requires l.held_at-held.ensures l.depth_at_lem.ensures l.levels_at_lem.ensures j low
+    level_fits (start_of l).requires l.held_at-held.ensures l.depth_at-depth.ensures l.levels_at-levels.ensures j low
 
-few : (l : AtAfterLevelsAt) → current l + 2 ≤ l.levels_at_lem.result
+few : (l : AtAfterLevelsAt) → current l + 2 ≤ l.levels_at-levels.result
 few l =
-    level_few (start_of l).requires l.held_at-held.ensures l.depth_at_lem.ensures l.levels_at_lem.ensures
+    level_few (start_of l).requires l.held_at-held.ensures l.depth_at-depth.ensures l.levels_at-levels.ensures
 
 -- p's player, R, the levels and the current level's number are as they should be, with what else a round begins with
 at :
@@ -113,12 +113,12 @@ at :
     let l = levelled i in
     let a = (begun i).args in
     RoundBegins a.owners.now a.priorities.now a.offsets.now a.targets.now a.s a.state.current.0
-    i.index-alpha.result l.held_at-held.result l.depth_at_lem.result l.levels_at_lem.result (current l)
-    (base_of i).level_at_lem.result i.level_at-below.result (heads i) a.work.now
+    i.index-alpha.result l.held_at-held.result l.depth_at-depth.result l.levels_at-levels.result (current l)
+    (base_of i).level_at-base.result i.level_at-below.result (heads i) a.work.now
 at i =
     let l = levelled i in
-    begins_by (begun i).requires l.held_at-held.ensures l.depth_at_lem.ensures l.levels_at_lem.ensures
-    i.index-alpha.ensures.1 (i.index-alpha.ensures.0 ∙ i.from_priority.ensures) (base_of i).level_at_lem.ensures
+    begins_by (begun i).requires l.held_at-held.ensures l.depth_at-depth.ensures l.levels_at-levels.ensures
+    i.index-alpha.ensures.1 (i.index-alpha.ensures.0 ∙ i.from_priority.ensures) (base_of i).level_at-base.ensures
     i.level_at-below.ensures i.level_at-heads.ensures
 
 -- the query, where it is known whether R is open
@@ -193,16 +193,16 @@ depth_at-depth-requires c =
 pub levels_at-levels-requires : goal.levels_at-levels-requires
 levels_at-levels-requires c =
     let g = first c.before.before in
-    round_depth g.requires.accepted g.requires.made g.requires.shows c.held_at-held.ensures c.depth_at_lem.ensures
+    round_depth g.requires.accepted g.requires.made g.requires.shows c.held_at-held.ensures c.depth_at-depth.ensures
 
 pub mark_at-mark-requires : goal.mark_at-mark-requires
-mark_at-mark-requires c = omega (arith, c.levels_at_lem.ensures)
+mark_at-mark-requires c = omega (arith, c.levels_at-levels.ensures)
 
 pub level_at-base-requires : goal.level_at-base-requires
 level_at-base-requires c =
     let l = c.before.before.before in
     let g = start_of l in
-    let small : l.levels_at_lem.result + current l * g.args.s < 2 ^ 64 =
+    let small : l.levels_at-levels.result + current l * g.args.s < 2 ^ 64 =
     omega (arith, stands l (current l) (omega arith), g.well_formed) in
     small
 
@@ -213,7 +213,7 @@ pub level_at-below-requires : goal.level_at-below-requires
 level_at-below-requires c =
     let l = levels_of c.before in
     let g = start_of l in
-    let small : l.levels_at_lem.result + (current l + 1) * g.args.s < 2 ^ 64 =
+    let small : l.levels_at-levels.result + (current l + 1) * g.args.s < 2 ^ 64 =
     omega (arith, stands l (current l + 1) (omega arith), g.well_formed) in
     small
 
@@ -224,7 +224,7 @@ pub level_at-heads-requires : goal.level_at-heads-requires
 level_at-heads-requires c =
     let l = levels_of c.before.before in
     let g = start_of l in
-    let small : l.levels_at_lem.result + (current l + 2) * g.args.s < 2 ^ 64 =
+    let small : l.levels_at-levels.result + (current l + 2) * g.args.s < 2 ^ 64 =
     omega (arith, stands l (current l + 2) (omega arith), g.well_formed) in
     small
 
@@ -313,8 +313,8 @@ escape :
     let l = levelled i in
     let a = (begun i).args in
     RoundEscapes a.owners.now a.priorities.now a.offsets.now a.targets.now a.s a.state.current.0
-    i.index-alpha.result l.held_at-held.result l.depth_at_lem.result l.levels_at_lem.result (current l)
-    (base_of i).level_at_lem.result i.level_at-below.result (heads i) a.work.now
+    i.index-alpha.result l.held_at-held.result l.depth_at-depth.result l.levels_at-levels.result (current l)
+    (base_of i).level_at-base.result i.level_at-below.result (heads i) a.work.now
     (drawn (query_of b)) (given (filled b)) b.best_escape-j.result
 escape b =
     record {
@@ -329,7 +329,7 @@ escape b =
 fits :
     (c : AtThen2) →
     let l = levels_at_escape c.before in
-    l.depth_at_lem.result + c.best_escape-j.result < l.levels_at_lem.result
+    l.depth_at-depth.result + c.best_escape-j.result < l.levels_at-levels.result
 fits c =
     let g = escape_start c.before in
     top_fits g.requires.accepted g.requires.made g.requires.shows (escape c.before) c.if-j-gt0.true
@@ -345,7 +345,7 @@ level_at-requires c =
     let l = levels_at_escape b in
     let g = start_of l in
     let j = b.best_escape-j.result - 1 in
-    let small : l.levels_at_lem.result + j * g.args.s < 2 ^ 64 =
+    let small : l.levels_at-levels.result + j * g.args.s < 2 ^ 64 =
     omega (arith, stands l j (omega (arith, b.best_escape-j.ensures.top)), g.well_formed) in
     small
 
@@ -376,10 +376,10 @@ returns-then-j-gt0 c =
 
 -- the priority of level 0 stands before the levels
 first_fits : (c : AtElse2) → let l = levels_at_escape c.before in
-    l.depth_at_lem.result + 1 < length (start_of l).args.work.now
+    l.depth_at-depth.result + 1 < length (start_of l).args.work.now
 first_fits c =
     let l = levels_at_escape c.before in
-    omega (arith, stands l 0 (omega arith), l.levels_at_lem.ensures)
+    omega (arith, stands l 0 (omega arith), l.levels_at-levels.ensures)
 
 pub priority_at-requires-2 : goal.priority_at-requires-2
 priority_at-requires-2 c = let l = levels_at_escape c.before.before in omega (arith, first_fits c.before, (start_of l).well_formed)
@@ -402,7 +402,7 @@ dominated :
     let l = levels_at_escape b in
     let a = (escape_start b).args in
     Dominated a.owners.now a.priorities.now a.offsets.now a.targets.now a.s a.state.current.0
-    l.held_at-held.result l.levels_at_lem.result (given (filled b)) e.solve_dominion.new.work
+    l.held_at-held.result l.levels_at-levels.result (given (filled b)) e.solve_dominion.new.work
 dominated e =
     let g = escape_start (ended e).before in e.solve_dominion.ensures g.args.priorities.now g.requires.accepted
 
@@ -444,13 +444,13 @@ same4 t =
 levels4 :
     (t : AtAfterDescend2) →
     let a = (origin t).args in
-    (levels_at_escape (escaped t)).levels_at_lem.result ≡ levels_at (length a.owners.now) (length a.targets.now) a.s
+    (levels_at_escape (escaped t)).levels_at-levels.result ≡ levels_at (length a.owners.now) (length a.targets.now) a.s
 levels4 t = (escape (escaped t)).begins.levels_is
 
 -- the first level has room
 room4 :
     (t : AtAfterDescend2) →
-    (levels_at_escape (escaped t)).levels_at_lem.result + (origin t).args.s ≤ length t.descend-after-2.new.work
+    (levels_at_escape (escaped t)).levels_at-levels.result + (origin t).args.s ≤ length t.descend-after-2.new.work
 room4 t = first_room (ready4 t) (levels4 t)
 
 pub overflow_add-levels : goal.overflow_add-levels

@@ -85,11 +85,11 @@ copy_with-requires c =
     let cleared = after_clear collected in
     let high = (start_of cleared).requires.high in
     let next = (placed cleared).next_level-up.ensures in
-    let drawn-is = (behind cleared).next_set-drawn.ensures in
-    let long = drawn.attract.auto.1.1.1.1.0 in
+    let drawn_is = (behind cleared).next_set-drawn.ensures in
+    let long = drawn.attract.auto.work in
     let long₂ = collected.collect.ensures.long in
     let long₁ = cleared.clear.ensures.long in
-    record { into-fits = omega arith; from-fits = omega arith; apart = inr (omega arith) }
+    record { into_fits = omega arith; from_fits = omega arith; apart = inr (omega arith) }
 
 pub difference_with-requires : goal.difference_with-requires
 difference_with-requires c =
@@ -99,12 +99,12 @@ difference_with-requires c =
     let cleared = after_clear collected in
     let high = (start_of cleared).requires.high in
     let next = (placed cleared).next_level-up.ensures in
-    let drawn-is = (behind cleared).next_set-drawn.ensures in
-    let long = drawn.attract.kept.1.1.1.1.0 in
+    let drawn_is = (behind cleared).next_set-drawn.ensures in
+    let long = drawn.attract.auto.work in
     let long₃ = copied.copy_with.ensures.long in
     let long₂ = collected.collect.ensures.long in
     let long₁ = cleared.clear.ensures.long in
-    record { into-fits = omega arith; from-fits = omega arith; apart = inr (omega arith) }
+    record { into_fits = omega arith; from_fits = omega arith; apart = inr (omega arith) }
 
 pub returns : goal.returns
 returns c =

@@ -40,7 +40,7 @@ copy_with-requires c =
     let next = c.next_level-up.ensures in
     let behind = c.next_set-drawn.ensures in
     let high = c.requires.ready.high in
-    record { into-fits = omega arith; from-fits = omega arith; apart = inl (omega arith) }
+    record { into_fits = omega arith; from_fits = omega arith; apart = inl (omega arith) }
 
 pub attract-requires : goal.attract-requires
 attract-requires c =
@@ -54,9 +54,9 @@ difference_with-requires c =
     let copied = after_copy drawn in
     let high = (start_of copied).requires.ready.high in
     let behind = (placed copied).before.next_set-drawn.ensures in
-    let long = drawn.attract.auto.1.1.1.1.0 in
+    let long = drawn.attract.auto.work in
     let long₁ = copied.copy_with.ensures.long in
-    record { into-fits = omega arith; from-fits = omega arith; apart = inl (omega arith) }
+    record { into_fits = omega arith; from_fits = omega arith; apart = inl (omega arith) }
 
 pub returns : goal.returns
 returns c =

@@ -6,7 +6,7 @@ use Rattle.quasi_level.proofs.level.turn_over.Goals as goal
 
 pub difference_with-requires : goal.difference_with-requires
 difference_with-requires c =
-    record { into-fits = search rules; from-fits = search rules; apart = inl (search rules) }
+    record { into_fits = search rules; from_fits = search rules; apart = inl (search rules) }
 
 pub returns : goal.returns
 returns c =

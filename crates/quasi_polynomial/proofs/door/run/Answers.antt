@@ -121,7 +121,7 @@ copy_with-requires c =
     let p = c.before.before.before.before in
     let room = fits (placed p) in
     let same_size = p.prepare.ensures.long in
-    record { into-fits = omega arith; from-fits = omega arith; apart = inr (omega arith) }
+    record { into_fits = omega arith; from_fits = omega arith; apart = inr (omega arith) }
 
 pub solve_even-requires : goal.solve_even-requires
 solve_even-requires c =
@@ -139,7 +139,7 @@ difference_with-requires c =
     let long₁ = p.prepare.ensures.long in
     let long₂ = k.copy_with.ensures.long in
     let long₃ = e.solve_even.ensures.stays.long in
-    record { into-fits = omega arith; from-fits = omega arith; apart = inl (omega arith) }
+    record { into_fits = omega arith; from_fits = omega arith; apart = inl (omega arith) }
 
 pub overflow_add-base : goal.overflow_add-base
 overflow_add-base c = let d = c.before.before.before.before in omega (arith, fits (place d), (whole d).well_formed)

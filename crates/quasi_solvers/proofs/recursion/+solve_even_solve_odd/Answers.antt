@@ -201,7 +201,7 @@ solve_even-copy_with-requires t c =
     let u = c.before.before.before.before in
     let high = even_high u.before in
     let next = u.next_level-up.ensures in
-    record { into-fits = omega arith; from-fits = omega arith; apart = inr (omega arith) }
+    record { into_fits = omega arith; from_fits = omega arith; apart = inr (omega arith) }
 
 pub solve_even-overflow_add-p : goal.solve_even-overflow_add-p
 solve_even-overflow_add-p t c =
@@ -501,7 +501,7 @@ solve_odd-copy_with-requires t c =
     let u = c.before.before.before.before in
     let high = odd_high u.before in
     let next = u.next_level-up.ensures in
-    record { into-fits = omega arith; from-fits = omega arith; apart = inr (omega arith) }
+    record { into_fits = omega arith; from_fits = omega arith; apart = inr (omega arith) }
 
 pub solve_odd-overflow_add-p : goal.solve_odd-overflow_add-p
 solve_odd-overflow_add-p t c =

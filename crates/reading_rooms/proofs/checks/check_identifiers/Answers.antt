@@ -42,14 +42,14 @@ none_wrong :
 none_wrong c = none_found 31 _ (wrong c.args.offsets.now) (λ k l. c.loop-i.invariant.1 k (omega arith))
 
 pub returns-then-not-said : goal.returns-then-not-said
-returns-then-not-said c = simp (none_wrong c.before, not-true c.args.said c.if-not-said.true)
+returns-then-not-said c = simp (none_wrong c.before.before, not-true c.args.said (ap not c.if-not-said.true))
 
 pub returns-then-highest-n : goal.returns-then-highest-n
 returns-then-highest-n c =
-    let told = not-false c.args.said c.if-not-said.false in
-    simp (none_wrong c.before.before, told, ne_eqb _ _ c.if-highest-n.true)
+    let told = not-false c.args.said (ap not c.if-not-said.false) in
+    simp (none_wrong c.before.before.before, told, ne_eqb _ _ c.if-highest-n.true)
 
 pub returns : goal.returns
 returns c =
-    let told = not-false c.args.said c.if-not-said.false in
-    simp (none_wrong c.before.before, told, eq-eqb _ _ c.if-highest-n.false)
+    let told = not-false c.args.said (ap not c.if-not-said.false) in
+    simp (none_wrong c.before.before.before, told, eq-eqb _ _ c.if-highest-n.false)

@@ -22,6 +22,6 @@ returns c =
     let called = c.before.before.before.before in
     let at = called.before.before.before.before.before.before.before.before.before.before in
     solitaire_says at.args.said.two_owners (game at) _ _ _ _ called.reckonbough_solitaire-number.ensures
-    called.reckonbough_solitaire-number.auto.1.1.1.1.1.1.1.0
+    called.reckonbough_solitaire-number.auto.set
     (c.set_differs.ensures.0 e)
     (c.set_differs.ensures.1 e)

@@ -78,7 +78,7 @@ standing :
     let g = start (owned b) in
     SetsStand (tables g) (length g.args.set.now) b.behind-row.result b.sets-base.result b.next_set-good.result
 standing b =
-    record { row_at = b.behind-row.ensures; base-at = b.sets-base.ensures; good-at = b.next_set-good.ensures }
+    record { row_at = b.behind-row.ensures; base_at = b.sets-base.ensures; good_at_lem = b.next_set-good.ensures }
 
 -- what the attractor gives, the work area's length after it, and the room for the set in it
 attracted :

@@ -64,7 +64,7 @@ abbrev sized_at : AtAfterLevelsAt → AtAfterSetWords
 sized_at b = b.before.before.before.before.before
 
 abbrev base : AtAfterLevelsAt → ℕ
-base b = b.levels_at_lem.result
+base b = b.levels_at-base.result
 
 here :
     (b : AtAfterLevelsAt) →
@@ -81,14 +81,14 @@ even_at b = b.behind_sets-even_won.ensures
 odd_at_lem :
     (b : AtAfterLevelsAt) →
     let a = (began (sized_at b)).args in
-    b.odd_at_lem.result ≡ odd_place (length a.owners.now) (length a.targets.now)
-odd_at_lem b = b.odd_at_lem.ensures
+    b.odd_at-odd_won.result ≡ odd_place (length a.owners.now) (length a.targets.now)
+odd_at_lem b = b.odd_at-odd_won.ensures
 
 first :
     (b : AtAfterLevelsAt) →
     let a = (began (sized_at b)).args in
     base b ≡ first_level (length a.owners.now) (length a.targets.now)
-first b = b.levels_at_lem.ensures
+first b = b.levels_at-base.ensures
 
 entries_at :
     (b : AtAfterLevelsAt) →
@@ -112,7 +112,7 @@ placeable :
     PriorityPlaceable (length a.owners.now) (length a.targets.now) z.set_words-s.result 255
 placeable z =
     let (few-vertices, few-edges, _) = few (began z) in
-    record { size = z.set_words-s.ensures; few = few-vertices; few-edges = few-edges; small = omega arith }
+    record { size = z.set_words-s.ensures; few = few-vertices; few_edges = few-edges; small = omega arith }
 
 -- the recursion has ended: where each call before it stands, and the work area then
 abbrev sorted_at : AtAfterClear → AtAfterMake
@@ -144,7 +144,7 @@ left r = r.zielonka_rec-calls.new.work
 
 kept_long : (r : AtAfterZielonkaRec) → length (left r) ≡ length (start r).args.work.now
 kept_long r =
-    r.zielonka_rec-calls.auto.1.1.1.1.0 ∙
+    r.zielonka_rec-calls.auto.work ∙
     (cleared r).clear.ensures.long ∙
     (sorted r).make.ensures.long ∙
     (prepared r).prepare.ensures.long
@@ -304,7 +304,7 @@ won_at_lem c = (written c).before.before.before.before.before.before.before
 
 won_long : (c : AtAfterSliceKnown14) → let w = won_at_lem c in
     length (all_won w) ≡ length (start (ended (found_at w))).args.work.now
-won_long c = let w = won_at_lem c in w.without.kept.1.0 ∙ kept_long (ended (found_at w))
+won_long c = let w = won_at_lem c in w.without.auto.work ∙ kept_long (ended (found_at w))
 
 pub shape_of-work : goal.shape_of-work
 shape_of-work c = c.clear-2.ensures.long ∙ won_long c.before
