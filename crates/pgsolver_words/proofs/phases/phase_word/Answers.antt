@@ -7,7 +7,7 @@ pub returns-in-AtStart : goal.returns-in-AtStart
 returns-in-AtStart c = rw c.in-AtStart.is
 
 pub returns-in-InWord : goal.returns-in-InWord
-returns-in-InWord c = rw c.in-InWord.is (letters_again c.in-InWord.XX (omega arith))
+returns-in-InWord c = rw c.in-InWord.is (letters_again c.in-InWord.k (omega arith))
 
 pub returns-in-PastWord : goal.returns-in-PastWord
 returns-in-PastWord c = rw c.in-PastWord.is
