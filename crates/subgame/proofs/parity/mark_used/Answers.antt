@@ -2,33 +2,21 @@
 use native.Mathlib.Omega.{arith}
 use Rattle.search_links.specs.Graph.{graph}
 use Rattle.subgame.specs.Parity.{kept_long, kept_unused, marked_unused}
-use Rattle.subgame.proofs.parity.mark_used.Lts as lts
-use Rattle.subgame.proofs.parity.mark_used.Reads as reads
-use Rattle.subgame.proofs.parity.mark_used.Tie as tie
 use Rattle.subgame.proofs.parity.mark_used.Goals as goal
-
-abbrev AtAfterSharedSliceKnown6 : Type 0
-AtAfterSharedSliceKnown6 = lts.After-shared_slice_known6 tie.the-claims reads.Pre reads.Post
-
-abbrev AtStart : Type 0
-AtStart = lts.Start tie.the-claims reads.Pre reads.Post
-
-abbrev start : AtAfterSharedSliceKnown6 → AtStart
-start c = c.before.before.before.before.before.before.before
 
 pub bounds-kept-p : goal.bounds-kept-p
 bounds-kept-p c =
-    let s = start c.before in omega (arith, kept_long s.args.priorities.now s.args.kept.now s.requires.1, s.requires.2)
+    let s = c in omega (arith, kept_long s.args.priorities.now s.args.kept.now s.requires.1, s.requires.2)
 
 pub mark_parts-requires : goal.mark_parts-requires
-mark_parts-requires c = ((start c.before.before.before).requires.0, (start c.before.before.before).requires.2)
+mark_parts-requires c = (c.requires.0, c.requires.2)
 
 pub returns-then-kept-p-ne0 : goal.returns-then-kept-p-ne0
 returns-then-kept-p-ne0 c = c.mark_parts.ensures
 
 pub returns-else-kept-p-ne0 : goal.returns-else-kept-p-ne0
 returns-else-kept-p-ne0 c =
-    let s = start c.before.before in
+    let s = c in
     let a = s.args in
     marked_unused (graph a.priorities.now a.offsets.now a.targets.now a.entries.now a.p) a.base
     a.work.now
