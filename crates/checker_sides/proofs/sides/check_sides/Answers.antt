@@ -126,7 +126,7 @@ returns-then-not-stays c =
     outcome_found 23 _ (leaves s) (answered 0) l.v (omega arith) l.invariant.2
     (other_leaves s.requires.given l.v (omega arith) (sym d.is_own.ensures ∙ e.if-is_own.false) i.e
     i.invariant.0 (omega arith)
-    (sym c.stays-in-loop-e.ensures ∙ not-true _ c.if-not-stays.true))
+    (sym c.stays-in-loop-e.ensures ∙ c.if-not-stays.true))
 
 pub loop-e-preserved : goal.loop-e-preserved
 loop-e-preserved c =
@@ -140,7 +140,7 @@ loop-e-preserved c =
       refl,
       i.invariant.3,
       from_more (λ (k : ℕ). side_of s.args.even.now l.v (get_or s.args.targets.now k 0)) true _ i.e i.invariant.4
-          (sym c.stays-in-loop-e.ensures ∙ not-false _ c.if-not-stays.false),
+          (sym c.stays-in-loop-e.ensures ∙ c.if-not-stays.false),
     )
 
 pub vertices-preserved : goal.vertices-preserved
