@@ -23,7 +23,7 @@ AtStart = lts.Start tie.the-claims reads.Pre reads.Post
 
 -- where the function begins, and where the next level is known
 abbrev placed : AtAfterIsEmpty → AtAfterNextLevel
-placed c = c.before.before.before
+placed c = c.before.before
 
 abbrev start_of : AtAfterIsEmpty → AtStart
 start_of c = (placed c).before.before.before.before.before
@@ -53,7 +53,7 @@ returns-then-is_empty c =
           c.if-is_empty.true
           v;
       same = refl;
-      stand = c.after_Nothing.ensures;
+      stand = c.after_nothing.ensures;
     })
 
 pub returns : goal.returns
