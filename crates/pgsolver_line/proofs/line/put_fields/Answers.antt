@@ -17,10 +17,10 @@ AtStart = lts.Start tie.the-claims reads.Pre reads.Post
 
 -- where the function begins, and the first number put
 abbrev start : AtAfterPutEnded → AtStart
-start c = c.before.before.before.before
+start c = c.before.before.before.before.before
 
 abbrev first : AtAfterPutEnded2 → AtAfterPutEnded
-first c = c.before.before.before.before.before
+first c = c.before.before.before.before.before.before
 
 pub put_ended-at-requires : goal.put_ended-at-requires
 put_ended-at-requires c =
@@ -30,14 +30,14 @@ put_ended-at-requires c =
 pub put_ended-at-requires-2 : goal.put_ended-at-requires-2
 put_ended-at-requires-2 c =
     let one = c.before.before.before.before in
-    let at = start one in
+    let at = start one.before in
     let p = one.put_ended-at.ensures in
     omega (arith, at.requires, p.place, p.long, fields_pieces at.args.identifier at.args.priority at.args.owner)
 
 pub put_ended-requires : goal.put_ended-requires
 put_ended-requires c =
     let two = c.before.before.before.before in
-    let one = first two in
+    let one = first two.before in
     let at = start one in
     let p = one.put_ended-at.ensures in
     let q = two.put_ended-at-2.ensures in
@@ -48,7 +48,7 @@ pub returns : goal.returns
 returns c =
     let three = c.before.before.before in
     let two = three.before.before.before.before.before in
-    let one = first two in
+    let one = first two.before in
     let at = start one in
     fields_put at.args.identifier at.args.priority at.args.owner one.put_ended-at.ensures two.put_ended-at-2.ensures
     three.put_ended.ensures

@@ -60,10 +60,10 @@ overflow_cast-targets-2 c =
     omega (arith, c.shared_slice_known-2-1.given (length at.args.targets.now - 1))
 
 pub put_ended-requires : goal.put_ended-requires
-put_ended-requires c = aiming_room (aimed c.before.before.before.before) line_end (omega arith)
+put_ended-requires c = aiming_room (aimed c.before.before.before.before.before) line_end (omega arith)
 
 pub returns : goal.returns
 returns c =
     let called = c.before.before.before in
     let loop = called.before.before.before.before in
-    aiming_all (aimed loop) (omega (arith, loop.loop-e.invariant.0)) called.put_ended.ensures
+    aiming_all (aimed loop.before) (omega (arith, loop.loop-e.invariant.0)) called.put_ended.ensures
