@@ -1,6 +1,5 @@
 -- `spread_heads` meets its contract. The loop's invariant: the heads passed stand in the queue.
 use mathlib.Core.List.{List}
-use mathlib.Core.Logic.{⊎_elim}
 use mathlib.Core.Path.{◌≡◌, sym, subst, ◌∙◌}
 use Prim.Native.Nat.{ℕ, ◌+◌, ◌-◌}
 use native.Mathlib.Omega.{arith}
@@ -12,6 +11,7 @@ use Rattle.loop_heads.proofs.heads.spread_heads.Lts as lts
 use Rattle.loop_heads.proofs.heads.spread_heads.Reads as reads
 use Rattle.loop_heads.proofs.heads.spread_heads.Tie as tie
 use Rattle.loop_heads.proofs.heads.spread_heads.Goals as goal
+use Rattle.loop_heads.proofs.heads.spread_heads.Goals.{then-is_head, else-is_head}
 
 abbrev AtAfterLabels : Type 0
 AtAfterLabels = lts.After-labels tie.the-claims reads.Pre reads.Post goal.the-invariant-loop-v goal.the-decreases-loop-v
@@ -73,13 +73,13 @@ loop-v-init c =
 
 pub is_head-requires : goal.is_head-requires
 is_head-requires c =
-    let a = c.before.before.before in
+    let a = c.before.before in
     let s = start a in
     (omega arith, omega (arith, s.requires.high, a.loop-v.invariant.1.within.long))
 
 pub put-requires : goal.put-requires
 put-requires c =
-    let a = c.before.before.before.before.before.before in
+    let a = c.before.before.before.before.before in
     let s = start a in
     putable_as (labels_of a).labels-labels.ensures (queue_of a).queue-queue.ensures
     (head_putable (graph_of s) s.args.p s.args.row s.args.work.now s.requires a.loop-v.v a.loop-v.work
@@ -87,24 +87,22 @@ put-requires c =
 
 pub loop-v-preserved : goal.loop-v-preserved
 loop-v-preserved c =
-    let a = c.before.before.before.before.before in
+    let a = c.before.before.before.before in
     let s = start a in
     let l = a.loop-v in
     let says = c.is_head.ensures in (
       omega arith,
-      ⊎_elim
-          (λ w.
-          heading_as (w.5 ∙ w.2.ensures ∙
-          putting_as l.v (length s.args.priorities.now + 1) l.end l.work (labels_of a).labels-labels.ensures (queue_of a).queue-queue.ensures) w.6
-          (heading_joins (graph_of s) s.args.p s.args.row s.args.work.now s.requires l.v l.work l.end
-          l.invariant.1 (omega arith)
-          (sym w.0.taken ∙ says)))
-          (λ w.
-          heading_as w.1 w.2
-          (heading_skips (graph_of s) s.args.p s.args.row s.args.work.now s.requires l.v l.work l.end
-          l.invariant.1 (omega arith)
-          (sym w.0.left ∙ says)))
-          c.if-is_head.branch,
+      elim c.if-is_head.branch [
+        | then-is_head w ↦ heading_as (w.work-is ∙ w.put.ensures ∙
+            putting_as l.v (length s.args.priorities.now + 1) l.end l.work (labels_of a).labels-labels.ensures (queue_of a).queue-queue.ensures) w.end-is
+            (heading_joins (graph_of s) s.args.p s.args.row s.args.work.now s.requires l.v l.work l.end
+            l.invariant.1 (omega arith)
+            (sym w.if-is_head.true ∙ says))
+        | else-is_head w ↦ heading_as w.work-is w.end-is
+            (heading_skips (graph_of s) s.args.p s.args.row s.args.work.now s.requires l.v l.work l.end
+            l.invariant.1 (omega arith)
+            (sym w.if-is_head.false ∙ says))
+      ],
     )
 
 pub spread-requires : goal.spread-requires
