@@ -29,26 +29,26 @@ one c = c.if-within-s.false ∙ c.set_words-s.ensures
 two : (c : AtElse2) → let a = c.args in a.target ≡ words a.n
 two c = c.if-target-s.false ∙ c.set_words-s.ensures
 
-three : (c : AtElse3) → let a = c.args in a.result ≡ words a.n
+three : (c : AtElse3) → let a = c.args in a.res ≡ words a.n
 three c = c.if-res-s.false ∙ c.set_words-s.ensures
 
 pub returns-then-within-s : goal.returns-then-within-s
 returns-then-within-s c =
     let a = c.args in
-    out (size_within a.n a.m a.within a.target a.result a.strategy a.distances a.work
+    out (size_within a.n a.m a.within a.target a.res a.strategy a.distances a.work
     (λ e. c.if-within-s.true (e ∙ sym c.set_words-s.ensures)))
 
 pub returns-then-target-s : goal.returns-then-target-s
 returns-then-target-s c =
     let a = c.args in
-    out (size_target a.n a.m a.within a.target a.result a.strategy a.distances a.work
+    out (size_target a.n a.m a.within a.target a.res a.strategy a.distances a.work
     (one c.before) (λ e. c.if-target-s.true (e ∙ sym c.set_words-s.ensures)))
 
 pub returns-then-res-s : goal.returns-then-res-s
 returns-then-res-s c =
     let a = c.args in
     out
-    (size_result a.n a.m a.within a.target a.result a.strategy a.distances a.work
+    (size_result a.n a.m a.within a.target a.res a.strategy a.distances a.work
     (one c.before.before) (two c.before)
     (λ e. c.if-res-s.true (e ∙ sym c.set_words-s.ensures)))
 
@@ -56,14 +56,14 @@ pub returns-then-strategy-n : goal.returns-then-strategy-n
 returns-then-strategy-n c =
     let d = c.before in
     let a = d.args in
-    out (size_strategy a.n a.m a.within a.target a.result a.strategy a.distances a.work
+    out (size_strategy a.n a.m a.within a.target a.res a.strategy a.distances a.work
     (one d.before.before) (two d.before) (three d) c.if-strategy-n.true)
 
 pub returns-then-distances-n : goal.returns-then-distances-n
 returns-then-distances-n c =
     let d = c.before.before in
     let a = d.args in
-    out (size_distances a.n a.m a.within a.target a.result a.strategy a.distances a.work
+    out (size_distances a.n a.m a.within a.target a.res a.strategy a.distances a.work
     (one d.before.before) (two d.before) (three d) c.if-strategy-n.false c.if-distances-n.true)
 
 pub returns-then-work-work_words : goal.returns-then-work-work_words
@@ -72,7 +72,7 @@ returns-then-work-work_words c =
     let d = w.before.before.before in
     let a = d.args in
     out
-    (size_work a.n a.m a.within a.target a.result a.strategy a.distances a.work
+    (size_work a.n a.m a.within a.target a.res a.strategy a.distances a.work
     (one d.before.before) (two d.before) (three d) w.if-strategy-n.false w.if-distances-n.false
     (omega (arith, c.if-work-work_words.true, w.work_words.ensures)))
 
@@ -82,6 +82,6 @@ returns c =
     let d = w.before.before.before in
     let a = d.args in
     out
-    (size_right a.n a.m a.within a.target a.result a.strategy a.distances a.work
+    (size_right a.n a.m a.within a.target a.res a.strategy a.distances a.work
     (one d.before.before) (two d.before) (three d) w.if-strategy-n.false w.if-distances-n.false
     (omega (arith, c.if-work-work_words.false, w.work_words.ensures)))
