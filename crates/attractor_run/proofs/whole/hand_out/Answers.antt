@@ -28,14 +28,14 @@ abbrev at1 : AtAfterCopyFrom → AtStart
 at1 c = (placed c).before.before.before.before.before.before.before.before
 
 abbrev copied : AtAfterWriteStrategy → AtAfterCopyFrom
-copied c = c.before.before.before.before.before
+copied c = c.before.before.before.before
 
 abbrev entered : AtAfterWriteDistances → AtAfterWriteStrategy
-entered c = c.before.before.before.before.before
+entered c = c.before.before.before.before
 
 pub write_strategy-requires : goal.write_strategy-requires
 write_strategy-requires c =
-    let d = c.before.before.before.before.before in
+    let d = c.before.before.before.before in
     let g = at1 d in
     let a = g.args in
     enter_ready a.owners.now a.m a.alpha a.target.now a.work.now a.set a.res.now a.strategy.now
@@ -43,7 +43,7 @@ write_strategy-requires c =
 
 pub write_distances-requires : goal.write_distances-requires
 write_distances-requires c =
-    let d = copied c.before.before.before.before.before in
+    let d = copied c.before.before.before.before in
     let g = at1 d in
     let a = g.args in
     measure_ready a.owners.now a.m a.alpha a.target.now a.work.now a.set a.res.now a.strategy.now

@@ -40,7 +40,7 @@ abbrev readied : AtAfterAttract → AtAfterPrepare
 readied c = c.before.before.before.before
 
 abbrev drawn : AtAfterHandOut → AtAfterAttract
-drawn c = c.before.before.before.before.before.before.before
+drawn c = c.before.before.before.before.before.before
 
 abbrev given_out : AtAfterClear → AtAfterHandOut
 given_out c = c.before.before.before.before.before.before.before.before
@@ -54,8 +54,8 @@ long d =
     two_long a.owners.now a.offsets.now a.targets.now a.alpha a.within.now a.target.now
     a.res.now a.strategy.now a.distances.now a.work.now g.requires (placed p).before.free-base.ensures
     (placed p).next_set-set.ensures
-    p.prepare.new.work p.prepare.ensures d.attract-looks.new.work d.attract.result
-    d.attract.ensures
+    p.prepare.new.work p.prepare.ensures d.attract-looks.new.work d.attract-looks.result
+    d.attract-looks.ensures
 
 pub free-base-requires : goal.free-base-requires
 free-base-requires c =
@@ -83,7 +83,7 @@ attract-looks-requires c =
 
 pub hand_out-requires : goal.hand_out-requires
 hand_out-requires c =
-    let d = c.before.before.before.before.before.before.before in
+    let d = c.before.before.before.before.before.before in
     let p = readied d in
     let g = at1 (placed p) in
     let a = g.args in
