@@ -34,7 +34,7 @@ use Rattle.quasi_level.proofs.passes.Passes.new.Reads as new_reads
 use Rattle.quasi_level.proofs.passes.Passes.precision.Reads as precision_reads
 use Rattle.quasi_level.proofs.passes.Passes.sharpness.Reads as sharpness_reads
 use Rattle.quasi_solvers.proofs.recursion.least.Reads as least_reads
-use Rattle.set_pairs.proofs.copy_with.Reads as copy_with_reads
+use Rattle.sets.proofs.copy_with.Reads as copy_with_reads
 use borrow.Author.Rules.{rules}
 use Rattle.quasi_solvers.proofs.recursion.+solve_even_solve_odd.Goals as goal
 
@@ -90,10 +90,10 @@ EvenAt P t =
 module _ {t : ℕ} where
   -- the places up to the highest priority, each from the next
   abbrev even_start : EvenAt solve_even_lts.After-size_at t → EvenAt solve_even_lts.Start t
-  even_start c = c.before.before.before.before.before.before.before.before
+  even_start c = c.before.before.before.before.before.before.before
 
   abbrev even_sized : EvenAt solve_even_lts.After-highest_at t → EvenAt solve_even_lts.After-size_at t
-  even_sized c = c.before.before.before.before
+  even_sized c = c.before.before.before
 
   -- from there to the call of the other solver on V itself, and to the loop
   abbrev even_copied : EvenAt solve_even_lts.After-solve_odd t → EvenAt solve_even_lts.After-copy_with t
@@ -131,8 +131,8 @@ module _ {t : ℕ} where
   -- the words of a set
   even_words :
       (c : EvenAt solve_even_lts.After-size_at t) →
-      c.before.before.set_words-s.result ≡ words (vertices (even_tables (even_start c)))
-  even_words c = c.before.before.set_words-s.ensures
+      c.set_words-s.result ≡ words (vertices (even_tables (even_start c)))
+  even_words c = c.set_words-s.ensures
 
   -- the highest priority in V
   even_top :
@@ -143,8 +143,8 @@ module _ {t : ℕ} where
       c.highest_at-p.result.0
   even_top c =
       let d = even_sized c in
-      let e = c.before.before in
-      called_top (even_called d) (even_words d) (even_start d).args.even d.size_at-size.ensures e.before.least-e.ensures
+      let e = c in
+      called_top (even_called d) (even_words d) (even_start d).args.even d.size_at-size.ensures e.least-e.ensures
       e.if-e-eq0.false
       c.highest_at-p.ensures
 
@@ -152,7 +152,7 @@ module _ {t : ℕ} where
   even_high :
       (c : EvenAt solve_even_lts.After-highest_at t) →
       let d = even_sized c in
-      (even_start d).args.base + 9 * d.before.before.set_words-s.result ≤ length (even_start d).args.work.now
+      (even_start d).args.base + 9 * d.set_words-s.result ≤ length (even_start d).args.work.now
   even_high c = let d = even_sized c in called_high (even_called d) (even_words d) (even_top c)
 
   -- it is below the height
@@ -160,15 +160,15 @@ module _ {t : ℕ} where
   even_lower c = let d = even_sized c in top_lower (even_called d) (even_words d) (even_top c)
 
   -- whose it is
-  even_theirs : (c : EvenAt solve_even_lts.Then2 t) → parity c.before.before.before.highest_at-p.result.0 ≡ opponent Even
+  even_theirs : (c : EvenAt solve_even_lts.Then2 t) → parity c.highest_at-p.result.0 ≡ opponent Even
   even_theirs c = ap player_of c.if-p-eq1.true
 
-  even_ours : (c : EvenAt solve_even_lts.Else2 t) → parity c.before.before.before.highest_at-p.result.0 ≡ Even
-  even_ours c = parity_even c.before.before.before.highest_at-p.result.0 c.if-p-eq1.false
+  even_ours : (c : EvenAt solve_even_lts.Else2 t) → parity c.highest_at-p.result.0 ≡ Even
+  even_ours c = parity_even c.highest_at-p.result.0 c.if-p-eq1.false
 
 pub solve_even-size_at-size-requires : goal.solve_even-size_at-size-requires
 solve_even-size_at-size-requires t c =
-    let start = c.before.before.before.before.before.before.before.before in called_held start.requires c.set_words-s.ensures
+    let start = c.before in called_held start.requires c.set_words-s.ensures
 
 pub solve_even-give_up-requires : goal.solve_even-give_up-requires
 solve_even-give_up-requires t c =
@@ -179,15 +179,15 @@ solve_even-shape_of-work-then-e-eq0 t c = c.give_up.ensures.cleared.long
 
 pub solve_even-returns-then-e-eq0 : goal.solve_even-returns-then-e-eq0
 solve_even-returns-then-e-eq0 t c =
-    let gave = c.before.before.before in
-    let zero = gave.before.before in
-    let d = zero.before.before in
+    let gave = c.before in
+    let zero = gave in
+    let d = zero.before.before.before.before.before.before in
     called_gives_up (even_called d) (even_words d) d.size_at-size.ensures zero.least-e.ensures zero.if-e-eq0.true
     gave.give_up.ensures
 
 pub solve_even-highest_at-p-requires : goal.solve_even-highest_at-p-requires
 solve_even-highest_at-p-requires t c =
-    let d = c.before.before.before.before in called_searched (even_called d) (even_words d)
+    let d = c.before.before.before in called_searched (even_called d) (even_words d)
 
 pub solve_even-next_level-up-requires : goal.solve_even-next_level-up-requires
 solve_even-next_level-up-requires t c =
@@ -198,18 +198,18 @@ solve_even-next_level-up-requires t c =
 
 pub solve_even-copy_with-requires : goal.solve_even-copy_with-requires
 solve_even-copy_with-requires t c =
-    let u = c.before.before.before.before in
-    let high = even_high u.before in
+    let u = c.before in
+    let high = even_high u.before.before.before.before in
     let next = u.next_level-up.ensures in
     record { into_fits = omega arith; from_fits = omega arith; apart = inr (omega arith) }
 
 pub solve_even-overflow_add-p : goal.solve_even-overflow_add-p
 solve_even-overflow_add-p t c =
     let h = even_topped c.before.before.before.before.before in
-    omega (arith, even_lower h, (even_start (even_sized h)).fits.height)
+    omega (arith, even_lower h, (even_start (even_sized h)).ranges.height)
 
-pub solve_odd-turned-requires : goal.solve_odd-turned-requires
-solve_odd-turned-requires t c =
+pub solve_even-solve_odd-turned-requires : goal.solve_even-solve_odd-turned-requires
+solve_even-solve_odd-turned-requires t c =
     let copied = c.before.before.before.before.before in
     let h = even_topped copied in
     let d = even_sized h in
@@ -231,16 +231,16 @@ solve_even-turn_over-requires t c =
 
 pub solve_even-shape_of-work-then-p-eq1 : goal.solve_even-shape_of-work-then-p-eq1
 solve_even-shape_of-work-then-p-eq1 t c =
-    let turned = c.before.before.before in
-    let solved = turned.before.before.before.before in
+    let turned = c.before in
+    let solved = turned.before.before.before.before.before.before in
     let copied = even_copied solved in
     omega
     (arith, turned.turn_over.ensures.reduced.long, solved.solve_odd-turned.ensures.stays.long, copied.copy_with.ensures.long)
 
 pub solve_even-returns-then-p-eq1 : goal.solve_even-returns-then-p-eq1
 solve_even-returns-then-p-eq1 t c =
-    let turned = c.before.before.before in
-    let solved = turned.before.before.before.before in
+    let turned = c.before in
+    let solved = turned.before.before.before.before.before.before in
     let copied = even_copied solved in
     let h = even_topped copied in
     let d = even_sized h in
@@ -263,13 +263,13 @@ solve_even-attract_top-requires t c =
     let d = even_sized h in
     going_ready (even_called d) (even_words d) (even_top h) l.loop-passes.invariant
 
-pub solve_odd-r-requires : goal.solve_odd-r-requires
-solve_odd-r-requires t c =
+pub solve_even-solve_odd-r-requires : goal.solve_even-solve_odd-r-requires
+solve_even-solve_odd-r-requires t c =
     let cut = c.before.before.before.before in
     let l = even_turn cut in
     let e = even_entered l in
-    let u = e.before.before in
-    let h = u.before in
+    let u = e in
+    let h = u.before.before.before in
     let d = even_sized h in (
       omega (arith, even_lower h, (even_start d).decreases),
       going_called (even_called d) (even_words d) (even_top h) l.loop-passes.invariant (even_ours e) u.next_level-up.ensures cut.attract_top.ensures,
@@ -281,8 +281,8 @@ solve_even-settle-passes-requires t c =
     let cut = even_cut found in
     let l = even_turn cut in
     let e = even_entered l in
-    let u = e.before.before in
-    let h = u.before in
+    let u = e in
+    let h = u.before.before.before in
     let d = even_sized h in
     going_droppable (even_called d) (even_words d) (even_top h) l.loop-passes.invariant (even_ours e) u.next_level-up.ensures cut.attract_top.ensures
     found.solve_odd-r.ensures
@@ -295,13 +295,13 @@ solve_even-loop-passes-smaller t c =
     let cut = even_cut found in
     let l = even_turn cut in
     let e = even_entered l in
-    let u = e.before.before in
-    let h = u.before in
+    let u = e in
+    let h = u.before.before.before in
     let d = even_sized h in
     let g = even_start d in
     going_less (even_called d) (even_words d) (even_top h) l.loop-passes.invariant (even_ours e) u.next_level-up.ensures cut.attract_top.ensures
     found.solve_odd-r.ensures
-    cut.loop-passes-test.taken
+    cut.loop-passes-test.true
     (settled.settle-passes.ensures g.args.priorities.now (even_called d).accepted)
 
 pub solve_even-loop-passes-preserved : goal.solve_even-loop-passes-preserved
@@ -311,13 +311,13 @@ solve_even-loop-passes-preserved t c =
     let cut = even_cut found in
     let l = even_turn cut in
     let e = even_entered l in
-    let u = e.before.before in
-    let h = u.before in
+    let u = e in
+    let h = u.before.before.before in
     let d = even_sized h in
     let g = even_start d in
     going_on (even_called d) (even_words d) (even_top h) l.loop-passes.invariant (even_ours e) u.next_level-up.ensures cut.attract_top.ensures
     found.solve_odd-r.ensures
-    cut.loop-passes-test.taken
+    cut.loop-passes-test.true
     refl
     cut.precision-k.ensures
     (settled.settle-passes.ensures g.args.priorities.now (even_called d).accepted)
@@ -329,8 +329,8 @@ pub solve_even-returns : goal.solve_even-returns
 solve_even-returns t c =
     let l = c.before.before.before.before in
     let e = even_entered l in
-    let u = e.before.before in
-    let h = u.before in
+    let u = e in
+    let h = u.before.before.before in
     let d = even_sized h in
     let k = c.loop-passes-test.false in
     going_ends (even_called d) (even_words d) (even_top h) l.loop-passes.invariant (λ early. omega arith) d.size_at-size.ensures
@@ -390,10 +390,10 @@ OddAt P t =
 module _ {t : ℕ} where
   -- the places up to the highest priority, each from the next
   abbrev odd_start : OddAt solve_odd_lts.After-size_at t → OddAt solve_odd_lts.Start t
-  odd_start c = c.before.before.before.before.before.before.before.before
+  odd_start c = c.before.before.before.before.before.before.before
 
   abbrev odd_sized : OddAt solve_odd_lts.After-highest_at t → OddAt solve_odd_lts.After-size_at t
-  odd_sized c = c.before.before.before.before
+  odd_sized c = c.before.before.before
 
   -- from there to the call of the other solver on V itself, and to the loop
   abbrev odd_copied : OddAt solve_odd_lts.After-solve_even t → OddAt solve_odd_lts.After-copy_with t
@@ -431,8 +431,8 @@ module _ {t : ℕ} where
   -- the words of a set
   odd_words :
       (c : OddAt solve_odd_lts.After-size_at t) →
-      c.before.before.set_words-s.result ≡ words (vertices (odd_tables (odd_start c)))
-  odd_words c = c.before.before.set_words-s.ensures
+      c.set_words-s.result ≡ words (vertices (odd_tables (odd_start c)))
+  odd_words c = c.set_words-s.ensures
 
   -- the highest priority in V
   odd_top :
@@ -443,8 +443,8 @@ module _ {t : ℕ} where
       c.highest_at-p.result.0
   odd_top c =
       let d = odd_sized c in
-      let e = c.before.before in
-      called_top (odd_called d) (odd_words d) (odd_start d).args.odd d.size_at-size.ensures e.before.least-o.ensures
+      let e = c in
+      called_top (odd_called d) (odd_words d) (odd_start d).args.odd d.size_at-size.ensures e.least-o.ensures
       e.if-o-eq0.false
       c.highest_at-p.ensures
 
@@ -452,7 +452,7 @@ module _ {t : ℕ} where
   odd_high :
       (c : OddAt solve_odd_lts.After-highest_at t) →
       let d = odd_sized c in
-      (odd_start d).args.base + 9 * d.before.before.set_words-s.result ≤ length (odd_start d).args.work.now
+      (odd_start d).args.base + 9 * d.set_words-s.result ≤ length (odd_start d).args.work.now
   odd_high c = let d = odd_sized c in called_high (odd_called d) (odd_words d) (odd_top c)
 
   -- it is below the height
@@ -460,15 +460,15 @@ module _ {t : ℕ} where
   odd_lower c = let d = odd_sized c in top_lower (odd_called d) (odd_words d) (odd_top c)
 
   -- whose it is
-  odd_theirs : (c : OddAt solve_odd_lts.Then2 t) → parity c.before.before.before.highest_at-p.result.0 ≡ opponent Odd
+  odd_theirs : (c : OddAt solve_odd_lts.Then2 t) → parity c.highest_at-p.result.0 ≡ opponent Odd
   odd_theirs c = ap player_of c.if-p-eq0.true
 
-  odd_ours : (c : OddAt solve_odd_lts.Else2 t) → parity c.before.before.before.highest_at-p.result.0 ≡ Odd
-  odd_ours c = parity_odd c.before.before.before.highest_at-p.result.0 c.if-p-eq0.false
+  odd_ours : (c : OddAt solve_odd_lts.Else2 t) → parity c.highest_at-p.result.0 ≡ Odd
+  odd_ours c = parity_odd c.highest_at-p.result.0 c.if-p-eq0.false
 
 pub solve_odd-size_at-size-requires : goal.solve_odd-size_at-size-requires
 solve_odd-size_at-size-requires t c =
-    let start = c.before.before.before.before.before.before.before.before in called_held start.requires c.set_words-s.ensures
+    let start = c.before in called_held start.requires c.set_words-s.ensures
 
 pub solve_odd-give_up-requires : goal.solve_odd-give_up-requires
 solve_odd-give_up-requires t c =
@@ -479,15 +479,15 @@ solve_odd-shape_of-work-then-o-eq0 t c = c.give_up.ensures.cleared.long
 
 pub solve_odd-returns-then-o-eq0 : goal.solve_odd-returns-then-o-eq0
 solve_odd-returns-then-o-eq0 t c =
-    let gave = c.before.before.before in
-    let zero = gave.before.before in
-    let d = zero.before.before in
+    let gave = c.before in
+    let zero = gave in
+    let d = zero.before.before.before.before.before.before in
     called_gives_up (odd_called d) (odd_words d) d.size_at-size.ensures zero.least-o.ensures zero.if-o-eq0.true
     gave.give_up.ensures
 
 pub solve_odd-highest_at-p-requires : goal.solve_odd-highest_at-p-requires
 solve_odd-highest_at-p-requires t c =
-    let d = c.before.before.before.before in called_searched (odd_called d) (odd_words d)
+    let d = c.before.before.before in called_searched (odd_called d) (odd_words d)
 
 pub solve_odd-next_level-up-requires : goal.solve_odd-next_level-up-requires
 solve_odd-next_level-up-requires t c =
@@ -498,18 +498,18 @@ solve_odd-next_level-up-requires t c =
 
 pub solve_odd-copy_with-requires : goal.solve_odd-copy_with-requires
 solve_odd-copy_with-requires t c =
-    let u = c.before.before.before.before in
-    let high = odd_high u.before in
+    let u = c.before in
+    let high = odd_high u.before.before.before.before in
     let next = u.next_level-up.ensures in
     record { into_fits = omega arith; from_fits = omega arith; apart = inr (omega arith) }
 
 pub solve_odd-overflow_add-p : goal.solve_odd-overflow_add-p
 solve_odd-overflow_add-p t c =
     let h = odd_topped c.before.before.before.before.before in
-    omega (arith, odd_lower h, (odd_start (odd_sized h)).fits.height)
+    omega (arith, odd_lower h, (odd_start (odd_sized h)).ranges.height)
 
-pub solve_even-turned-requires : goal.solve_even-turned-requires
-solve_even-turned-requires t c =
+pub solve_odd-solve_even-turned-requires : goal.solve_odd-solve_even-turned-requires
+solve_odd-solve_even-turned-requires t c =
     let copied = c.before.before.before.before.before in
     let h = odd_topped copied in
     let d = odd_sized h in
@@ -531,16 +531,16 @@ solve_odd-turn_over-requires t c =
 
 pub solve_odd-shape_of-work-then-p-eq0 : goal.solve_odd-shape_of-work-then-p-eq0
 solve_odd-shape_of-work-then-p-eq0 t c =
-    let turned = c.before.before.before in
-    let solved = turned.before.before.before.before in
+    let turned = c.before in
+    let solved = turned.before.before.before.before.before.before in
     let copied = odd_copied solved in
     omega
     (arith, turned.turn_over.ensures.reduced.long, solved.solve_even-turned.ensures.stays.long, copied.copy_with.ensures.long)
 
 pub solve_odd-returns-then-p-eq0 : goal.solve_odd-returns-then-p-eq0
 solve_odd-returns-then-p-eq0 t c =
-    let turned = c.before.before.before in
-    let solved = turned.before.before.before.before in
+    let turned = c.before in
+    let solved = turned.before.before.before.before.before.before in
     let copied = odd_copied solved in
     let h = odd_topped copied in
     let d = odd_sized h in
@@ -563,13 +563,13 @@ solve_odd-attract_top-requires t c =
     let d = odd_sized h in
     going_ready (odd_called d) (odd_words d) (odd_top h) l.loop-passes.invariant
 
-pub solve_even-r-requires : goal.solve_even-r-requires
-solve_even-r-requires t c =
+pub solve_odd-solve_even-r-requires : goal.solve_odd-solve_even-r-requires
+solve_odd-solve_even-r-requires t c =
     let cut = c.before.before.before.before in
     let l = odd_turn cut in
     let e = odd_entered l in
-    let u = e.before.before in
-    let h = u.before in
+    let u = e in
+    let h = u.before.before.before in
     let d = odd_sized h in (
       omega (arith, odd_lower h, (odd_start d).decreases),
       going_called (odd_called d) (odd_words d) (odd_top h) l.loop-passes.invariant (odd_ours e) u.next_level-up.ensures cut.attract_top.ensures,
@@ -581,8 +581,8 @@ solve_odd-settle-passes-requires t c =
     let cut = odd_cut found in
     let l = odd_turn cut in
     let e = odd_entered l in
-    let u = e.before.before in
-    let h = u.before in
+    let u = e in
+    let h = u.before.before.before in
     let d = odd_sized h in
     going_droppable (odd_called d) (odd_words d) (odd_top h) l.loop-passes.invariant (odd_ours e) u.next_level-up.ensures cut.attract_top.ensures
     found.solve_even-r.ensures
@@ -595,13 +595,13 @@ solve_odd-loop-passes-smaller t c =
     let cut = odd_cut found in
     let l = odd_turn cut in
     let e = odd_entered l in
-    let u = e.before.before in
-    let h = u.before in
+    let u = e in
+    let h = u.before.before.before in
     let d = odd_sized h in
     let g = odd_start d in
     going_less (odd_called d) (odd_words d) (odd_top h) l.loop-passes.invariant (odd_ours e) u.next_level-up.ensures cut.attract_top.ensures
     found.solve_even-r.ensures
-    cut.loop-passes-test.taken
+    cut.loop-passes-test.true
     (settled.settle-passes.ensures g.args.priorities.now (odd_called d).accepted)
 
 pub solve_odd-loop-passes-preserved : goal.solve_odd-loop-passes-preserved
@@ -611,13 +611,13 @@ solve_odd-loop-passes-preserved t c =
     let cut = odd_cut found in
     let l = odd_turn cut in
     let e = odd_entered l in
-    let u = e.before.before in
-    let h = u.before in
+    let u = e in
+    let h = u.before.before.before in
     let d = odd_sized h in
     let g = odd_start d in
     going_on (odd_called d) (odd_words d) (odd_top h) l.loop-passes.invariant (odd_ours e) u.next_level-up.ensures cut.attract_top.ensures
     found.solve_even-r.ensures
-    cut.loop-passes-test.taken
+    cut.loop-passes-test.true
     refl
     cut.precision-k.ensures
     (settled.settle-passes.ensures g.args.priorities.now (odd_called d).accepted)
@@ -629,8 +629,8 @@ pub solve_odd-returns : goal.solve_odd-returns
 solve_odd-returns t c =
     let l = c.before.before.before.before in
     let e = odd_entered l in
-    let u = e.before.before in
-    let h = u.before in
+    let u = e in
+    let h = u.before.before.before in
     let d = odd_sized h in
     let k = c.loop-passes-test.false in
     going_ends (odd_called d) (odd_words d) (odd_top h) l.loop-passes.invariant (λ early. omega arith) d.size_at-size.ensures
