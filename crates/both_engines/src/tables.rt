@@ -35,7 +35,7 @@ fn solve_in(
     out: &mut [u8],
 ) -> usize
     requires { EnginesReady (tables_of owners.now priorities.now offsets.now targets.now) kept.now
-        (record { even = even.now; odd = odd.old; strategy = strategy.old; work = work.old }) out.old }
+        (record { even = even.old; odd = odd.old; strategy = strategy.old; work = work.old }) out.old }
     ensures { Puts 0
         (solved_line budget
         (game_of
