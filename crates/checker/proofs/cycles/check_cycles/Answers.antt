@@ -36,7 +36,7 @@ mark_cycles-requires c =
 
 pub behind-requires : goal.behind-requires
 behind-requires c =
-    let d = c.before.before.before.before in
+    let d = c.before.before.before in
     let s = start d in
     let small : behind (length s.args.priorities.now) (length s.args.targets.now) < 2 ^ 64 =
     omega (arith, (scannable d).room, d.mark_cycles.ensures.long) in
@@ -44,7 +44,7 @@ behind-requires c =
 
 pub find_losing-requires : goal.find_losing-requires
 find_losing-requires c =
-    let d = c.before.before.before.before.before in
+    let d = c.before.before.before.before in
     let a = (start d).args in
     subst
     (λ (k : ℕ). CyclesScannable a.even.now d.mark_cycles.new.work k (length a.priorities.now))
@@ -52,7 +52,7 @@ find_losing-requires c =
 
 pub returns : goal.returns
 returns c =
-    let d = c.before.before.before.before.before.before in
+    let d = c.before.before.before.before.before in
     let a = (start d).args in
     let n = length a.priorities.now in
     cycles_told (start d).requires.0 d.mark_cycles.ensures
