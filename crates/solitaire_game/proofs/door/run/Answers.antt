@@ -61,7 +61,7 @@ abbrev begun : AtAfterAttract → AtStart
 begun c = start (owned (based (marked (placed c))))
 
 abbrev drawn : AtAfterSliceKnown7 → AtAfterAttract
-drawn c = c.before.before.before.before.before.before.before.before.before.before.before.before
+drawn c = c.before.before.before.before.before.before.before.before.before.before
 
 -- the numbers are small
 few :
@@ -160,11 +160,11 @@ offset_bounds-work-good c =
     let d = c.before.before.before.before in omega (arith, standing (based (marked (placed d))), few (begun d))
 
 pub slice_bounds-copy_from-end : goal.slice_bounds-copy_from-end
-slice_bounds-copy_from-end c = let d = c.before.before.before.before.before in omega (arith, room d, few (begun d))
+slice_bounds-copy_from-end c = let d = c.before.before.before.before in omega (arith, room d, few (begun d))
 
 pub copy_from-requires : goal.copy_from-requires
 copy_from-requires c =
-    let d = c.before.before.before.before.before.before in
+    let d = c.before.before.before.before.before in
     let p = placed d in
     let m = marked p in
     let b = based m in
@@ -175,7 +175,7 @@ copy_from-requires c =
 
 pub clear-requires : goal.clear-requires
 clear-requires c =
-    let d = c.before.before.before.before.before.before.before.before.before.before in
+    let d = c.before.before.before.before.before.before.before.before.before in
     omega (arith, room d)
 
 pub shape_of-work : goal.shape_of-work

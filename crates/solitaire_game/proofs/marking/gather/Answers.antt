@@ -1,12 +1,12 @@
 -- `gather` meets its contract. The loop's invariant: the marked vertices passed are in the set.
 use mathlib.Core.List.{List}
-use mathlib.Core.Logic.{⊎_elim}
 use mathlib.Core.Path.{◌≡◌, refl, sym, subst}
 use Prim.Native.Nat.{ℕ, ◌+◌, ◌-◌}
 use native.Mathlib.Omega.{arith}
 use Rattle.solitaire_game.specs.Gathering.{Gathered, gathered_none, gathered_passed, gathered_joined, insert_fits}
 use borrow.Author.Rules.{rules}
 use Rattle.solitaire_game.proofs.marking.gather.Goals as goal
+use Rattle.solitaire_game.proofs.marking.gather.Goals.{then-work-row-ne0, else-work-row-ne0}
 
 pub loop-v-init : goal.loop-v-init
 loop-v-init c =
@@ -28,13 +28,13 @@ loop-v-preserved c =
     let a = g.args in
     let on : List ℕ → Type 0 = λ (xs : List ℕ). Gathered a.n a.row a.set (l.v + 1) a.work.now xs in
     let next : on c.if-work-row-ne0.work =
-    ⊎_elim
-    (λ w. subst on (sym w.5)
-    (gathered_joined a.n a.s a.row a.set a.work.now g.requires l.v l.work l.invariant.2 (omega arith) w.0.taken
-    w.2.new.0 w.2.ensures))
-    (λ w. subst on (sym w.1)
-    (gathered_passed a.n a.s a.row a.set a.work.now g.requires l.v l.work l.invariant.2 (omega arith) w.0.left))
-    c.if-work-row-ne0.branch in
+    elim c.if-work-row-ne0.branch [
+      | then-work-row-ne0 w ↦ subst on (sym w.work-is)
+          (gathered_joined a.n a.s a.row a.set a.work.now g.requires l.v l.work l.invariant.2 (omega arith) w.if-work-row-ne0.true
+          w.insert.new.set w.insert.ensures)
+      | else-work-row-ne0 w ↦ subst on (sym w.work-is)
+          (gathered_passed a.n a.s a.row a.set a.work.now g.requires l.v l.work l.invariant.2 (omega arith) w.if-work-row-ne0.false)
+    ] in
     (omega arith, next.long, next)
 
 pub returns : goal.returns
