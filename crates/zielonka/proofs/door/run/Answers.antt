@@ -290,7 +290,7 @@ without-requires c =
 
 pub write_out-requires : goal.write_out-requires
 write_out-requires c =
-    let w = c.before.before.before.before.before.before.before in
+    let w = c.before.before.before.before.before.before in
     let r = ended (found_at w) in
     let g = start r in
     found_writable (found w) (entries_at (placed r)) g.requires.0.even_size g.requires.0.odd_size g.requires.0.strategy_size
@@ -300,7 +300,7 @@ abbrev written : AtAfterSliceKnown14 → AtAfterWriteOut
 written c = c.before.before.before.before.before.before.before.before.before.before
 
 abbrev won_at_lem : AtAfterSliceKnown14 → AtAfterWithout
-won_at_lem c = (written c).before.before.before.before.before.before.before
+won_at_lem c = (written c).before.before.before.before.before.before
 
 won_long : (c : AtAfterSliceKnown14) → let w = won_at_lem c in
     length (all_won w) ≡ length (start (ended (found_at w))).args.work.now
