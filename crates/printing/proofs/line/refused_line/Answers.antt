@@ -27,31 +27,31 @@ AtStart = lts.Start tie.the-claims reads.Pre reads.Post
 
 -- the places, each from the next: where the function begins, and after each piece
 abbrev start : AtAfterPutWord → AtStart
-start c = c.before.before.before.before
+start c = c.before.before.before.before.before
 
 abbrev first : AtAfterPutNumber → AtAfterPutWord
 first c = c.before.before.before.before
 
 abbrev second : AtAfterPutWord2 → AtAfterPutNumber
-second c = c.before.before.before.before.before
+second c = c.before.before.before.before.before.before
 
 abbrev third : AtAfterPutNumber2 → AtAfterPutWord2
 third c = c.before.before.before.before
 
 abbrev fourth : AtAfterPutWord3 → AtAfterPutNumber2
-fourth c = c.before.before.before.before.before
+fourth c = c.before.before.before.before.before.before
 
 pub put_number-at-requires : goal.put_number-at-requires
 put_number-at-requires c =
     let at1 = c.before.before.before in
     let at = start at1 in
     let first = at1.put_word-at.ensures in
-    omega (arith, at.requires, first.place, first.long, word_short at.args.number at.fits.number)
+    omega (arith, at.requires, first.place, first.long, word_short at.args.number at.ranges.number)
 
 pub put_word-at-requires-2 : goal.put_word-at-requires-2
 put_word-at-requires-2 c =
     let at2 = c.before.before.before.before in
-    let at1 = first at2 in
+    let at1 = first at2.before in
     let at = start at1 in
     omega (
       arith,
@@ -60,7 +60,7 @@ put_word-at-requires-2 c =
       at1.put_word-at.ensures.long,
       at2.put_number-at.ensures.place,
       at2.put_number-at.ensures.long,
-      word_short at.args.number at.fits.number,
+      word_short at.args.number at.ranges.number,
     )
 
 pub put_number-at-requires-2 : goal.put_number-at-requires-2
@@ -78,14 +78,14 @@ put_number-at-requires-2 c =
       at2.put_number-at.ensures.long,
       at3.put_word-at-2.ensures.place,
       at3.put_word-at-2.ensures.long,
-      word_short at.args.number at.fits.number,
-      word_short at.args.place at.fits.place,
+      word_short at.args.number at.ranges.number,
+      word_short at.args.place at.ranges.place,
     )
 
 pub put_word-requires : goal.put_word-requires
 put_word-requires c =
     let at4 = c.before.before.before.before in
-    let at3 = third at4 in
+    let at3 = third at4.before in
     let at2 = second at3 in
     let at1 = first at2 in
     let at = start at1 in
@@ -100,8 +100,8 @@ put_word-requires c =
       at3.put_word-at-2.ensures.long,
       at4.put_number-at-2.ensures.place,
       at4.put_number-at-2.ensures.long,
-      word_short at.args.number at.fits.number,
-      word_short at.args.place at.fits.place,
+      word_short at.args.number at.ranges.number,
+      word_short at.args.place at.ranges.place,
     )
 
 pub returns : goal.returns

@@ -38,25 +38,25 @@ AtStart = lts.Start tie.the-claims reads.Pre reads.Post
 
 -- the places, each from the next: where the function begins, and after each piece
 abbrev start : AtAfterPutWord → AtStart
-start c = c.before.before.before.before.before
+start c = c.before.before.before.before.before.before
 
 abbrev first : AtAfterPutDecided → AtAfterPutWord
 first c = c.before.before.before.before.before
 
 abbrev second : AtAfterPutWord2 → AtAfterPutDecided
-second c = c.before.before.before.before.before
+second c = c.before.before.before.before.before.before
 
 abbrev third : AtAfterPutCounted → AtAfterPutWord2
 third c = c.before.before.before.before
 
 abbrev fourth : AtAfterPutWord3 → AtAfterPutCounted
-fourth c = c.before.before.before.before.before
+fourth c = c.before.before.before.before.before.before
 
 abbrev fifth : AtAfterPutCounted2 → AtAfterPutWord3
 fifth c = c.before.before.before.before
 
 abbrev sixth : AtAfterPutWord4 → AtAfterPutCounted2
-sixth c = c.before.before.before.before.before
+sixth c = c.before.before.before.before.before.before
 
 -- how much room is left after each piece
 room2 : (c : AtAfterPutDecided) → c.put_decided-at.result + 58 ≤ length c.put_decided-at.new.out
@@ -86,19 +86,19 @@ room6 : (c : AtAfterPutCounted2) → c.put_counted-at-2.result + 16 ≤ length c
 room6 c = omega (arith, room5 (fifth c), c.put_counted-at-2.ensures.1, c.put_counted-at-2.ensures.0.long)
 
 pub put_word-at-requires-2 : goal.put_word-at-requires-2
-put_word-at-requires-2 c = omega (arith, room2 c.before.before.before.before.before)
+put_word-at-requires-2 c = omega (arith, room2 c.before.before.before.before.before.before)
 
 pub put_counted-at-requires : goal.put_counted-at-requires
 put_counted-at-requires c = omega (arith, room3 c.before.before.before.before)
 
 pub put_word-at-requires-3 : goal.put_word-at-requires-3
-put_word-at-requires-3 c = omega (arith, room4 c.before.before.before.before.before)
+put_word-at-requires-3 c = omega (arith, room4 c.before.before.before.before.before.before)
 
 pub put_counted-at-requires-2 : goal.put_counted-at-requires-2
 put_counted-at-requires-2 c = omega (arith, room5 c.before.before.before.before)
 
 pub put_word-requires : goal.put_word-requires
-put_word-requires c = omega (arith, room6 c.before.before.before.before.before)
+put_word-requires c = omega (arith, room6 c.before.before.before.before.before.before)
 
 pub returns : goal.returns
 returns c =
