@@ -47,7 +47,7 @@ overflow_cast-new_offsets c = omega (arith, (ends c.before.before).1)
 -- an offset has room
 room :
     (c : AtAtLoop) →
-    (c.loop-v.v < length (start c).args.new-offsets.now) × (c.loop-v.v < length c.loop-v.new-offsets)
+    (c.loop-v.v < length (start c).args.new_offsets.now) × (c.loop-v.v < length c.loop-v.new_offsets)
 room c =
     let long = written_length _ _ _ _ _ c.loop-v.invariant.1 in
     (omega (arith, (start c).requires), omega (arith, (start c).requires))
@@ -76,10 +76,10 @@ loop-v-preserved c =
     let called = c.write_targets-at in (
       search rules,
       rw (ends at).0
-          (written_listed (new_offset t) (start at).args.new-offsets.now at.loop-v.new-offsets v at.loop-v.invariant.1
+          (written_listed (new_offset t) (start at).args.new_offsets.now at.loop-v.new_offsets v at.loop-v.invariant.1
           (room at).0),
       rw (new_next t v)
-          (written_then 0 (new_targets_up_to t v) (start at).args.new-targets.now at.loop-v.new-targets at.loop-v.at
+          (written_then 0 (new_targets_up_to t v) (start at).args.new_targets.now at.loop-v.new_targets at.loop-v.at
           (new_targets_of t v) _
           called.result at.loop-v.invariant.2 called.ensures),
     )
@@ -105,9 +105,9 @@ returns c =
     let v = at.loop-v.v in
     let all : v ≡ length t.owners = omega arith in
     let before = (start at).args in
-    let within : v < length before.new-offsets.now = omega (arith, (start at).requires) in
-    let last = written_listed (new_offset t) before.new-offsets.now at.loop-v.new-offsets v at.loop-v.invariant.1 within in (
+    let within : v < length before.new_offsets.now = omega (arith, (start at).requires) in
+    let last = written_listed (new_offset t) before.new_offsets.now at.loop-v.new_offsets v at.loop-v.invariant.1 within in (
       rw (sym all, (ends at).0) (rw (add-one v) at (written_front _ _ _ _ last)),
-      rw (sym all) (written_front (new_targets_up_to t v) before.new-targets.now at.loop-v.new-targets at.loop-v.at
+      rw (sym all) (written_front (new_targets_up_to t v) before.new_targets.now at.loop-v.new_targets at.loop-v.at
           at.loop-v.invariant.2),
     )

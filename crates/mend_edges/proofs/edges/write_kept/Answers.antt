@@ -15,6 +15,7 @@ use borrow.Author.Rules.{rules}
 use Rattle.mend_edges.proofs.edges.write_kept.Lts as lts
 use Rattle.mend_edges.proofs.edges.write_kept.Reads as reads
 use Rattle.mend_edges.proofs.edges.write_kept.Goals as goal
+use Rattle.mend_edges.proofs.edges.write_kept.Goals.{else-w-n, then-w-n}
 
 abbrev AtStart : Type 0
 AtStart = lts.Start reads.Pre reads.Post goal.the-invariant-loop-e goal.the-decreases-loop-e
@@ -48,7 +49,7 @@ loop-e-init c =
       start.requires.shaped.offset_grows v (v + 1) (omega arith) (omega arith),
       search rules,
       offset_within t start.requires.shaped (v + 1) (omega arith),
-      rw nothing (written_none start.args.at start.args.new-targets.now (omega (arith, start.requires.room))),
+      rw nothing (written_none start.args.at start.args.new_targets.now (omega (arith, start.requires.room))),
     )
 
 pub overflow_cast-w : goal.overflow_cast-w
@@ -64,8 +65,8 @@ overflow_cast-w-in-loop-e c = omega (arith, c.shared_slice_known-in-loop-e-1.giv
 room :
     (c : AtThen1) →
     let at = c.before.before.before in
-    (at.loop-e.end < length at.args.new-targets.now) ×
-    (at.loop-e.end < length at.loop-e.new-targets)
+    (at.loop-e.end < length at.args.new_targets.now) ×
+    (at.loop-e.end < length at.loop-e.new_targets)
 room c =
     let at = c.before.before.before in
     let start = at.before.before.before in
@@ -103,17 +104,15 @@ loop-e-preserved c =
       search rules,
       search rules,
       at.loop-e.invariant.3,
-      ⊎_elim
-          (λ a.
-          let more = kept_one t from e at.loop-e.invariant.0 (omega arith) (lt-ltb _ _ a.0.taken) in
-          rw (a.1, a.2, more)
-          (written_more start.args.at (kept_from t from e) start.args.new-targets.now at.loop-e.new-targets
-          at.loop-e.end
-          (get_or t.targets e 0) w (room (record { before = c.before.before; if1 = a.0 })).0))
-          (λ a.
-          let same = kept_skip t from e at.loop-e.invariant.0 (omega arith) (le-ltb _ _ a.0.left) in
-          rw (a.1, a.2, same) w)
-          c.if-w-n.branch,
+      elim c.if-w-n.branch [
+        | then-w-n a ↦ let more = kept_one t from e at.loop-e.invariant.0 (omega arith) (lt-ltb _ _ a.if-w-n.true) in
+            rw (a.new_targets-is, a.end-is, more)
+            (written_more start.args.at (kept_from t from e) start.args.new_targets.now at.loop-e.new_targets
+            at.loop-e.end
+            (get_or t.targets e 0) w (room (record { before = c.before.before; if-w-n = a.if-w-n })).0)
+        | else-w-n a ↦ let same = kept_skip t from e at.loop-e.invariant.0 (omega arith) (le-ltb _ _ a.if-w-n.false) in
+            rw (a.new_targets-is, a.end-is, same) w
+      ],
     )
 
 pub shape_of-new_targets : goal.shape_of-new_targets

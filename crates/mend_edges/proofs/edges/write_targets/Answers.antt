@@ -17,9 +17,9 @@ tables c = bare c.args.owners.now c.args.offsets.now c.args.targets.now
 pub returns-then-end-at : goal.returns-then-end-at
 returns-then-end-at c =
     let start = c.before.before.before.before.before.before.before.before.before.before in
-    let called = c.write-Kept in
-    kept_written (tables start) start.args.v start.args.at start.args.new-targets.now
-    called.new.1.1.1.1.1.0
+    let called = c.write_kept-end in
+    kept_written (tables start) start.args.v start.args.at start.args.new_targets.now
+    called.new.new_targets
     called.result called.ensures c.if-end-at.true
 
 pub overflow_cast-new_targets : goal.overflow_cast-new_targets
@@ -30,14 +30,14 @@ overflow_cast-new_targets c =
 pub bounds-new_targets-at : goal.bounds-new_targets-at
 bounds-new_targets-at c =
     let start = c.before.before.before.before.before.before.before.before.before.before in
-    let called = c.write-Kept in
-    loop_room (tables start) start.args.v start.args.at start.args.new-targets.now called.new.1.1.1.1.1.0
+    let called = c.write_kept-end in
+    loop_room (tables start) start.args.v start.args.at start.args.new_targets.now called.new.new_targets
     called.result called.ensures start.requires.room
 
 pub returns : goal.returns
 returns c =
     let start = c.before.before.before.before.before.before.before.before.before.before in
-    let called = c.write-Kept in
-    loop_written (tables start) start.args.v start.args.at start.args.new-targets.now
-    called.new.1.1.1.1.1.0
+    let called = c.write_kept-end in
+    loop_written (tables start) start.args.v start.args.at start.args.new_targets.now
+    called.new.new_targets
     called.result called.ensures c.if-end-at.false start.requires.room
