@@ -1,6 +1,5 @@
 -- `write_altered` meets its contract. The loop's invariant: the altered vertices passed are written, each with its old priority.
 use mathlib.Core.Bool.{true}
-use mathlib.Core.Logic.{⊎_elim}
 use mathlib.Core.Path.{◌≡◌, sym, ◌∙◌}
 use Prim.Native.Nat.{◌<◌, ◌+◌, ◌-◌}
 use native.Mathlib.Omega.{arith}
@@ -15,6 +14,7 @@ use Rattle.mend_list.proofs.list.write_altered.Lts as lts
 use Rattle.mend_list.proofs.list.write_altered.Reads as reads
 use Rattle.mend_list.proofs.list.write_altered.Tie as tie
 use Rattle.mend_list.proofs.list.write_altered.Goals as goal
+use Rattle.mend_list.proofs.list.write_altered.Goals.{then-kept_edges-eq0, else-kept_edges-eq0}
 
 abbrev AtAtLoop : Type 0
 AtAtLoop = lts.At-loop tie.the-claims reads.Pre reads.Post goal.the-invariant-loop-v goal.the-decreases-loop-v
@@ -98,16 +98,14 @@ loop-v-preserved c =
     let w = at.loop-v.invariant.2 in (
       search rules,
       search rules,
-      ⊎_elim
-          (λ a.
-          let here : AtThen1 = record { before = c.before.before; if1 = a.0 } in
-          rw (a.2, a.3, altered_pair t v (alone here))
-          (written_pair (start at).args.at (altered_up_to t v) (start at).args.list.now at.loop-v.list at.loop-v.end v
-          (get_or t.priorities v 0) w (room here).0))
-          (λ a.
-          let not = sym (bared_altered t v) ∙ kept_unaltered (bared t) v kept.result kept.ensures a.0.left in
-          rw (a.1, a.2, altered_skip t v not) w)
-          c.if-kept_edges-eq0.branch,
+      elim c.if-kept_edges-eq0.branch [
+        | then-kept_edges-eq0 a ↦ let here : AtThen1 = record { before = c.before.before; if-kept_edges-eq0 = a.if-kept_edges-eq0 } in
+            rw (a.list-is, a.end-is, altered_pair t v (alone here))
+            (written_pair (start at).args.at (altered_up_to t v) (start at).args.list.now at.loop-v.list at.loop-v.end v
+            (get_or t.priorities v 0) w (room here).0)
+        | else-kept_edges-eq0 a ↦ let not = sym (bared_altered t v) ∙ kept_unaltered (bared t) v kept.result kept.ensures a.if-kept_edges-eq0.false in
+            rw (a.list-is, a.end-is, altered_skip t v not) w
+      ],
     )
 
 pub shape_of-list : goal.shape_of-list

@@ -1,6 +1,5 @@
 -- `write_dropped` meets its contract. The loop's invariant: those passed that lead to no vertex are written.
 use mathlib.Core.List.{[]}
-use mathlib.Core.Logic.{⊎_elim}
 use mathlib.Core.Path.{◌≡◌, sym}
 use Prim.Native.Nat.{◌<◌, ◌-◌}
 use native.Mathlib.Omega.{arith}
@@ -15,6 +14,7 @@ use borrow.Author.Rules.{rules}
 use Rattle.mend_list.proofs.list.write_dropped.Lts as lts
 use Rattle.mend_list.proofs.list.write_dropped.Reads as reads
 use Rattle.mend_list.proofs.list.write_dropped.Goals as goal
+use Rattle.mend_list.proofs.list.write_dropped.Goals.{then-n-targets, else-n-targets}
 
 abbrev AtStart : Type 0
 AtStart = lts.Start reads.Pre reads.Post goal.the-invariant-loop-e goal.the-decreases-loop-e
@@ -67,16 +67,14 @@ loop-e-preserved c =
     let w = at.loop-e.invariant.2 in (
       search rules,
       search rules,
-      ⊎_elim
-          (λ a.
-          let gone = le-ltb (get_or t.targets e 0) (length t.owners) a.0.taken in
-          rw (a.1, a.2, dropped_one t e gone)
-          (written_more 0 (dropped_up_to t e) at.args.list.now at.loop-e.list at.loop-e.end e w
-          (room (record { before = c.before.before; if1 = a.0 })).0))
-          (λ a.
-          let kept = lt-ltb (get_or t.targets e 0) (length t.owners) a.0.left in
-          rw (a.1, a.2, dropped_skip t e kept) w)
-          c.if-n-targets.branch,
+      elim c.if-n-targets.branch [
+        | then-n-targets a ↦ let gone = le-ltb (get_or t.targets e 0) (length t.owners) a.if-n-targets.true in
+            rw (a.list-is, a.end-is, dropped_one t e gone)
+            (written_more 0 (dropped_up_to t e) at.args.list.now at.loop-e.list at.loop-e.end e w
+            (room (record { before = c.before.before; if-n-targets = a.if-n-targets })).0)
+        | else-n-targets a ↦ let kept = lt-ltb (get_or t.targets e 0) (length t.owners) a.if-n-targets.false in
+            rw (a.list-is, a.end-is, dropped_skip t e kept) w
+      ],
     )
 
 pub shape_of-list : goal.shape_of-list
@@ -85,7 +83,7 @@ shape_of-list c = written_length _ _ _ _ _ c.loop-e.invariant.2
 pub returns : goal.returns
 returns c =
     let at = c.before in
-    let t = tables at.before in
+    let t = tables at.before.before in
     let all : at.loop-e.e ≡ length t.targets = omega arith in
     rw (sym all) (written_front (dropped_up_to t at.loop-e.e) at.args.list.now at.loop-e.list at.loop-e.end
     at.loop-e.invariant.2)
