@@ -34,7 +34,7 @@ past c = start c.before.before
 abbrev sizes : AtStart → Verdict
 sizes c =
     let a = c.args in
-    size_checks a.n a.m (length a.within.now) (length a.target.now) a.result a.strategy a.distances a.work
+    size_checks a.n a.m (length a.within.now) (length a.target.now) a.res a.strategy a.distances a.work
 
 abbrev bits : AtStart → Verdict
 bits c = check12 c.args.n c.args.within.now c.args.target.now
@@ -42,13 +42,13 @@ bits c = check12 c.args.n c.args.within.now c.args.target.now
 abbrev whole : AtStart → Verdict
 whole c =
     let a = c.args in
-    lent_checks a.n a.m a.within.now a.target.now a.result a.strategy a.distances a.work
+    lent_checks a.n a.m a.within.now a.target.now a.res a.strategy a.distances a.work
 
 in_order : (c : AtStart) → sizes c then bits c ≡ whole c
 in_order c =
     let a = c.args in
     then_assoc
-    (check9 a.n (length a.within.now ∷ length a.target.now ∷ a.result ∷ []) (a.strategy ∷ a.distances ∷ []))
+    (check9 a.n (length a.within.now ∷ length a.target.now ∷ a.res ∷ []) (a.strategy ∷ a.distances ∷ []))
     (check10 a.n a.m a.work)
     (bits c)
 
@@ -78,7 +78,7 @@ pub check_bits-requires : goal.check_bits-requires
 check_bits-requires c =
     let a = (past c.before).args in
     let right =
-    sizes_right a.n a.m (length a.within.now) (length a.target.now) a.result a.strategy a.distances a.work
+    sizes_right a.n a.m (length a.within.now) (length a.target.now) a.res a.strategy a.distances a.work
     (none1 c.before) in
     (right.within_size, right.target_size, (past c.before).requires.0)
 
