@@ -1,9 +1,13 @@
 -- `targets_length` meets its contract. The loop's invariant: the sum is what the targets passed need.
 use Prim.Native.Nat.{◌+◌, ◌-◌}
 use native.Mathlib.Omega.{arith}
-use Rattle.writing.specs.Lengths.{after_first, after_next, after_all}
+use Rattle.writing.specs.Lengths.{after_each, after_first, after_next, after_all}
 use borrow.Author.Rules.{rules}
 use Rattle.pgsolver_writer.proofs.length.targets_length.Goals as goal
+
+pub loop-e-init : goal.loop-e-init
+unfolding after_each
+loop-e-init c = search rules
 
 pub overflow_cast-targets : goal.overflow_cast-targets
 overflow_cast-targets c = omega (arith, c.shared_slice_known-in-loop-e-1.given c.loop-e.e)
