@@ -93,7 +93,7 @@ current l = get_or (start_of l).args.work.now l.depth_at-depth.result 0
 
 -- the place of R's heads
 abbrev heads : AtAfterIndex → ℕ
-heads i = i.level-at3.result
+heads i = i.level_at-heads.result
 
 -- the current level, the two after it and all before have room
 stands :
@@ -123,14 +123,14 @@ at i =
 
 -- the query, where it is known whether R is open
 abbrev asked : AtAfterIsOpen → AtAfterQuery
-asked o = o.before.before.before.before
+asked o = o.before.before.before
 
 -- the same where the entries are filled, where the escape is known, and where the first level has begun again
 abbrev told : AtAfterAssignMissingStrategies → AtAfterIsOpen
 told f = f.before.before.before.before
 
 abbrev filled : AtAfterBestEscape → AtAfterAssignMissingStrategies
-filled b = b.before.before.before.before
+filled b = b.before.before.before
 
 abbrev solved : AtAfterDescend2 → AtAfterSolveDominion
 solved t = t.before.before.before.before
@@ -181,7 +181,7 @@ queried q =
 
 pub held_at-held-requires : goal.held_at-held-requires
 held_at-held-requires c =
-    let g = c.before.before.before.before.before.before in round_places g.requires.accepted g.requires.made g.requires.shows
+    let g = c.before in round_places g.requires.accepted g.requires.made g.requires.shows
 
 pub depth_at-depth-requires : goal.depth_at-depth-requires
 depth_at-depth-requires c =
@@ -236,7 +236,7 @@ query-requires c =
 
 pub is_open-requires : goal.is_open-requires
 is_open-requires c =
-    let q = c.before.before.before.before in
+    let q = c.before.before.before in
     let g = query_start q in
     round_openable g.requires.accepted g.requires.made g.requires.shows (at (placed q)) (queried q)
 
@@ -247,17 +247,17 @@ overflow_add-k-then-is_open c =
 
 pub descend-after-requires : goal.descend-after-requires
 descend-after-requires c =
-    let i = c.before.before.before in
-    let q = asked i.before in
+    let i = c.before in
+    let q = asked i.before.before.before in
     let g = query_start q in
     round_descend g.requires.accepted g.requires.made g.requires.shows (at (placed q)) (queried q) i.is_open.ensures
     i.if-is_open.true c.one_less.ensures
 
 pub returns-then-is_open : goal.returns-then-is_open
 returns-then-is_open c =
-    let d = c.before.before.before in
-    let i = d.before.before.before in
-    let q = asked i.before in
+    let d = c.before in
+    let i = d in
+    let q = asked i.before.before.before.before.before.before in
     let g = query_start q in
     let same =
     opened_same g.requires.accepted g.requires.made g.requires.shows (at (placed q)) (queried q) i.is_open.ensures
@@ -292,7 +292,7 @@ filling f = rw f.entries-entry.ensures at f.assign_missing_strategies.ensures
 
 pub best_escape-j-requires : goal.best_escape-j-requires
 best_escape-j-requires c =
-    let f = c.before.before.before.before in
+    let f = c.before.before.before in
     let q = asked (told f) in
     let g = query_start q in
     round_escapable g.requires.accepted g.requires.made g.requires.shows (at (placed q)) (queried q) (filling f)
@@ -351,26 +351,26 @@ level_at-requires c =
 
 pub promote-requires : goal.promote-requires
 promote-requires c =
-    let i = c.before.before.before.before.before in
-    let g = escape_start i.before in
-    round_promotable g.requires.accepted g.requires.made g.requires.shows (escape i.before) i.if-j-gt0.true c.level_at.ensures
-    (mark_at_escape i.before).mark_at-mark.ensures
+    let i = c.before in
+    let g = escape_start i.before.before.before.before.before in
+    round_promotable g.requires.accepted g.requires.made g.requires.shows (escape i.before.before.before.before.before) i.if-j-gt0.true c.level_at.ensures
+    (mark_at_escape i.before.before.before.before.before).mark_at-mark.ensures
 
 pub returns-then-j-gt0 : goal.returns-then-j-gt0
 returns-then-j-gt0 c =
-    let e = c.before.before.before in
+    let e = c.before in
     let is = e.level_at.ensures in
-    let read = e.before.before.before.before in
-    let i = read.before in
-    let g = escape_start i.before in
-    let last = (mark_at_escape i.before).mark_at-mark.ensures in
+    let read = e in
+    let i = read in
+    let g = escape_start i.before.before.before.before.before.before.before.before in
+    let last = (mark_at_escape i.before.before.before.before.before.before.before.before).mark_at-mark.ensures in
     let done = e.promote.ensures (length g.args.owners.now) g.requires.shows.ready.size in
     let same =
-    promoted_same g.requires.accepted g.requires.made g.requires.shows (escape i.before) i.if-j-gt0.true is last done in
+    promoted_same g.requires.accepted g.requires.made g.requires.shows (escape i.before.before.before.before.before.before.before.before) i.if-j-gt0.true is last done in
     record {
       long = same.0;
       counted = refl;
-      shown = λ k sh. round_promotes g.requires.accepted k sh (escape i.before) i.if-j-gt0.true is last done read.priority_at.ensures;
+      shown = λ k sh. round_promotes g.requires.accepted k sh (escape i.before.before.before.before.before.before.before.before) i.if-j-gt0.true is last done read.priority_at.ensures;
       rest = same.1;
     }
 
@@ -386,8 +386,8 @@ priority_at-requires-2 c = let l = levels_at_escape c.before.before in omega (ar
 
 pub offset_bounds-work-levels : goal.offset_bounds-work-levels
 offset_bounds-work-levels c =
-    let l = levels_at_escape c.before.before.before in
-    omega (arith, c.priority_at-2.ensures, first_fits c.before.before, (start_of l).well_formed)
+    let l = levels_at_escape c.before.before.before.before.before.before.before.before.before.before.before.before in
+    omega (arith, c.priority_at-2.ensures, first_fits c.before.before.before.before.before.before.before.before.before.before.before, (start_of l).well_formed)
 
 pub solve_dominion-requires : goal.solve_dominion-requires
 solve_dominion-requires c =
@@ -408,15 +408,15 @@ dominated e =
 
 pub descend-after-requires-2 : goal.descend-after-requires-2
 descend-after-requires-2 c =
-    let e = c.before.before.before.before in
-    let read = e.before.before.before in
-    let i = read.before in
-    let b = i.before in
+    let e = c.before in
+    let read = e in
+    let i = read in
+    let b = i.before.before.before.before.before.before.before.before in
     let g = escape_start b in
     let place : read.priority_at-2.result
     ≡ tops_at (length g.args.owners.now) (length g.args.targets.now) g.args.s + 0 =
     omega (arith, read.priority_at-2.ensures, (escape b).begins.depth_is) in
-    round_first g.requires.accepted g.requires.made g.requires.shows (escape b) i.if-j-gt0.false (dominated e)
+    round_first g.requires.accepted g.requires.made g.requires.shows (escape b) i.if-j-gt0.false (dominated e.before.before.before)
     (ap (λ (x : ℕ). get_or (given (filled b)) x 0) place)
 
 -- what the work area is where the first level has begun again
@@ -457,17 +457,17 @@ pub overflow_add-levels : goal.overflow_add-levels
 overflow_add-levels c = let t = c.before.before.before in omega (arith, room4 t, (same4 t).0, (origin t).well_formed)
 
 pub slice_bounds-size-end : goal.slice_bounds-size-end
-slice_bounds-size-end c = room4 c.before.before.before.before
+slice_bounds-size-end c = room4 c.before.before.before
 
 pub size-requires : goal.size-requires
-size-requires c = let t = c.before.before.before.before.before in left_few (ready4 t) (levels4 t)
+size-requires c = let t = c.before in left_few (ready4 t.before.before.before) (levels4 t.before.before.before)
 
 pub shape_of-work : goal.shape_of-work
-shape_of-work c = (same4 c.before.before.before.before.before.before).0
+shape_of-work c = (same4 c.before.before.before.before.before).0
 
 pub returns : goal.returns
 returns c =
-    let t = c.before.before.before.before.before.before in
+    let t = c.before.before.before.before.before in
     record {
       long = (same4 t).0;
       counted = refl;
