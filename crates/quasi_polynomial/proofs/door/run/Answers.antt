@@ -67,10 +67,10 @@ abbrev solved : AtAfterDifferenceWith → AtAfterSolveEven
 solved c = c.before.before.before.before
 
 abbrev reduced : AtAfterCopyFrom → AtAfterDifferenceWith
-reduced c = c.before.before.before.before.before.before
+reduced c = c.before.before.before.before.before
 
 abbrev first : AtAfterCopyFrom2 → AtAfterCopyFrom
-first c = c.before.before.before.before.before.before
+first c = c.before.before.before.before.before
 
 abbrev whole : AtAfterDifferenceWith → AtStart
 whole c = begun (prepared (copied (solved c)))
@@ -148,11 +148,11 @@ pub offset_bounds-work-base : goal.offset_bounds-work-base
 offset_bounds-work-base c = let d = c.before.before.before.before in omega (arith, fits (place d), (whole d).well_formed)
 
 pub slice_bounds-copy_from-end : goal.slice_bounds-copy_from-end
-slice_bounds-copy_from-end c = let d = c.before.before.before.before.before in omega (arith, fits (place d), long d)
+slice_bounds-copy_from-end c = let d = c.before.before.before.before in omega (arith, fits (place d), long d)
 
 pub copy_from-requires : goal.copy_from-requires
 copy_from-requires c =
-    let d = c.before.before.before.before.before.before in
+    let d = c.before.before.before.before.before in
     let g = whole d in
     let s = length g.args.even.now in
     let base = (place d).next_set-base.result in
@@ -167,11 +167,11 @@ pub offset_bounds-work-all : goal.offset_bounds-work-all
 offset_bounds-work-all c = let d = reduced c.before.before.before.before in omega (arith, fits (place d), (whole d).well_formed)
 
 pub slice_bounds-copy_from-end-2 : goal.slice_bounds-copy_from-end-2
-slice_bounds-copy_from-end-2 c = let d = reduced c.before.before.before.before.before in omega (arith, fits (place d), long d)
+slice_bounds-copy_from-end-2 c = let d = reduced c.before.before.before.before in omega (arith, fits (place d), long d)
 
 pub copy_from-requires-2 : goal.copy_from-requires-2
 copy_from-requires-2 c =
-    let d = reduced c.before.before.before.before.before.before in
+    let d = reduced c.before.before.before.before.before in
     let g = whole d in
     let s = length g.args.even.now in
     g.requires.odd_size ∙
