@@ -28,7 +28,7 @@ abbrev AtStart : Type 0
 AtStart = lts.Start tie.the-claims reads.Pre reads.Post
 
 abbrev start : AtAfterTakePortion → AtStart
-start c = c.before.before.before.before.before.before.before.before.before.before.before.before.before.before.before.before
+start c = c.before.before.before.before.before.before.before.before.before.before.before.before.before.before
 
 abbrev owners : AtAfterTakePortion → List ℕ
 owners c = c.take_portion.new.owners
@@ -48,7 +48,7 @@ taken c = c.before.before.before.before.before.before.before.before
 
 -- the place that the words say
 abbrev placed : AtAfterTakePortion → AtAfterPlaceFound
-placed c = c.before.before.before.before.before.before.before
+placed c = c.before.before.before.before.before.before
 
 same_lengths :
     (c : AtAfterSliceKnown10) →
@@ -103,24 +103,24 @@ takes c =
 
 pub overflow_add-place : goal.overflow_add-place
 overflow_add-place c =
-    let at = taken c.before.before.before.before.before in
+    let at = taken c.before.before.before in
     let args = (start at).args in
     let s = args.state.now in
     let read : place_in s + length args.portion.now ≤ most_in s =
-    subst (λ (x : Taken). FitsAs (most_in s) (place_in s + length args.portion.now) x) c.next-1.given.1
+    subst (λ (x : Taken). FitsAs (most_in s) (place_in s + length args.portion.now) x) c.in-On.is
     ((takes at).fits (omega arith)) in
     record {
-      fits = omega (arith, read, (placed at).place_found-place.ensures, (placed at).before.before.slice_known-6-1.given 1);
+      fits = omega (arith, read, (placed at).place_found-place.ensures, (placed at).slice_known-6-1.given 1);
     }
 
 pub keep-requires : goal.keep-requires
-keep-requires c = (start (taken c.before.before.before.before.before)).requires.long
+keep-requires c = (start (taken c.before.before.before)).requires.long
 
 pub returns-in-On : goal.returns-in-On
 returns-in-On c =
     let kept = c.before.before.before in
     let on = kept.before.before.before in
-    let known = on.before.before in
+    let known = on in
     let at = taken known in
     let args = (start at).args in
     let s = args.state.now in
@@ -136,9 +136,9 @@ returns-in-On c =
     (same_lengths known)
     long
     (takes at)
-    on.next-1.given.0.0
-    on.next-1.given.1
-    (subst (λ (k : ℕ). KeepsReading (most_in s) (k + length args.portion.now) on.next-1.given.0.0 s end.new.words)
+    c.in-On.next
+    c.in-On.is
+    (subst (λ (k : ℕ). KeepsReading (most_in s) (k + length args.portion.now) c.in-On.next s end.new.words)
     (placed at).place_found-place.ensures
     end.ensures)
 
@@ -146,7 +146,7 @@ pub returns-in-Refused : goal.returns-in-Refused
 returns-in-Refused c =
     let gave = c.before.before.before in
     let over = gave.before.before.before in
-    let known = over.before.before in
+    let known = over in
     let at = taken known in
     let args = (start at).args in
     let s = args.state.now in
@@ -162,7 +162,7 @@ returns-in-Refused c =
     (same_lengths known)
     long
     (takes at)
-    over.number-1.given.0.0
-    over.number-1.given.0.1.0
-    over.number-1.given.1
+    c.in-Refused.number
+    c.in-Refused.at
+    c.in-Refused.is
     end.ensures

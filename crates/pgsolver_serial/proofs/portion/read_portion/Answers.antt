@@ -16,7 +16,7 @@ abbrev AtAfterCheckRooms : Type 0
 AtAfterCheckRooms = lts.After-check_rooms tie.the-claims reads.Pre reads.Post
 
 abbrev AtAfterEnumTold3 : Type 0
-AtAfterEnumTold3 = lts.After-enum_told3 tie.the-claims reads.Pre reads.Post
+AtAfterEnumTold3 = lts.Past-After-enum_told3 tie.the-claims reads.Pre reads.Post
 
 abbrev AtAfterPortionFittingArg5 : Type 0
 AtAfterPortionFittingArg5 = lts.After-portion_fitting-arg5 tie.the-claims reads.Pre reads.Post
@@ -41,28 +41,28 @@ fits c = c.before.before.before.before.before
 
 pub portion_fitting-requires : goal.portion_fitting-requires
 portion_fitting-requires c =
-    let at = (fits c.before).before.before in
-    fit_lent (entry (start at)) (checked at Fit (fits c.before).enum_told-in-Fit-1.given.1)
+    let at = (fits c.before).before in
+    fit_lent (entry (start at)) (checked at Fit (fits c.before).in-Fit.is)
 
 pub returns-in-Sizes : goal.returns-in-Sizes
 returns-in-Sizes c =
-    let at = c.before.before.before in
-    unless_unfit (lent_checks (entry (start at))) 9 (entry (start at)) _ (checked at Sizes c.enum_told-1.given.1)
+    let at = c.before.before in
+    unless_unfit (lent_checks (entry (start at))) 9 (entry (start at)) _ (checked at Sizes c.in-Sizes.is)
 
 pub returns-in-Work : goal.returns-in-Work
 returns-in-Work c =
-    let at = c.before.before.before in
-    unless_unfit (lent_checks (entry (start at))) 10 (entry (start at)) _ (checked at Work c.enum_told-in-Work-1.given.1)
+    let at = c.before.before in
+    unless_unfit (lent_checks (entry (start at))) 10 (entry (start at)) _ (checked at Work c.in-Work.is)
 
 pub returns-in-Fit : goal.returns-in-Fit
 returns-in-Fit c =
     let ended = c.before.before.before.before.before.before.before.before.before.before.before in
     let fit = fits ended.before in
-    let at = fit.before.before in
+    let at = fit.before in
     let end = ended.portion_fitting in
     let after = lent_of end.new.state end.new.owners end.new.priorities end.new.offsets
     end.new.targets in
     unless_fit (lent_checks (entry (start at))) (said end.result) (entry (start at)) after
     (Portioned Stands (start at).args.portion.now (entry (start at)) after (said end.result))
-    (checked at Fit fit.enum_told-in-Fit-1.given.1)
+    (checked at Fit fit.in-Fit.is)
     end.ensures
