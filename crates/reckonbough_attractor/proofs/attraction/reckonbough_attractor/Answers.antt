@@ -90,10 +90,10 @@ returns c =
     let player = did.before.before.before.before.before.before.before.before.before in
     let after : LentResult =
     record {
-      result = l.1.1.1.1.1.1.1.0;
-      strategy = l.1.1.1.1.1.1.1.1.0;
-      distances = l.1.1.1.1.1.1.1.1.1.0;
-      work = l.1.1.1.1.1.1.1.1.1.1.0;
+      result = l.res;
+      strategy = l.strategy;
+      distances = l.distances;
+      work = l.work;
     } in
     done_past (game at) (lent at) after (Does at after) did.attractor-done.result (ok test)
     (attracts_as player.from_index-alpha.ensures refl did.attractor-done.ensures)
