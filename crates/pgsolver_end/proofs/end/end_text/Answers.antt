@@ -20,12 +20,6 @@ use Rattle.pgsolver_end.proofs.end.end_text.Goals as goal
 abbrev AtAfterFinishArg7 : Type 0
 AtAfterFinishArg7 = lts.After-finish-arg7 tie.the-claims reads.Pre reads.Post
 
-abbrev AtAfterNumber : Type 0
-AtAfterNumber = lts.After-number tie.the-claims reads.Pre reads.Post
-
-abbrev AtAfterRecords : Type 0
-AtAfterRecords = lts.After-records tie.the-claims reads.Pre reads.Post
-
 abbrev AtAfterRefuseArg7 : Type 0
 AtAfterRefuseArg7 = lts.After-refuse-arg7 tie.the-claims reads.Pre reads.Post
 
@@ -54,11 +48,11 @@ work c = c.tell.new.work
 abbrev told : AtAfterSliceKnown8 → AtAfterTell
 told c = c.before.before.before.before.before.before
 
--- the number of a refusal, and the records of a whole text
-abbrev refused : AtAfterRefuseArg7 → AtAfterNumber
+-- the same place, from where a text is refused and from where it is whole
+abbrev refused : AtAfterRefuseArg7 → AtAfterSliceKnown8
 refused c = c.before.before.before.before.before.before.before.before
 
-abbrev whole : AtAfterFinishArg7 → AtAfterRecords
+abbrev whole : AtAfterFinishArg7 → AtAfterSliceKnown8
 whole c = c.before.before.before.before.before.before.before.before
 
 -- the tables keep their lengths
@@ -116,31 +110,28 @@ here law c =
     at.tell.ensures
 
 pub refuse-requires : goal.refuse-requires
-refuse-requires c = here told_area (refused c).before.before
+refuse-requires c = here told_area (refused c)
 
 pub finish-requires : goal.finish-requires
 finish-requires c =
     let at = whole c in
-    let said = at.records-1.given in
-    here ends_finishable at.before.before said.0.0 said.0.1.0 said.1
+    here ends_finishable at c.in-Whole.records c.in-Whole.edges c.in-Whole.is
 
 pub returns-in-Refused : goal.returns-in-Refused
 returns-in-Refused c =
     let end = c.before.before.before.before.before.before.before.before.before.before.before in
     let at = refused end.before in
-    let said = at.number-1.given in
-    here ends_refused at.before.before said.0.0 said.0.1.0
+    here ends_refused at c.in-Refused.number c.in-Refused.at
     (written_of end.refuse.new.owners end.refuse.new.priorities end.refuse.new.offsets end.refuse.new.targets
     end.refuse.new.work end.refuse.new.n end.refuse.new.m)
-    said.1
+    c.in-Refused.is
     end.refuse.ensures
 
 pub returns-in-Whole : goal.returns-in-Whole
 returns-in-Whole c =
     let end = c.before.before.before.before.before.before.before.before.before.before.before in
     let at = whole end.before in
-    let said = at.records-1.given in
-    here ends_finished at.before.before said.0.0 said.0.1.0 said.1
+    here ends_finished at c.in-Whole.records c.in-Whole.edges c.in-Whole.is
     (written_of end.finish.new.owners end.finish.new.priorities end.finish.new.offsets
     end.finish.new.targets end.finish.new.work
     end.finish.new.n end.finish.new.m)

@@ -1,7 +1,6 @@
 -- `tell` meets its contract: the end comes too soon, or the identifiers decide.
 use mathlib.Core.Bool.{true}
 use mathlib.Core.Path.{◌≡◌, sym, ◌∙◌}
-use borrow.Author.Tests.{not-true, not-false}
 use Rattle.reading_rooms.specs.declared.checks.Identifiers.{Identifiers}
 use Rattle.reading_rooms.specs.declared.checks.Identifiers.TheVariants.{Right, Wrong}
 use Rattle.reading_rooms.specs.Said.{identifiers_said, header_from, seen_checks}
@@ -20,13 +19,12 @@ AtStart = lts.Start tie.the-claims reads.Pre reads.Post
 
 -- where the function begins, from the check of the identifiers
 abbrev start : AtAfterCheckIdentifiers → AtStart
-start c = c.before.before.before.before.before.before.before.before.before
+start c = c.before.before.before.before.before.before.before.before
 
 -- the text may end here
 may : (c : AtAfterCheckIdentifiers) → may_end_on (start c).args.s.phase (start c).args.s.records ≡ true
 may c =
-    let asked = c.before.before.before.before.before in
-    sym asked.may_end.ensures ∙ not-false asked.may_end.result c.if-not-may_end.false
+    sym c.may_end.ensures ∙ c.if-not-may_end.false
 
 -- what the check of the identifiers says
 checked :
@@ -40,28 +38,25 @@ pub returns-then-not-may_end : goal.returns-then-not-may_end
 returns-then-not-may_end c =
     let args = c.args in
     tells_early args.s args.place args.room args.offsets.now args.targets.now args.work.now
-    (sym c.may_end.ensures ∙ not-true c.may_end.result c.if-not-may_end.true)
+    (sym c.may_end.ensures ∙ c.if-not-may_end.true)
 
 pub returns-in-Wrong : goal.returns-in-Wrong
 returns-in-Wrong c =
-    let check = c.before.before.before.before in
+    let check = c.before.before in
     let args = (start check).args in
     let n = check.least-n in
     let m = check.least-m in
-    let wrong = c.at-1.given in
     tells_wrong args.s args.place args.room args.offsets.now args.targets.now args.work.now (may check)
     n.result
     m.result
     n.ensures
     m.ensures
-    wrong.0.0
-    (checked check (Wrong wrong.0.0) wrong.1)
+    c.in-Wrong.at
+    (checked check (Wrong c.in-Wrong.at) c.in-Wrong.is)
 
 pub returns-in-Right : goal.returns-in-Right
 returns-in-Right c =
-    let end = c.before.before.before.before.before.before.before in
-    let right = end.before.before.before.before in
-    let check = right.before.before in
+    let check = c.before.before.before.before.before.before.before.before.before.before.before.before in
     let args = (start check).args in
     let n = check.least-n in
     let m = check.least-m in
@@ -70,9 +65,9 @@ returns-in-Right c =
     m.result
     n.ensures
     m.ensures
-    end.arrange.new.offsets
-    end.arrange.new.targets
-    end.arrange.new.work
-    (checked check Right right.enum_told-1.given.1)
+    c.arrange.new.offsets
+    c.arrange.new.targets
+    c.arrange.new.work
+    (checked check Right c.in-Right.is)
     (start check).requires.area
-    end.arrange.ensures
+    c.arrange.ensures
