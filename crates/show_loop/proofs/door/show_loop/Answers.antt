@@ -30,7 +30,7 @@ abbrev tables : AtStart → Tables
 tables g = tables_of g.args.owners.now g.args.priorities.now g.args.offsets.now g.args.targets.now
 
 abbrev lent : AtStart → LentRun
-lent g = lent_of g.args.path.now g.args.cycle.now g.args.work.now g.args.path_length_lem.now
+lent g = lent_of g.args.path.now g.args.cycle.now g.args.work.now g.args.path_length.now
 
 abbrev start : AtElse1 → AtStart
 start d = d.before.before.before.before.before.before.before.before.before.before.before
@@ -83,7 +83,7 @@ returns-then-number-ne0 c =
     let g = c.before.before.before.before.before.before.before.before.before.before.before.before in
     let called = c.check_lent-r in
     shows_refused (tables g) g.args.vertex g.args.path.now g.args.cycle.now g.args.work.now
-    g.args.path_length_lem.now _
+    g.args.path_length.now _
     (gave g called.ensures) (refusal_not_zero called.result c.if-number-ne0.true c.number.ensures)
 
 pub work_words-w-requires : goal.work_words-w-requires
@@ -94,8 +94,8 @@ slice_bounds-run-end c = omega (arith, (passed c.before.before.before.before).wo
 
 pub run-found-requires : goal.run-found-requires
 run-found-requires c =
-    let w = c.before.before.before.before in
-    let e = w.before in
+    let w = c.before in
+    let e = w.before.before.before.before in
     let g = start e in (
       run_ready (tables g) g.args.vertex w.work_words-w.result g.args.path.now g.args.cycle.now
           g.args.work.now w.work_words-w.ensures
@@ -112,7 +112,7 @@ returns-then-found-eq0 c =
     let g = start e in
     told_none (tables g) g.args.vertex g.args.path.now g.args.cycle.now g.args.work.now
     f.new.path
-    f.new.cycle f.new.work _ g.args.path_length_lem.now f.result.path
+    f.new.cycle f.new.work _ g.args.path_length.now f.result.path
     f.result.cycle
     (passed e).accepted (no_refusal e) f.ensures
     _ (work_cleared (tables g) w.result g.args.work.now _ w.ensures (passed e).work_size f.ensures.zeros)
@@ -128,7 +128,7 @@ overflow_add-both c =
       arith,
       told_few (tables g) g.args.vertex g.args.path.now g.args.cycle.now g.args.work.now
           f.new.path
-          f.new.cycle f.new.work _ g.args.path_length_lem.now f.result.path
+          f.new.cycle f.new.work _ g.args.path_length.now f.result.path
           f.result.cycle
           (passed e).accepted (no_refusal e) f.ensures c.if-found-eq0.false,
     )
@@ -142,7 +142,7 @@ returns c =
     let g = start e in
     told_run (tables g) g.args.vertex g.args.path.now g.args.cycle.now g.args.work.now
     f.new.path
-    f.new.cycle f.new.work _ g.args.path_length_lem.now f.result.path
+    f.new.cycle f.new.work _ g.args.path_length.now f.result.path
     f.result.cycle
     (passed e).accepted (no_refusal e) f.ensures
     _ (work_cleared (tables g) w.result g.args.work.now _ w.ensures (passed e).work_size f.ensures.zeros)

@@ -28,17 +28,17 @@ AtStart = lts.Start tie.the-claims reads.Pre reads.Post
 
 -- the calls in order, and where the function begins
 abbrev start : AtAfterFollow → AtStart
-start c = c.before.before.before.before.before.before.before.before.before.before.before
+start c = c.before.before.before.before.before.before.before.before.before.before
 
 -- where the row of labels begins
 abbrev row_of : AtAfterFollow → AtAfterLabels
-row_of f = f.before.before.before
+row_of f = f.before.before
 
 abbrev followed : AtAfterSpreadRound → AtAfterFollow
 followed c = c.before.before.before.before.before
 
 abbrev rounded : AtAfterFollow2 → AtAfterSpreadRound
-rounded c = c.before.before.before.before.before
+rounded c = c.before.before.before.before
 
 -- what was followed, in the row as the laws name it
 told :
@@ -71,7 +71,7 @@ told_round g =
 
 pub follow-on-requires : goal.follow-on-requires
 follow-on-requires c =
-    let s = c.before.before.before.before.before.before.before.before.before.before.before in
+    let s = c.before in
     subst (λ (k : ℕ). Followable (length s.args.priorities.now) k s.args.work.now s.args.v s.args.path.now)
     (sym c.labels-labels.ensures)
     (path_followable s.args.priorities.now s.args.offsets.now s.args.targets.now s.args.entries.now
@@ -112,7 +112,7 @@ bounds-path-on c =
     omega arith
 
 pub overflow_cast-u : goal.overflow_cast-u
-overflow_cast-u c = let f = c.before.before.before.before in omega (arith, c.slice_known-5-1.given (f.follow-on.result - 1))
+overflow_cast-u c = let f = c.before in omega (arith, c.slice_known-5-1.given (f.follow-on.result - 1))
 
 pub spread_round-requires : goal.spread_round-requires
 spread_round-requires c =
@@ -125,7 +125,7 @@ spread_round-requires c =
 
 pub follow-round-requires : goal.follow-round-requires
 follow-round-requires c =
-    let r = c.before.before.before.before.before in
+    let r = c.before.before.before.before in
     let f = followed r in
     let s = start f in
     subst

@@ -23,7 +23,7 @@ sought c = c.before.before.before
 
 pub seek-p-requires : goal.seek-p-requires
 seek-p-requires c =
-    let s = c.before.before.before.before.before.before.before.before.before.before in (s.requires.0.seekable, s.requires.1)
+    let s = c.before in (s.requires.0.seekable, s.requires.1)
 
 pub returns-then-p-gt-HIGHEST_PRIORITY : goal.returns-then-p-gt-HIGHEST_PRIORITY
 returns-then-p-gt-HIGHEST_PRIORITY c =
@@ -48,8 +48,8 @@ write_lists-requires c =
 
 pub returns : goal.returns
 returns c =
-    let g = c.before.before.before.before.before.before.before in
-    let e = g.before.before.before.before in
+    let g = c.before in
+    let e = g.before.before.before.before.before.before.before.before.before.before in
     let f = sought e in
     let s = start f in
     let w = g.write_lists in
