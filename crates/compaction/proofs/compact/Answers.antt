@@ -42,7 +42,7 @@ abbrev tables : AtStart → Tables
 tables c = tables_of c.args.owners.now c.args.priorities.now c.args.offsets.now c.args.targets.now
 
 abbrev lent : AtStart → LentCompacted
-lent c = lent_of c.args.new-priorities.now c.args.new_kept.now
+lent c = lent_of c.args.new_priorities.now c.args.new_kept.now
 
 -- past the first check the new table has its size
 sized : (c : AtElse1) → table_room (tables (start c.before)) (lent (start c.before)) ≡ none
@@ -68,7 +68,7 @@ marked c = c.before.before.before.before
 
 wrote : (c : AtAfterWrite) → c.write.new.new_priorities ≡ new_table (tables (start2 (marked c)))
 wrote c =
-    let numbered = c.before.before in
+    let numbered = c in
     c.write.ensures ∙
     numbers_compact (tables (start2 (marked c))).priorities numbered.mark.result numbered.number-numbers.result
     (small (marked c))
@@ -102,12 +102,12 @@ write-requires c =
 
 pub write_fresh-requires : goal.write_fresh-requires
 write_fresh-requires c =
-    let at = marked c.before.before.before.before.before in at.if-new_kept-ne-KEPT.false
+    let at = marked c.before.before.before.before in at.if-new_kept-ne-KEPT.false
 
 pub returns : goal.returns
 returns c =
-    let counted = c.before.before.before in
-    let written = counted.before.before.before.before.before in
+    let counted = c.before in
+    let written = counted.before.before.before.before.before.before in
     let at = marked written in
     compacts_answered (tables (start2 at)) (lent (start2 at))
     (lent_of written.write.new.new_priorities counted.write_fresh.new.kept)
