@@ -74,13 +74,13 @@ abbrev sized_at : AtAfterLevelsAt → AtAfterSetWords
 sized_at l = l.before.before.before.before
 
 abbrev held_in : AtAfterLevelsAt → ℕ
-held_in l = l.held_at.result
+held_in l = l.held_at-held.result
 
-held_at :
+held_is :
     (l : AtAfterLevelsAt) →
     let c = sized_at l in
     held_in l ≡ held_at (length (start_at c).args.owners.now) (length (start_at c).args.targets.now) (size_at_lem c)
-held_at l = l.held_at-held.ensures
+held_is l = l.held_at-held.ensures
 
 levels_in :
     (l : AtAfterLevelsAt) →
@@ -112,7 +112,7 @@ first_begun b =
     let g = start_at c in
     let a = g.args in
     run_begun a.owners.now a.priorities.now a.offsets.now a.targets.now g.requires.0.accepted
-    c.set_words-s.ensures a.work.now g.requires.0.room (held_at l) (levels_in l) d.prepare.ensures
+    c.set_words-s.ensures a.work.now g.requires.0.room (held_is l) (levels_in l) d.prepare.ensures
     b.begin-highest.ensures
 
 -- the rounds have ended
@@ -140,7 +140,7 @@ abbrev written : AtAfterSliceKnown12 → AtAfterWriteOut
 written c = c.before.before.before.before.before.before.before.before.before.before
 
 abbrev named : AtAfterWriteOut → AtAfterWonAt
-named w = w.before.before.before.before.before
+named w = w.before.before.before.before
 
 abbrev solved : AtAfterWonAt → AtAfterStructKnown
 solved w = w.before.before
@@ -164,7 +164,7 @@ found w z =
     let g = start d in
     subst
     (λ (at : ℕ). WinnersFound (tables g) (won_in (tables g)) (entries_in (tables g)) (size_at_lem (sized d)) at (left d))
-    (sym (w.won_at-won.ensures ∙ ap (λ (h : ℕ). h + size_at_lem (sized d)) (held_at (placed d))))
+    (sym (w.won_at-won.ensures ∙ ap (λ (h : ℕ). h + size_at_lem (sized d)) (held_is (placed d))))
     (run_found (ended d).solve-end.ensures z)
 
 pub entries-entries-requires : goal.entries-entries-requires
@@ -188,8 +188,8 @@ depth_at-requires c =
 
 pub levels_at-levels-requires : goal.levels_at-levels-requires
 levels_at-levels-requires c =
-    let h = c.before.before in
-    let z = h.before.before in
+    let h = c.before in
+    let z = h.before.before.before in
     omega (arith, few (start_at z), z.set_words-s.ensures, h.held_at-held.ensures, c.depth_at.ensures)
 
 pub prepare-requires : goal.prepare-requires
@@ -199,23 +199,23 @@ prepare-requires p =
     let g = start_at c in
     let a = g.args in
     run_preparable a.owners.now a.priorities.now a.offsets.now a.targets.now g.requires.0.accepted
-    c.set_words-s.ensures a.work.now g.requires.0.room (held_at l) (levels_in l)
+    c.set_words-s.ensures a.work.now g.requires.0.room (held_is l) (levels_in l)
 
 pub bounds-kept-257 : goal.bounds-kept-257
 bounds-kept-257 k =
-    let d = k.before.before.before.before in
-    let g = start_at (sized_at d.before.before) in
+    let d = k.before in
+    let g = start_at (sized_at d.before.before.before.before.before) in
     omega (arith, kept_long g.requires.1)
 
 pub begin-highest-requires : goal.begin-highest-requires
 begin-highest-requires k =
-    let d = k.before.before.before.before.before in
-    let l = d.before.before in
+    let d = k.before in
+    let l = d.before.before.before.before.before.before in
     let c = sized_at l in
     let g = start_at c in
     let a = g.args in
     run_beginnable a.owners.now a.priorities.now a.offsets.now a.targets.now g.requires.0.accepted
-    c.set_words-s.ensures a.work.now g.requires.0.room (held_at l) (levels_in l) d.prepare.ensures
+    c.set_words-s.ensures a.work.now g.requires.0.room (held_is l) (levels_in l) d.prepare.ensures
     g.requires.1
 
 pub solve-end-requires : goal.solve-end-requires
@@ -227,7 +227,7 @@ solve-end-requires k =
     let g = start_at c in
     let a = g.args in (
       run_reached a.owners.now a.priorities.now a.offsets.now a.targets.now g.requires.0.accepted
-          c.set_words-s.ensures a.work.now g.requires.0.room (held_at l) (levels_in l) d.prepare.ensures
+          c.set_words-s.ensures a.work.now g.requires.0.room (held_is l) (levels_in l) d.prepare.ensures
           (first_begun b),
       omega arith,
     )
@@ -248,12 +248,12 @@ pub won_at-won-requires : goal.won_at-won-requires
 won_at-won-requires c =
     let d = c.before.before in
     let small : held_in (placed d) + 2 * size_at_lem (sized d) < 2 ^ 64 =
-    omega (arith, few (start d), (sized d).set_words-s.ensures, held_at (placed d)) in
+    omega (arith, few (start d), (sized d).set_words-s.ensures, held_is (placed d)) in
     small
 
 pub write_out-requires : goal.write_out-requires
 write_out-requires c =
-    let w = c.before.before.before.before.before in
+    let w = c.before.before.before.before in
     let d = solved w in
     let g = start d in
     let none : (ended d).solve-end.result.unsolved ≡ 0 = omega (arith, w.if-end-gt0.false) in

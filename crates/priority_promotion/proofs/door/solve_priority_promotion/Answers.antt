@@ -100,13 +100,13 @@ words r = (sized r).work_words-w.result
 
 abbrev after : AtAfterRun → Lent
 after r =
-    let l = r.run.new.1.1.1.1.1.1 in
+    let l = r.run-ran.new in
     let w = (began r).args.work.now in
     record {
-      even = l.0;
-      odd = l.1.0;
-      strategy = l.1.1.0;
-      work = take 0 w ++ (l.1.1.1.0 ++ drop (words r - 0) (drop 0 w));
+      even = l.even;
+      odd = l.odd;
+      strategy = l.strategy;
+      work = take 0 w ++ (l.work ++ drop (words r - 0) (drop 0 w));
     }
 
 -- **so the solver is as its contract says**
@@ -162,10 +162,8 @@ run-ran-requires c =
 
 pub returns-in_default : goal.returns-in_default
 returns-in_default c =
-    let asked = c.before.before.before.before.before.before.before.before.before.before.before in solved asked c.enum_told-1.given.1
+    let r = c.before.before.before.before.before.before.before.before.before.before in solved r c.in_default.is
 
 pub returns : goal.returns
 returns c =
-    let told = c.before.before in
-    let r = told.before.before.before.before.before.before.before.before.before.before in
-    solved r told.ran-1.given.1
+    let r = c.before.before.before.before.before.before.before.before.before.before in solved r c.in-Needed.is
