@@ -27,7 +27,7 @@ abbrev AtStart : Type 0
 AtStart = lts.Start tie.the-claims reads.Pre reads.Post
 
 abbrev start : AtAfterEndText → AtStart
-start c = c.before.before.before.before.before.before.before.before.before.before.before.before.before.before.before.before.before.before
+start c = c.before.before.before.before.before.before.before.before.before.before.before.before.before.before.before.before
 
 -- back from where all that the end was lent is known again
 abbrev ended : AtAfterSliceKnown11 → AtAfterEndText
@@ -50,19 +50,19 @@ give-requires c = (start (ended c.before.before.before.before.before.before)).re
 
 pub returns : goal.returns
 returns c =
-    let gave = c.before.before.before in
-    let known = gave.before.before.before.before.before.before in
+    let gave = c.before in
+    let known = gave.before.before.before.before.before.before.before.before in
     let at = ended known in
-    let found = at.before.before.before.before.before.before.before.before in
+    let found = at in
     let args = (start at).args in
     let s = args.state.now in
     let s' = gave.give.new.words in
     let end = at.end_text-r in
-    let left = end.new.1.1.1 in
-    let n = left.1.1.1.1.1.0 in
-    let m = left.1.1.1.1.1.1.0 in
+    let left = end.new in
+    let n = left.n in
+    let m = left.m in
     let r = said end.result in
-    let after = written_of left.0 left.1.0 left.1.1.0 left.1.1.1.0 left.1.1.1.1.0 n m in
+    let after = written_of left.owners left.priorities left.offsets left.targets left.work n m in
     let rooms = rooms_of args.owners.now args.priorities.now args.offsets.now args.targets.now args.work.now in
     let number = gave.number in
     let long : length s' ≡ length s = search rules in
@@ -70,11 +70,11 @@ returns c =
     args.n.now
     args.m.now
     s'
-    left.0
-    left.1.0
-    left.1.1.0
-    left.1.1.1.0
-    left.1.1.1.1.0
+    left.owners
+    left.priorities
+    left.offsets
+    left.targets
+    left.work
     n
     m
     r

@@ -50,43 +50,43 @@ enough c = c.before.before.before.before.before.before.before.before
 
 pub returns-then-state-lt32 : goal.returns-then-state-lt32
 returns-then-state-lt32 c =
-    let at = c.before.before.before.before in
+    let at = c.before.before.before in
     let e = entry (start at) in
     unless_unfit (end_checks e.lent e.work) 10 e (ClosedBy Stands e e (refusal 10 0))
-    (end_short e.lent e.work (checked at Fit c.enum_told-in-Fit-1.given.1) c.if-state-lt32.true)
+    (end_short e.lent e.work (checked at Fit c.in-Fit.is) c.if-state-lt32.true)
 
 pub end_fitting-requires : goal.end_fitting-requires
 end_fitting-requires c =
     let long = enough c in
-    let at = long.before.before.before in
+    let at = long.before.before in
     record {
-      fitted = fitted (written_in (entry (start at))).rooms (checked at Fit long.enum_told-in-Fit-1.given.1);
+      fitted = fitted (written_in (entry (start at))).rooms (checked at Fit long.in-Fit.is);
       long = long.if-state-lt32.false;
     }
 
 pub returns-in-Sizes : goal.returns-in-Sizes
 returns-in-Sizes c =
-    let at = c.before.before.before in
+    let at = c.before.before in
     let e = entry (start at) in
     unless_unfit (end_checks e.lent e.work) 9 e (ClosedBy Stands e e (refusal 9 0))
-    (end_unfit e.lent e.work 9 0 (checked at Sizes c.enum_told-1.given.1))
+    (end_unfit e.lent e.work 9 0 (checked at Sizes c.in-Sizes.is))
 
 pub returns-in-Work : goal.returns-in-Work
 returns-in-Work c =
-    let at = c.before.before.before in
+    let at = c.before.before in
     let e = entry (start at) in
     unless_unfit (end_checks e.lent e.work) 10 e (ClosedBy Stands e e (refusal 10 0))
-    (end_unfit e.lent e.work 10 0 (checked at Work c.enum_told-in-Work-1.given.1))
+    (end_unfit e.lent e.work 10 0 (checked at Work c.in-Work.is))
 
 pub returns-else-state-lt32 : goal.returns-else-state-lt32
 returns-else-state-lt32 c =
-    let ended = c.before.before.before.before.before.before.before.before.before.before.before.before.before in
-    let long = enough ended.before in
-    let at = long.before.before.before in
+    let ended = c.before in
+    let long = enough ended.before.before.before.before.before.before.before.before.before.before.before.before.before in
+    let at = long.before.before in
     let e = entry (start at) in
     let end = ended.end_fitting in
     let after = closing_of end.new.state end.new.owners end.new.priorities end.new.offsets end.new.targets
     end.new.work end.new.n end.new.m in
     unless_fit (end_checks e.lent e.work) (said end.result) e after (ClosedBy Stands e after (said end.result))
-    (end_fit e.lent e.work (checked at Fit long.enum_told-in-Fit-1.given.1) long.if-state-lt32.false)
+    (end_fit e.lent e.work (checked at Fit long.in-Fit.is) long.if-state-lt32.false)
     end.ensures
