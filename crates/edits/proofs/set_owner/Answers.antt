@@ -36,7 +36,7 @@ own_asked : (c : AtStart) → OwnAsked (asked c) (lent c) c.args.n c.args.vertex
 own_asked c = record { asks = asks_owner c.args.vertex c.args.owner (lent c); numbered = omega arith }
 
 abbrev start1 : AtElse1 → AtStart
-start1 c = c.before.before.before.before.before.before.before.before.before
+start1 c = c.before.before.before.before.before.before.before.before
 
 abbrev start2 : AtElse2 → AtStart
 start2 c = start1 c.before.before.before
@@ -58,7 +58,7 @@ room c = (passing (lent (start2 c)) (checked c.before.before.before)).room
 pub returns-then-number-ne0 : goal.returns-then-number-ne0
 returns-then-number-ne0 c =
     let called = c.check_record-r in
-    let at = c.before.before.before.before.before.before.before.before.before.before in
+    let at = c.before.before.before.before.before.before.before.before.before in
     record_refuses (lent at) called.result c.number.ensures called.ensures (asked at) c.if-number-ne0.true
 
 pub returns-then-number-ne0-2 : goal.returns-then-number-ne0-2
