@@ -84,9 +84,9 @@ returns c =
     let l = did.solve_quasi_polynomial-done.new in
     let after : LentSets =
     record {
-      even = l.1.1.1.1.1.0;
-      odd = l.1.1.1.1.1.1.0;
-      work = l.1.1.1.1.1.1.1.0;
+      even = l.even;
+      odd = l.odd;
+      work = l.work;
     } in
     done_past (game at) (lent at) after (Does at after) did.solve_quasi_polynomial-done.result (ok test) did.solve_quasi_polynomial-done.ensures
     c.tell-2.ensures
