@@ -88,10 +88,10 @@ returns c =
     let l = did.solve_priority_promotion-done.new in
     let after : Lent =
     record {
-      even = l.1.1.1.1.1.1.0;
-      odd = l.1.1.1.1.1.1.1.0;
-      strategy = l.1.1.1.1.1.1.1.1.0;
-      work = l.1.1.1.1.1.1.1.1.1.0;
+      even = l.even;
+      odd = l.odd;
+      strategy = l.strategy;
+      work = l.work;
     } in
     done_past (game at) (lent at) after (Does at after) did.solve_priority_promotion-done.result (ok test) did.solve_priority_promotion-done.ensures
     c.tell-2.ensures

@@ -87,10 +87,10 @@ returns c =
     let l = did.solve_zielonka-done.new in
     let after : Lent =
     record {
-      even = l.1.1.1.1.1.1.0;
-      odd = l.1.1.1.1.1.1.1.0;
-      strategy = l.1.1.1.1.1.1.1.1.0;
-      work = l.1.1.1.1.1.1.1.1.1.0;
+      even = l.even;
+      odd = l.odd;
+      strategy = l.strategy;
+      work = l.work;
     } in
     done_past (game at) (lent at) after (Does at after) did.solve_zielonka-done.result (ok test) did.solve_zielonka-done.ensures
     c.tell-2.ensures
