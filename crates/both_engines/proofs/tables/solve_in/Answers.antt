@@ -38,7 +38,7 @@ abbrev promotion : AtAfterSolveZielonka → AtAfterSolvePriorityPromotion
 promotion c = c.before.before.before.before.before.before.before.before.before.before.before.before.before
 
 abbrev recursion : AtAfterCounted → AtAfterSolveZielonka
-recursion c = c.before.before.before.before.before.before.before.before.before.before
+recursion c = c.before.before.before.before.before.before.before.before.before
 
 abbrev tables : AtStart → Tables
 tables c = tables_of c.args.owners.now c.args.priorities.now c.args.offsets.now c.args.targets.now
@@ -57,10 +57,10 @@ abbrev between : AtAfterSolvePriorityPromotion → Lent
 between c =
     let after = c.solve_priority_promotion-promotion.new in
     record {
-      even = after.1.1.1.1.1.1.0;
-      odd = after.1.1.1.1.1.1.1.0;
-      strategy = after.1.1.1.1.1.1.1.1.0;
-      work = after.1.1.1.1.1.1.1.1.1.0;
+      even = after.even;
+      odd = after.odd;
+      strategy = after.strategy;
+      work = after.work;
     }
 
 abbrev odd_after : AtAfterSolveZielonka → List ℕ
@@ -92,14 +92,14 @@ again c =
       even_size = even_same c ∙ r.even_size;
       odd_size = odd_same c ∙ r.odd_size;
       strategy_size = strategy_same c ∙ r.strategy_size;
-      work-size =
+      work_size =
           subst (λ (k : ℕ). work_words (vertices (tables (start c))) (edges_in (tables (start c))) ≤ k) (sym (work_same c))
           r.work_size;
     }
 
 pub solve_priority_promotion-promotion-requires : goal.solve_priority_promotion-promotion-requires
 solve_priority_promotion-promotion-requires c =
-    let at = c.before.before.before.before.before.before.before.before.before.before.before.before.before.before.before in
+    let at = c.before in
     at.requires.counted
 
 pub solve_zielonka-zielonka-requires : goal.solve_zielonka-zielonka-requires
@@ -117,9 +117,9 @@ solved_line-requires c =
 
 pub returns : goal.returns
 returns c =
-    let line = c.before.before.before in
-    let at4 = line.before.before in
-    let at3 = at4.before in
+    let line = c.before in
+    let at4 = line in
+    let at3 = at4.before.before.before.before.before in
     let at2 = recursion at3 in
     let at1 = promotion at2 in
     let at = start at1 in

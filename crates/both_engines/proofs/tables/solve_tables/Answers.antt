@@ -32,8 +32,8 @@ slice_bounds-odd-end c = two c.before.before.before.before.before.before
 
 pub solve_in-requires : goal.solve_in-requires
 solve_in-requires c =
-    let fresh = c.before.before.before.before.before.before.before.before in
-    let at1 = fresh.before.before in
+    let fresh = c.before in
+    let at1 = fresh.before.before.before.before.before.before.before.before.before in
     let at = start at1 in
     let n = length at.args.owners.now in
     record {
