@@ -17,7 +17,7 @@ abbrev AtAfterCheckRooms : Type 0
 AtAfterCheckRooms = lts.After-check_rooms tie.the-claims reads.Pre reads.Post
 
 abbrev AtAfterEnumTold3 : Type 0
-AtAfterEnumTold3 = lts.After-enum_told3 tie.the-claims reads.Pre reads.Post
+AtAfterEnumTold3 = lts.Past-After-enum_told3 tie.the-claims reads.Pre reads.Post
 
 abbrev AtAfterReadFittingArg7 : Type 0
 AtAfterReadFittingArg7 = lts.After-read_fitting-arg7 tie.the-claims reads.Pre reads.Post
@@ -46,30 +46,28 @@ fits c = c.before.before.before.before.before.before.before
 pub read_fitting-requires : goal.read_fitting-requires
 read_fitting-requires c =
     let fit = fits c.before in
-    let at = fit.before.before in
-    fitted (entry (start at)).rooms (checked at Fit fit.enum_told-in-Fit-1.given.1)
+    let at = fit.before in
+    fitted (entry (start at)).rooms (checked at Fit fit.in-Fit.is)
 
 pub returns-in-Sizes : goal.returns-in-Sizes
 returns-in-Sizes c =
-    let at = c.before.before.before in
+    let at = c.before.before in
     reads_unfit (asks_in (start at).args.asks) (start at).args.most_bytes (start at).args.text.now (entry (start at)) 9
-    (checked at Sizes c.enum_told-1.given.1)
+    (checked at Sizes c.in-Sizes.is)
 
 pub returns-in-Work : goal.returns-in-Work
 returns-in-Work c =
-    let at = c.before.before.before in
+    let at = c.before.before in
     reads_unfit (asks_in (start at).args.asks) (start at).args.most_bytes (start at).args.text.now (entry (start at)) 10
-    (checked at Work c.enum_told-in-Work-1.given.1)
+    (checked at Work c.in-Work.is)
 
 pub returns-in-Fit : goal.returns-in-Fit
 returns-in-Fit c =
-    let end = c.before.before.before.before.before.before.before.before.before.before.before in
-    let fit = fits end.before in
-    let at = fit.before.before in
-    let left = end.read_fitting.new.1.1.1 in
+    let fit = fits c.before.before.before.before.before.before.before.before.before.before.before.before in
+    let at = fit.before in
+    let left = c.read_fitting.new in
     reads_fit (asks_in (start at).args.asks) (start at).args.most_bytes (start at).args.text.now (entry (start at))
-    (written_of left.0 left.1.0 left.1.1.0 left.1.1.1.0 left.1.1.1.1.0 left.1.1.1.1.1.0
-    left.1.1.1.1.1.1.0)
-    (said end.read_fitting.result)
-    (checked at Fit fit.enum_told-in-Fit-1.given.1)
-    end.read_fitting.ensures
+    (written_of left.owners left.priorities left.offsets left.targets left.work left.n left.m)
+    (said c.read_fitting.result)
+    (checked at Fit fit.in-Fit.is)
+    c.read_fitting.ensures

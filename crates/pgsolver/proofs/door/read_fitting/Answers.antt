@@ -19,9 +19,6 @@ use Rattle.pgsolver.proofs.door.read_fitting.Goals as goal
 abbrev AtAfterEndTextArg7 : Type 0
 AtAfterEndTextArg7 = lts.After-end_text-arg7 tie.the-claims reads.Pre reads.Post
 
-abbrev AtAfterNext : Type 0
-AtAfterNext = lts.After-next tie.the-claims reads.Pre reads.Post
-
 abbrev AtAfterSliceKnown9 : Type 0
 AtAfterSliceKnown9 = lts.After-slice_known9 tie.the-claims reads.Pre reads.Post
 
@@ -63,7 +60,7 @@ same_lengths c =
     record { owners = search rules; priorities = search rules; offsets = search rules; targets = search rules }
 
 -- where the text goes on to its end
-abbrev next : AtAfterEndTextArg7 → AtAfterNext
+abbrev next : AtAfterEndTextArg7 → AtAfterSliceKnown9
 next c = c.before.before.before.before.before.before.before.before
 
 -- a law over what `take_whole` is given and gives
@@ -111,27 +108,23 @@ here law c =
     at.take_whole.ensures
 
 pub end_text-requires : goal.end_text-requires
-end_text-requires c = here taken_fitted (next c.before).before.before
+end_text-requires c = here taken_fitted (next c.before)
 
 pub returns-in-Refused : goal.returns-in-Refused
 returns-in-Refused c =
-    let end = c.before.before.before.before.before.before.before.before.before.before.before in
-    let at = end.before.before.before.before.before.before.before.before.before in
-    let said = at.number-1.given in
-    here read_refused at.before.before said.0.0 said.0.1.0
-    (written_of end.refuse.new.owners end.refuse.new.priorities end.refuse.new.offsets end.refuse.new.targets
-    end.refuse.new.work end.refuse.new.n end.refuse.new.m)
-    said.1
-    end.refuse.ensures
+    let at = c.before.before.before.before.before.before.before.before.before.before.before.before.before.before.before.before.before.before.before.before in
+    here read_refused at c.in-Refused.number c.in-Refused.place
+    (written_of c.refuse.new.owners c.refuse.new.priorities c.refuse.new.offsets c.refuse.new.targets
+    c.refuse.new.work c.refuse.new.n c.refuse.new.m)
+    c.in-Refused.is
+    c.refuse.ensures
 
 pub returns-in-On : goal.returns-in-On
 returns-in-On c =
-    let end = c.before.before.before.before.before.before.before.before.before.before.before in
-    let at = next end.before in
-    let left = end.end_text.new.1.1.1 in
-    here read_ended at.before.before at.next-1.given.0.0
-    (written_of left.0 left.1.0 left.1.1.0 left.1.1.1.0 left.1.1.1.1.0 left.1.1.1.1.1.0
-    left.1.1.1.1.1.1.0)
-    (Said.said end.end_text.result)
-    at.next-1.given.1
-    end.end_text.ensures
+    let at = next c.before.before.before.before.before.before.before.before.before.before.before.before in
+    let left = c.end_text.new in
+    here read_ended at c.in-On.next
+    (written_of left.owners left.priorities left.offsets left.targets left.work left.n left.m)
+    (Said.said c.end_text.result)
+    c.in-On.is
+    c.end_text.ensures
