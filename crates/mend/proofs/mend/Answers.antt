@@ -52,7 +52,7 @@ tables c =
 
 abbrev lent : AtStart → MendingLent
 lent c =
-    lent_of c.args.new-priorities.now c.args.new-offsets.now c.args.new-targets.now c.args.list.now
+    lent_of c.args.new_priorities.now c.args.new_offsets.now c.args.new_targets.now c.args.list.now
 
 abbrev start : AtAfterCheckExport → AtStart
 start c = c.before.before.before.before.before.before.before.before.before

@@ -22,20 +22,20 @@ tables c = tables_of c.args.owners.now c.args.priorities.now c.args.offsets.now 
 
 -- and where the word is put
 abbrev start : AtAfterPutWord → AtStart
-start c = c.before.before.before.before.before.before.before.before
+start c = c.before.before.before.before.before.before.before.before.before
 
 abbrev first : AtAfterPutEnded → AtAfterPutWord
-first c = c.before.before.before.before.before
+first c = c.before.before.before.before.before.before
 
 pub put_word-at-requires : goal.put_word-at-requires
 put_word-at-requires c =
     let at = c.before.before.before.before.before.before.before.before in
-    omega (arith, at.requires.1, text_pieces (tables at))
+    omega (arith, at.requires.1, text_pieces (tables at.before))
 
 pub put_ended-at-requires : goal.put_ended-at-requires
 put_ended-at-requires c =
     let one = c.before.before.before.before.before in
-    let at = start one in
+    let at = start one.before in
     let p = one.put_word-at.ensures in
     omega (arith, at.requires.1, p.place, p.long, text_pieces (tables at))
 

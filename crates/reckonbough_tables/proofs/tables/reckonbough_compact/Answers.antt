@@ -34,7 +34,7 @@ game c =
     c.args.kept.now
 
 abbrev lent : AtStart → LentCompacted
-lent c = lent_of c.args.new-priorities.now c.args.new_kept.now
+lent c = lent_of c.args.new_priorities.now c.args.new_kept.now
 
 -- what it does with tables
 abbrev Does : AtStart → LentCompacted → Outcome → Tables → Type 0

@@ -19,8 +19,8 @@ game c =
 pub returns : goal.returns
 returns c =
     λ e.
-    let called = c.before.before.before.before in
-    let at = called.before.before.before.before.before.before.before.before.before.before in
+    let called = c.before in
+    let at = called.before.before.before.before.before.before.before.before.before.before.before.before.before in
     solitaire_says at.args.said.two_owners (game at) _ _ _ _ called.reckonbough_solitaire-number.ensures
     called.reckonbough_solitaire-number.auto.set
     (c.set_differs.ensures.0 e)

@@ -24,17 +24,17 @@ game c =
 pub returns-then-promotion : goal.returns-then-promotion
 returns-then-promotion c =
     λ e.
-    let called = c.before.before.before.before.before.before.before.before.before in
-    let test = called.before.before.before.before.before.before.before in
-    let at = test.before.before.before.before.before.before.before.before.before.before in
+    let called = c.before in
+    let test = called in
+    let at = test.before.before.before.before.before.before.before.before.before.before.before.before.before.before.before.before.before.before.before.before.before.before.before.before.before in
     let entries : Tables → ℕ → ℕ = λ t. (after_rounds (game_of t) (rounds_needed (game_of t))).entries in
     says_of test.if-promotion.true (door_says true (game at) _ _ _ entries called.reckonbough_priority_promotion.ensures e)
 
 pub returns : goal.returns
 returns c =
     λ e.
-    let called = c.before.before.before.before.before.before.before.before.before in
-    let test = called.before.before.before.before.before.before.before in
-    let at = test.before.before.before.before.before.before.before.before.before.before in
+    let called = c.before in
+    let test = called in
+    let at = test.before.before.before.before.before.before.before.before.before.before.before.before.before.before.before.before.before.before.before.before.before.before.before.before.before in
     let entries : Tables → ℕ → ℕ = λ t. (zielonka (game_of t)).entries in
     says_of test.if-promotion.false (door_says false (game at) _ _ _ entries called.reckonbough_zielonka.ensures e)

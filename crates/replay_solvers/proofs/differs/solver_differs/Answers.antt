@@ -15,7 +15,7 @@ AtAfterSolve = lts.After-solve tie.the-claims reads.Pre reads.Post
 
 -- where the solver has run
 abbrev solved : AtAfterDiffers → AtAfterSolve
-solved c = c.before.before.before.before.before.before.before.before.before.before.before.before.before.before
+solved c = c.before.before.before.before.before.before.before.before.before.before.before.before.before
 
 pub returns-then-n-gt12 : goal.returns-then-n-gt12
 returns-then-n-gt12 c = λ e. absurd (eqb-false 1 0 refl e)

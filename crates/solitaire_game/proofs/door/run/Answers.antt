@@ -61,7 +61,7 @@ abbrev begun : AtAfterAttract → AtStart
 begun c = start (owned (based (marked (placed c))))
 
 abbrev drawn : AtAfterSliceKnown7 → AtAfterAttract
-drawn c = c.before.before.before.before.before.before.before.before.before.before
+drawn c = c.before.before.before.before.before.before.before.before.before.before.before
 
 -- the numbers are small
 few :
