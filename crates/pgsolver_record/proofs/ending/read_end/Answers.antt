@@ -38,8 +38,8 @@ returns-then-unfit-ne0 c =
 
 pub write_beside-requires : goal.write_beside-requires
 write_beside-requires c =
-    let past = c.before.before.before.before.before.before.before.before.before.before.before.before.before.before.before.before.before.before.before.before.before.before.before.before.before.before in
-    let at = past.before in
+    let past = c.before in
+    let at = past.before.before.before.before.before.before.before.before.before.before.before.before.before.before.before.before.before.before.before.before.before.before.before.before.before in
     let r = lent (start at) in
     kept_fits_end (length r.kept) at.check_end_rooms-unfit.result (sizes_of (rooms_with r.closing.lent r.closing.work))
     (state_size (length r.closing.lent.state))
@@ -48,11 +48,11 @@ write_beside-requires c =
 
 pub returns : goal.returns
 returns c =
-    let wrote = c.before.before.before in
-    let told = c.before.before.before.before.before.before.before in
-    let done = told.before.before.before.before.before.before.before.before.before.before.before.before.before in
-    let past = done.before.before.before.before.before.before.before.before.before in
-    let at = past.before in
+    let wrote = c.before in
+    let told = c.before in
+    let done = told in
+    let past = done in
+    let at = past.before.before.before.before.before.before.before.before.before.before.before.before.before.before.before.before.before.before.before.before.before.before.before.before.before.before.before.before in
     let end = done.read_end-r in
     let after =
     closing_record_of end.new.state end.new.owners end.new.priorities end.new.offsets end.new.targets

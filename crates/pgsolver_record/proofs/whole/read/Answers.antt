@@ -39,19 +39,19 @@ returns-then-unfit-ne0 c =
 
 pub write_beside-requires : goal.write_beside-requires
 write_beside-requires c =
-    let past = c.before.before.before.before.before.before.before.before.before.before.before.before.before.before.before.before.before.before.before.before.before.before.before in
-    let at = past.before in
+    let past = c.before in
+    let at = past.before.before.before.before.before.before.before.before.before.before.before.before.before.before.before.before.before.before.before.before.before.before in
     let r = lent (start at) in
     kept_fits (length r.kept) at.check_record_rooms-unfit.result (sizes_of r.tables.rooms) at.check_record_rooms-unfit.ensures
     past.if-unfit-ne0.false
 
 pub returns : goal.returns
 returns c =
-    let wrote = c.before.before.before in
-    let told = c.before.before.before.before.before.before.before in
-    let done = told.before.before.before.before.before.before.before.before.before.before.before in
-    let past = done.before.before.before.before.before.before.before.before in
-    let at = past.before in
+    let wrote = c.before in
+    let told = c.before in
+    let done = told in
+    let past = done in
+    let at = past.before.before.before.before.before.before.before.before.before.before.before.before.before.before.before.before.before.before.before.before.before.before.before.before.before in
     let read = done.read-r in
     let after =
     written_record_of read.new.owners read.new.priorities read.new.offsets read.new.targets
