@@ -25,5 +25,5 @@ returns c =
     λ e.
     let (number, same, checked, even, odd) = c.differs.ensures e in
     let gave = (solved c.before).solve-number in
-    says_words (gave.ensures number) gave.kept.1.1.1.1.1.1.0 gave.kept.1.1.1.1.1.1.1.0 even odd
+    says_words (gave.ensures number) gave.auto.even gave.auto.odd even odd
     (same ∙ c.needed-wanted.ensures)
