@@ -1,5 +1,5 @@
 -- The regions of the work area follow one another, so that no two of them overlap, and all stay below W. Behind them is what each solver
--- keeps: `free-words` says how much that may be.
+-- keeps: `free_words` says how much that may be.
 use Rattle.std.proofs.Common.{inl, inr, ⊎_elim, ap, le_trans, eq-or-lt_of_le, mul_assoc, add-mul}
 use Rattle.std.specs.Prelude.{◌≡◌}
 use Prim.Native.Nat.{ℕ, zero, suc, ◌+◌, ◌*◌, ◌≤◌, ◌<◌}

@@ -131,7 +131,7 @@ module _ (mostBytes : ℕ) (bytes : List ℕ) (place : ℕ) (s : State) (o p f t
   pub ends_whole : may_end_on s.phase s.records ≡ true → RecordsFound lim bytes s o p f t
   ends_whole h =
       let shown = left.holds.shown in
-      let None-more = may_end_aimless lim machine.phase machine (sym may_end_lem ∙ h) left.holds.standing in
+      let none_more = may_end_aimless lim machine.phase machine (sym may_end_lem ∙ h) left.holds.standing in
       record {
         header = machine.header;
         entries = machine.entries;
@@ -141,7 +141,7 @@ module _ (mostBytes : ℕ) (bytes : List ℕ) (place : ℕ) (s : State) (o p f t
         records = ap (λ (c : State). c.records) shown;
         edges =
             ap (λ (c : State). c.edges) shown ∙
-            ap (λ (ts : List ℕ). targets_in machine.entries + length ts) None-more ∙
+            ap (λ (ts : List ℕ). targets_in machine.entries + length ts) none_more ∙
             add-zero (targets_in machine.entries);
-        waits = subst (λ (ts : List ℕ). Waits machine.entries ts o p f t) None-more left.holds.waits;
+        waits = subst (λ (ts : List ℕ). Waits machine.entries ts o p f t) none_more left.holds.waits;
       }

@@ -39,8 +39,8 @@ fn run(
         Runs budget t (rounds_needed (game_of t))
         (after_rounds (game_of t) (rounds_needed (game_of t))).won
         (after_rounds (game_of t) (rounds_needed (game_of t))).entries
-        (record { even = even.entry.now; odd = odd.old; strategy = strategy.old })
-        (record { even = even.exit.now; odd = odd.new; strategy = strategy.new })
+        (record { even = even.old; odd = odd.old; strategy = strategy.old })
+        (record { even = even.new; odd = odd.new; strategy = strategy.new })
         result }
 {
     let n = owners.len();
@@ -87,13 +87,13 @@ pub fn solve_priority_promotion(
         (after_rounds (game_of t) (rounds_needed (game_of t))).won
         (after_rounds (game_of t) (rounds_needed (game_of t))).entries
         (record {
-          even = even.entry.now;
+          even = even.old;
           odd = odd.old;
           strategy = strategy.old;
           work = work.old;
         })
         (record {
-          even = even.exit.now;
+          even = even.new;
           odd = odd.new;
           strategy = strategy.new;
           work = work.new;

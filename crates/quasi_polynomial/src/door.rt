@@ -68,8 +68,8 @@ pub fn solve_quasi_polynomial(
     requires { FreshlyCounted (tables_of owners.now priorities.now offsets.now targets.now) kept.now }
     ensures { GivesOpinion
         (tables_of owners.now priorities.now offsets.now targets.now)
-        (record { even = even.entry.now; odd = odd.old; work = work.old })
-        (record { even = even.exit.now; odd = odd.new; work = work.new })
+        (record { even = even.old; odd = odd.old; work = work.old })
+        (record { even = even.new; odd = odd.new; work = work.new })
         (said result) }
 {
     let n = owners.len();

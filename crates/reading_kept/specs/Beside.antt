@@ -7,7 +7,7 @@ use Rattle.rules.specs.Record.{fresh_count}
 use Rattle.basics.specs.Basics.{bool_cases}
 use Rattle.theory.specs.Counts.{length_fresh}
 
--- `keptBeside` of the rules
+-- `kept_beside` of the rules
 abbrev pub beside_by : ℕ → ℕ → List ℕ → List ℕ
 beside_by number n priorities = cond (eqb number 0) (fresh_count (take n priorities)) (replicate 258 0)
 

@@ -47,8 +47,8 @@ end_sizes_lem kept l work =
 -- where nothing is given, kept is as long as it is to be
 pub kept_fits : (kept k : ℕ) (v : Verdict) → number_said k ≡ (kept_size kept then v) → k ≡ 0 → kept ≡ 258
 kept_fits kept k v says e =
-    let None-first = (then_none (kept_size kept) v (sym says ∙ number_none k e)).0 in
-    eqb-true kept 258 (not-false (eqb kept 258) (given_none 9 0 (not (eqb kept 258)) None-first))
+    let none_first = (then_none (kept_size kept) v (sym says ∙ number_none k e)).0 in
+    eqb-true kept 258 (not-false (eqb kept 258) (given_none 9 0 (not (eqb kept 258)) none_first))
 
 pub kept_fits_end : (kept k : ℕ) (u v : Verdict) → number_said k ≡ ((kept_size kept then u) then v) → k ≡ 0 → kept ≡ 258
 kept_fits_end kept k u v says e = kept_fits kept k (u then v) (says ∙ then_assoc (kept_size kept) u v) e

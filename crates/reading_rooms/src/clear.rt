@@ -53,14 +53,14 @@ pub fn clear_rooms(
     requires { used ≤ length work.old }
     ensures { AllZero used
         (record {
-          owners = owners.entry.now;
+          owners = owners.old;
           priorities = priorities.old;
           offsets = offsets.old;
           targets = targets.old;
           work = work.old;
         })
         (record {
-          owners = owners.exit.now;
+          owners = owners.new;
           priorities = priorities.new;
           offsets = offsets.new;
           targets = targets.new;

@@ -20,9 +20,9 @@ pub fn reckonbough_quasi_polynomial(
     count: &mut u64,
 ) -> u64
     ensures { (let before : LentSets =
-        record { even = even.entry.now; odd = odd.old; work = work.old } in
+        record { even = even.old; odd = odd.old; work = work.old } in
         let after : LentSets =
-        record { even = even.exit.now; odd = odd.new; work = work.new } in
+        record { even = even.new; odd = odd.new; work = work.new } in
         ByRecord
         (record_of n m owners.now priorities.now offsets.now targets.now
         kept.now)

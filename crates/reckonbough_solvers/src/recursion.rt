@@ -25,14 +25,14 @@ pub fn reckonbough_zielonka(
 ) -> u64
     ensures { (let before : Lent =
         record {
-          even = even.entry.now;
+          even = even.old;
           odd = odd.old;
           strategy = strategy.old;
           work = work.old;
         } in
         let after : Lent =
         record {
-          even = even.exit.now;
+          even = even.new;
           odd = odd.new;
           strategy = strategy.new;
           work = work.new;

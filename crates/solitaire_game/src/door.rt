@@ -58,8 +58,8 @@ pub fn solve_solitaire_game(
         (kept.now ≡ fresh_count priorities.now) }
     ensures { SolvesSolitaire
         (tables_of owners.now priorities.now offsets.now targets.now)
-        (record { set = set.entry.now; work = work.old })
-        (record { set = set.exit.now; work = work.new })
+        (record { set = set.old; work = work.old })
+        (record { set = set.new; work = work.new })
         (said result) }
 {
     let m = targets.len();

@@ -9,7 +9,7 @@ use std::io::Read;
 use std::rt::Env;
 
 // One byte more than the limit is enough: the line for so many bytes is the line for the whole input
-// (`front-prints` of solving/specs/Front.antt).
+// (`front_prints` of solving/specs/Front.antt).
 const ENOUGH: usize = 16385;
 
 fn print_text(rt: &(impl Input + Print), budget: u64) -> io::Result<()> {

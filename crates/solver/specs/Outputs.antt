@@ -104,10 +104,10 @@ pub record WinnersFound (t : Tables) (won : Player → Set) (choice : ℕ → �
   pub wins : WinningEntries (game_of t) won (listed (vertices t) choice)
 
 -- within a list the default does not matter
-get_d_any : (l : List ℕ) (k x y : ℕ) → k < length l → get_or l k x ≡ get_or l k y
-get_d_any [] k x y h = absurd (not-suc-le-zero h)
-get_d_any (z ∷ l) zero x y h = refl
-get_d_any (z ∷ l) (suc k) x y h = get_d_any l k x y (le_of_suc-le-suc h)
+get_or_any : (l : List ℕ) (k x y : ℕ) → k < length l → get_or l k x ≡ get_or l k y
+get_or_any [] k x y h = absurd (not-suc-le-zero h)
+get_or_any (z ∷ l) zero x y h = refl
+get_or_any (z ∷ l) (suc k) x y h = get_or_any l k x y (le_of_suc-le-suc h)
 
 module _ {t : Tables} {won : Player → Set} {choice : ℕ → ℕ} {s at : ℕ} {w : List ℕ} (found : WinnersFound t won choice s at w) where
   abbrev n : ℕ
@@ -246,7 +246,7 @@ module _ {t : Tables} {won : Player → Set} {choice : ℕ → ℕ} {s at : ℕ}
 
       written_entry : (v : ℕ) → v < n → entry after.strategy v ≡ own v
       written_entry v l =
-          get_d_any after.strategy v no_entry 0 (omega (arith, strategy_long)) ∙
+          get_or_any after.strategy v no_entry 0 (omega (arith, strategy_long)) ∙
           wrote.strategy.all v l ∙
           ap₂ (λ (b : Bool) (x : ℕ). cond b x no_entry) (owner_won v l) (entry_is v l)
 

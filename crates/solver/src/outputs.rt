@@ -17,8 +17,8 @@ pub fn write_out(
 )
     requires { Writable owners.now s from at work.now even.old odd.old strategy.old }
     ensures { WroteOut owners.now s from at work.now
-        (record { even = even.entry.now; odd = odd.old; strategy = strategy.old })
-        (record { even = even.exit.now; odd = odd.new; strategy = strategy.new }) }
+        (record { even = even.old; odd = odd.old; strategy = strategy.old })
+        (record { even = even.new; odd = odd.new; strategy = strategy.new }) }
 {
     let n = owners.len();
     let next = next_set(at, s);

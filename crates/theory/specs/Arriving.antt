@@ -1,5 +1,5 @@
 -- Document 01's entries of an attractor, in its words: they lead to the target, so that no walk of n steps avoids it. A4 fixes which
--- entries are written; that those are such is `DistanceEntries` `entries-arrive`.
+-- entries are written; that those are such is `DistanceEntries` `entries_arrive`.
 use Rattle.std.specs.Prelude.{true, false, List, ◌≡◌, ℕ, suc, ◌<◌}
 use Rattle.rules.specs.Counting.{Set}
 use Rattle.rules.specs.Game.{Player, Game, Edge}

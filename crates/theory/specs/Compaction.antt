@@ -1,5 +1,5 @@
 -- Compaction keeps winners: by its rule a used priority keeps its parity, a higher one gets no lower number, and no number grows.
--- Of the rule itself only the three laws of `nextNumber` are used: it is the lowest number of its priority's parity that is not
+-- Of the rule itself only the three laws of `next_number` are used: it is the lowest number of its priority's parity that is not
 -- below the last one. Compacted tables are accepted again.
 use Rattle.std.specs.Prelude.{true, false, List, [], ◌∷◌, map, ◌↔◌, ◌≡◌, refl, eqb, ltb, length}
 use Rattle.std.proofs.Math.Logic.{⊎_elim}

@@ -90,14 +90,14 @@ held_cong {g} {a} {V₁} {T₁} {D₁} {σ₁} V₂ T₂ D₂ σ₂ sameV same_t
       within = λ v p. sym (sameV v) ∙ held.within v (sameD v ∙ p);
       edge = λ v p mine. rw (agree v (sameD v ∙ p) mine) (held.edge v (sameD v ∙ p) mine);
       own =
-          λ v p mine. ap (union T₂ D₂) (agree v (sameD v ∙ p) mine) ∙ sym (same_tD (σ₁ v)) ∙ held.own v (sameD v ∙ p) mine;
-      other = λ v w p theirs e q. sym (same_tD w) ∙ held.other v w (sameD v ∙ p) theirs e (sameV w ∙ q);
+          λ v p mine. ap (union T₂ D₂) (agree v (sameD v ∙ p) mine) ∙ sym (same_td (σ₁ v)) ∙ held.own v (sameD v ∙ p) mine;
+      other = λ v w p theirs e q. sym (same_td w) ∙ held.other v w (sameD v ∙ p) theirs e (sameV w ∙ q);
       cycles =
           good_cycles_sub D₁ D₂ σ₁ σ₂ (λ v p. sameD v ∙ p) (λ v p mine. agree v (sameD v ∙ p) mine) held.cycles;
     }
   where
-    same_tD : (v : ℕ) → union T₁ D₁ v ≡ union T₂ D₂ v
-    same_tD v = ap₂ (λ (b c : Bool). b || c) (same_t v) (sameD v)
+    same_td : (v : ℕ) → union T₁ D₁ v ≡ union T₂ D₂ v
+    same_td v = ap₂ (λ (b c : Bool). b || c) (same_t v) (sameD v)
 
 pub dominion_cong :
     {g : Game} {a : Player} {V₁ D₁ : Set} {σ₁ : ℕ → ℕ} (V₂ D₂ : Set) (σ₂ : ℕ → ℕ) →

@@ -246,7 +246,7 @@ labels_exact parts u w p q = (
   λ both. sym (parts.whole u w p both).1,
 )
 
--- The test samePart, from an assigned vertex, compares labels.
+-- The test same_part, from an assigned vertex, compares labels.
 pub labels_same_part :
     (n : ℕ) (links : Links) {assigned : Set} {label : ℕ → ℕ} →
     Assigned (Linked n links) assigned label →
@@ -267,7 +267,7 @@ labels_same_part n links {assigned} {label} parts v u l m p =
     let e = eqb-true (label v) (label u) (and_right (assigned u) (eqb (label v) (label u)) q) in
     together_same_part n links l m ((labels_exact parts v u p there).0 e))
 
--- So goodPart asks for a vertex of the same label that has priority p, and for a self loop or another vertex of that label.
+-- So good_part asks for a vertex of the same label that has priority p, and for a self loop or another vertex of that label.
 pub labels_good_part :
     (g : Game) (links : Links) {assigned : Set} {label : ℕ → ℕ} →
     Assigned (Linked g.size links) assigned label →

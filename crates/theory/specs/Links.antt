@@ -1,5 +1,5 @@
 -- The rules' links, which are tests between numbers below n, as relations: what spread and reached say, strongly connected parts,
--- the cycles that goodPart and onCycle look for, and distances.
+-- the cycles that good_part and on_cycle look for, and distances.
 use Rattle.std.specs.Prelude.{true, ◌&&◌, ◌||◌, ◌⊎◌, ◌≡◌}
 use Rattle.std.proofs.Math.Bool.{not}
 use Rattle.std.proofs.Math.Logic.{inl, inr, ⊎_elim}
@@ -164,7 +164,7 @@ pub together_trans : {R : Relation} {v u w : ℕ} → Together R v u → Togethe
 together_trans (there, back) (on, again) = (reach_append there on, reach_append again back)
 
 module _ (n : ℕ) (links : Links) where
-  -- The test samePart says so.
+  -- The test same_part says so.
   pub same_part_together : {v u : ℕ} → same_part n links v u ≡ true → Together (Linked n links) v u
   same_part_together {v} {u} p =
       let there = reached n links v u in
@@ -252,7 +252,7 @@ module _ (g : Game) (links : Links) (p v : ℕ) where
       m
       (and_intro (together_same_part g.size links l m both) (eq-eqb (g.priority u) p e))
 
-  -- The test goodPart finds the vertices on a cycle of which the part has a vertex of priority p.
+  -- The test good_part finds the vertices on a cycle of which the part has a vertex of priority p.
   pub good_part_elim : good_part g links p v ≡ true → OnCycle g.priority (Linked g.size links) p v
   unfolding good_part
   good_part_elim q =
@@ -296,7 +296,7 @@ module _ (g : Game) (links : Links) (p v : ℕ) where
       (and_intro {b = not (eqb w v)} (rw differ) (together_same_part n links small e.end (step e here, back)))))
       (bool_cases (eqb w v)))
 
-  -- The test onCycle finds the same.
+  -- The test on_cycle finds the same.
   pub on_cycle_elim : on_cycle g links p v ≡ true → OnCycle g.priority (Linked g.size links) p v
   unfolding on_cycle
   on_cycle_elim q =
@@ -326,7 +326,7 @@ module _ (g : Game) (links : Links) (p v : ℕ) where
       (and_intro e.edge (reach_reached n links e.end back)))
       (with_priority_intro on.vertex e.start on.part on.exactly)
 
-  -- So goodPart and onCycle agree.
+  -- So good_part and on_cycle agree.
   pub good_part_on_cycle : good_part g links p v ≡ on_cycle g links p v
   good_part_on_cycle =
       bool_ext
@@ -335,7 +335,7 @@ module _ (g : Game) (links : Links) (p v : ℕ) where
       (λ q. on_cycle_intro (good_part_elim q))
       (λ q. good_part_intro (on_cycle_elim q))
 
-  -- On links that start only at priorities of at most p, goodPart finds exactly the vertices on a cycle whose highest priority is p.
+  -- On links that start only at priorities of at most p, good_part finds exactly the vertices on a cycle whose highest priority is p.
   pub good_part_cycle :
       ((x y : ℕ) → links x y ≡ true → g.priority x ≤ p) →
       good_part g links p v ≡ true →
@@ -345,7 +345,7 @@ module _ (g : Game) (links : Links) (p v : ℕ) where
   pub cycle_good_part : Cycle g.priority (Linked g.size links) v p → good_part g links p v ≡ true
   cycle_good_part c = good_part_intro (cycle_on_cycle c)
 
-  -- And so does onCycle.
+  -- And so does on_cycle.
   pub on_cycle_test_cycle :
       ((x y : ℕ) → links x y ≡ true → g.priority x ≤ p) →
       on_cycle g links p v ≡ true →

@@ -80,7 +80,7 @@ module _ (g : Game) where
       })
       (walk_among (λ u. g.priority u ≤ m) c bound (bound v (leaves_start c)))
 
-  -- onPart finds exactly the vertices on a cycle of edges whose highest priority is p.
+  -- on_part finds exactly the vertices on a cycle of edges whose highest priority is p.
   pub on_part_cycle : (p v : ℕ) → on_part g p v ≡ true → Cycle g.priority (Linked g.size (inside g (at_most g p))) v p
   on_part_cycle p v q =
       good_part_cycle g (inside g (at_most g p)) p v

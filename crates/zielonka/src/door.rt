@@ -36,8 +36,8 @@ fn run(
         tables_of owners.now priorities.now offsets.now targets.now in
         (work.new ≡ replicate (length work.old) 0) ×
         Runs budget t (zielonka (game_of t)).calls (zielonka (game_of t)).won (zielonka (game_of t)).entries
-        (record { even = even.entry.now; odd = odd.old; strategy = strategy.old })
-        (record { even = even.exit.now; odd = odd.new; strategy = strategy.new })
+        (record { even = even.old; odd = odd.old; strategy = strategy.old })
+        (record { even = even.new; odd = odd.new; strategy = strategy.new })
         result }
 {
     let n = owners.len();
@@ -82,13 +82,13 @@ pub fn solve_zielonka(
         tables_of owners.now priorities.now offsets.now targets.now in
         Solves budget t (zielonka (game_of t)).calls (zielonka (game_of t)).won (zielonka (game_of t)).entries
         (record {
-          even = even.entry.now;
+          even = even.old;
           odd = odd.old;
           strategy = strategy.old;
           work = work.old;
         })
         (record {
-          even = even.exit.now;
+          even = even.new;
           odd = odd.new;
           strategy = strategy.new;
           work = work.new;

@@ -1,5 +1,5 @@
 -- `write` meets its contract. The loop's invariant: the entries passed are written.
-use Prim.Native.Nat.{◌≤◌, ◌-◌}
+use Prim.Native.Nat.{◌-◌}
 use native.Mathlib.Omega.{arith}
 use lib.ListN.{get_or, length-set}
 use Rattle.compaction_numbers.specs.Steps.{written_more, written_all}

@@ -1,5 +1,4 @@
 -- `sum_up` meets its contract. The loop's invariant: the counts passed are looked at.
-use mathlib.Core.Logic.{⊎_elim}
 use mathlib.Core.Path.{◌≡◌}
 use Prim.Native.Nat.{◌-◌}
 use native.Mathlib.Omega.{arith}
@@ -16,18 +15,18 @@ loop-p-preserved c =
     let at = c.before.before.before.before in
     let kept = at.args.kept.now in
     elim c.if-kept-p-ne0.branch [
-      then-kept-p-ne0 w ↦
-      rw (w.different-is, w.highest-is) (
-        search rules,
-        search rules,
-        summed_some at.loop-p.p kept at.loop-p.different at.loop-p.highest at.loop-p.invariant.2 w.if-kept-p-ne0.true,
-      )
-    | else-kept-p-ne0 w ↦
-      rw (w.different-is, w.highest-is) (
-        search rules,
-        search rules,
-        summed_zero at.loop-p.p kept at.loop-p.different at.loop-p.highest at.loop-p.invariant.2 w.if-kept-p-ne0.false,
-      )
+      | then-kept-p-ne0 w ↦
+          rw (w.different-is, w.highest-is) (
+            search rules,
+            search rules,
+            summed_some at.loop-p.p kept at.loop-p.different at.loop-p.highest at.loop-p.invariant.2 w.if-kept-p-ne0.true,
+          )
+      | else-kept-p-ne0 w ↦
+          rw (w.different-is, w.highest-is) (
+            search rules,
+            search rules,
+            summed_zero at.loop-p.p kept at.loop-p.different at.loop-p.highest at.loop-p.invariant.2 w.if-kept-p-ne0.false,
+          )
     ]
 
 pub returns : goal.returns

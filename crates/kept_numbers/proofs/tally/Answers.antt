@@ -1,5 +1,4 @@
 -- `tally` meets its contract. The loop's invariant: the priorities passed are counted.
-use mathlib.Core.Logic.{⊎_elim}
 use mathlib.Core.Path.{◌≡◌}
 use Prim.Native.Nat.{◌≤◌, ◌-◌}
 use native.Mathlib.Omega.{arith}
@@ -38,18 +37,18 @@ loop-v-preserved c =
     let at = c.before.before.before.before in
     let ps = at.args.priorities.now in
     elim c.if-p-lt-PRIORITIES.branch [
-      then-p-lt-PRIORITIES w ↦
-      rw w.counts-is (
-        search rules,
-        search rules,
-        tallied_more at.loop-v.v ps at.loop-v.counts at.loop-v.invariant.2 (omega arith) w.if-p-lt-PRIORITIES.true,
-      )
-    | else-p-lt-PRIORITIES w ↦
-      rw w.counts-is (
-        search rules,
-        search rules,
-        tallied_other at.loop-v.v ps at.loop-v.counts at.loop-v.invariant.2 (omega arith) w.if-p-lt-PRIORITIES.false,
-      )
+      | then-p-lt-PRIORITIES w ↦
+          rw w.counts-is (
+            search rules,
+            search rules,
+            tallied_more at.loop-v.v ps at.loop-v.counts at.loop-v.invariant.2 (omega arith) w.if-p-lt-PRIORITIES.true,
+          )
+      | else-p-lt-PRIORITIES w ↦
+          rw w.counts-is (
+            search rules,
+            search rules,
+            tallied_other at.loop-v.v ps at.loop-v.counts at.loop-v.invariant.2 (omega arith) w.if-p-lt-PRIORITIES.false,
+          )
     ]
 
 pub returns : goal.returns

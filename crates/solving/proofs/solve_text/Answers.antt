@@ -77,11 +77,11 @@ m_few c =
 
 pub returns-then-number-ne0 : goal.returns-then-number-ne0
 returns-then-number-ne0 c =
-    let line = c.before.before.before in
-    let at_place = line.before.before in
-    let at-number = at_place.before in
-    let test = at-number.before in
-    let at = reading test.before in
+    let line = c.before in
+    let at_place = line in
+    let at-number = at_place in
+    let test = at-number in
+    let at = reading test.before.before.before.before.before.before.before in
     let is =
     puts_front line.refused_line.ensures ∙
     ap (λ (k : ℕ). refused_line k at_place.place.result) at-number.number-then-number-ne0.ensures ∙
@@ -93,33 +93,33 @@ returns-then-number-ne0 c =
     )
 
 pub slice_bounds-solve_tables-end : goal.slice_bounds-solve_tables-end
-slice_bounds-solve_tables-end c = omega (arith, n_few c.before.before)
+slice_bounds-solve_tables-end c = omega (arith, n_few c.before)
 
 pub slice_bounds-solve_tables-end-2 : goal.slice_bounds-solve_tables-end-2
-slice_bounds-solve_tables-end-2 c = omega (arith, n_few c.before.before.before.before)
+slice_bounds-solve_tables-end-2 c = omega (arith, n_few c.before.before)
 
 pub overflow_add-n : goal.overflow_add-n
-overflow_add-n c = omega (arith, n_few c.before.before.before.before.before)
+overflow_add-n c = omega (arith, n_few c.before.before.before)
 
 pub slice_bounds-solve_tables-end-3 : goal.slice_bounds-solve_tables-end-3
-slice_bounds-solve_tables-end-3 c = omega (arith, n_few c.before.before.before.before.before.before)
+slice_bounds-solve_tables-end-3 c = omega (arith, n_few c.before.before.before)
 
 pub slice_bounds-solve_tables-end-4 : goal.slice_bounds-solve_tables-end-4
 slice_bounds-solve_tables-end-4 c =
-    let test = c.before.before.before.before.before.before.before.before in
+    let test = c.before.before.before.before in
     omega (arith, m_few test)
 
 pub solve_tables-requires : goal.solve_tables-requires
 solve_tables-requires c =
-    let test = c.before.before.before.before.before.before.before.before.before.before in
+    let test = c.before.before.before.before.before.before in
     let at = reading test.before in
     game_given (text at) (after at) (gave at) at.read-read.ensures (zero test) (start at).args.out.now (start at).requires
     (owners_kept at) (targets_kept at)
 
 pub returns : goal.returns
 returns c =
-    let solved = c.before.before.before in
-    let test = solved.before.before.before.before.before.before.before.before.before.before in
+    let solved = c.before in
+    let test = solved.before.before.before.before.before.before.before.before in
     let at = reading test.before in (
       prints_solved (text at) (after at) (gave at) at.read-read.ensures (zero test) (start at).args.budget
           (take solved.solve_tables.result solved.solve_tables.new.out)

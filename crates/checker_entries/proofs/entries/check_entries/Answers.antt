@@ -2,7 +2,7 @@
 -- passed is the entry.
 use mathlib.Core.Bool.{not}
 use mathlib.Core.Bool.{false}
-use mathlib.Core.Path.{◌≡◌, refl, sym, ap, ◌∙◌}
+use mathlib.Core.Path.{refl, sym, ap, ◌∙◌}
 use Prim.Native.Nat.{ℕ, ◌+◌, ◌-◌}
 use native.Mathlib.Nat.{le_refl}
 use borrow.Author.Count.{below_none, below_more}

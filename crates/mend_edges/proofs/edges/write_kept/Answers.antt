@@ -1,5 +1,4 @@
 -- `write_kept` meets its contract. The loop's invariant: of the edges passed those that lead to a vertex are written.
-use mathlib.Core.Logic.{⊎_elim}
 use mathlib.Core.Path.{◌≡◌}
 use Prim.Native.Nat.{◌<◌, ◌+◌, ◌-◌}
 use native.Mathlib.Omega.{arith}

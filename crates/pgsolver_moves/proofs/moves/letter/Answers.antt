@@ -1,6 +1,5 @@
 -- `letter` meets its contract: letter by letter, and past the word.
 use native.Mathlib.Omega.{arith}
-use Prim.Native.Nat.{◌≤◌}
 use mathlib.Core.Path.{sym}
 use lib.ListN.{get_or-eq_default}
 use Rattle.rules.specs.Pgsolver.{parity_word}

@@ -1,9 +1,6 @@
 -- `put_counted` meets its contract, by cases on what was counted.
 use mathlib.Core.Path.{subst, sym}
-use Prim.Native.Nat.{◌≤◌}
 use native.Mathlib.Omega.{arith}
-use lib.ListN.{length}
-use Rattle.rules.specs.Decimal.{decimal}
 use Rattle.printing.specs.declared.line.Counted.{Counted}
 use Rattle.printing.specs.Line.{counted_bytes, word_short}
 use Rattle.putting.specs.Puts.{Puts}

@@ -19,7 +19,6 @@ use Rattle.lent_checks.specs.Checks.{past_tables, numbered_checks, Passed, check
 use Rattle.solver.specs.declared.ran.Ran.{Ran}
 use Rattle.solver.specs.Running.{outputs_of, Runs, ran_outcome, run_ready, solves_refused, solves_ran}
 use Rattle.priority_promotion.specs.Running.{won_in, entries_in}
-use borrow.Author.Rules.{rules}
 use Rattle.priority_promotion.proofs.door.solve_priority_promotion.Lts as lts
 use Rattle.priority_promotion.proofs.door.solve_priority_promotion.Reads as reads
 use Rattle.priority_promotion.proofs.door.solve_priority_promotion.Tie as tie

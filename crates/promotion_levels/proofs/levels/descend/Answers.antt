@@ -1,7 +1,6 @@
 -- `descend` meets its contract: the highest priority is found and marked, and the level begins with it.
 use Rattle.promotion_levels.specs.Descending.{descend_room, descend_second, descend_searchable}
 use Rattle.promotion_levels.specs.Descending.{descend_beginnable, descended}
-use mathlib.Core.Path.{◌≡◌}
 use Prim.Native.Nat.{◌+◌, ◌*◌, ◌<◌, ◌^◌}
 use native.Mathlib.Omega.{arith}
 use Rattle.promotion_levels.proofs.levels.descend.Goals as goal

@@ -11,7 +11,6 @@ use lib.ListN.{length, get_or}
 use Rattle.rules.specs.Counting.{Set, some_of}
 use Rattle.rules.specs.Tables.{targets_of}
 use Rattle.walk.specs.declared.members.Members.{Members}
-use Rattle.walk.specs.Walk.{left}
 use Rattle.area.specs.Area.{set_at}
 use Rattle.area.specs.Walked.{passes, Reached, walked_none, walked_few, walked_all, walked_next}
 use Rattle.successors.specs.Edges.{none_first, none_more, none_at_all, some_at}

@@ -1,6 +1,6 @@
 -- The loop's invariant: the rounds made are the rules' first rounds, within the budget, and what lies behind promotion's
 -- area is as it was lent. The rounds that the budget leaves fall.
-use Rattle.std.proofs.Common.{◌≡◌, ◌≤◌, ◌-◌, length}
+use Rattle.std.proofs.Common.{◌≤◌, ◌-◌, length}
 use Rattle.basics.specs.Frame.{Behind, Unchanged}
 use Rattle.promotion_places.specs.Layout.{end_at}
 use Rattle.promotion_rounds.specs.SolveAll.{RoundsReached}

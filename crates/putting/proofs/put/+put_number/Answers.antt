@@ -1,6 +1,5 @@
 -- `put_number` meets its contract, at a call with the value t.
 use native.Mathlib.Omega.{arith}
-use lib.ListN.{length}
 use Rattle.putting.specs.Digits.{digit_room, digit_put, tenth_fits, last_room, last_put}
 use Rattle.putting.proofs.put.+put_number.Goals as goal
 

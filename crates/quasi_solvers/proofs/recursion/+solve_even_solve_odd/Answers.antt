@@ -10,7 +10,7 @@ use Rattle.rules.specs.Tables.{Tables, game_of, vertices, words, tables_of}
 use Rattle.theory.specs.Run.{Top}
 use Rattle.quasi_level.specs.Level.{on_level}
 use Rattle.quasi_solvers.specs.Calling.{OpinionCalled}
-use Rattle.quasi_solvers.specs.Passing.{PassesGoing, to_go, called_held, called_searched, called_gives_up}
+use Rattle.quasi_solvers.specs.Passing.{called_held, called_searched, called_gives_up}
 use Rattle.quasi_solvers.specs.Passing.{called_top, top_lower, called_high, parity_even, parity_odd}
 use Rattle.quasi_solvers.specs.Passing.{turned_less, turned_called, turned_solved}
 use Rattle.quasi_solvers.specs.Passing.{going_first, going_ready, going_called}
@@ -35,7 +35,6 @@ use Rattle.quasi_level.proofs.passes.Passes.precision.Reads as precision_reads
 use Rattle.quasi_level.proofs.passes.Passes.sharpness.Reads as sharpness_reads
 use Rattle.quasi_solvers.proofs.recursion.least.Reads as least_reads
 use Rattle.sets.proofs.copy_with.Reads as copy_with_reads
-use borrow.Author.Rules.{rules}
 use Rattle.quasi_solvers.proofs.recursion.+solve_even_solve_odd.Goals as goal
 
 -- ---- the solver for Even

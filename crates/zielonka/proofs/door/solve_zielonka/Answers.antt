@@ -19,7 +19,6 @@ use Rattle.kept_numbers.specs.Reading.{kept_long, kept_bounds}
 use Rattle.lent_checks.specs.Checks.{past_tables, numbered_checks, Passed, checks_passed}
 use Rattle.solver.specs.declared.ran.Ran.{Ran}
 use Rattle.solver.specs.Running.{outputs_of, Runs, ran_outcome, run_ready, solves_refused, solves_ran}
-use borrow.Author.Rules.{rules}
 use Rattle.zielonka.proofs.door.solve_zielonka.Lts as lts
 use Rattle.zielonka.proofs.door.solve_zielonka.Reads as reads
 use Rattle.zielonka.proofs.door.solve_zielonka.Tie as tie

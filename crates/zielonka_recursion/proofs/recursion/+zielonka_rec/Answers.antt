@@ -3,11 +3,10 @@
 use mathlib.Core.Path.{◌≡◌}
 use mathlib.Core.Bool.{true, false}
 use mathlib.Core.List.{List}
-use Prim.Native.Nat.{ℕ, ◌+◌, ◌≤◌, ◌<◌}
+use Prim.Native.Nat.{ℕ, ◌+◌, ◌≤◌}
 use native.Mathlib.Omega.{arith}
 use lib.ListN.{length}
 use Rattle.rules.specs.Tables.{Tables, tables_of}
-use Rattle.area.specs.Area.{size_at}
 use Rattle.zielonka_level.specs.Level.{on_level, Called}
 use Rattle.zielonka_recursion.specs.Ending.{Ends, ends_over, ends_done}
 use Rattle.zielonka_level.specs.Steps.{done_empty, over_first}
@@ -31,7 +30,6 @@ use Rattle.zielonka_cuts.proofs.attract_lost.Reads as attract_lost_reads
 use Rattle.zielonka_level.proofs.lost_nothing.Reads as lost_nothing_reads
 use Rattle.zielonka_level.proofs.win_everything.Reads as win_everything_reads
 use Rattle.zielonka_recursion.proofs.recursion.count_call.Reads as count_call_reads
-use borrow.Author.Rules.{rules}
 use Rattle.zielonka_recursion.proofs.recursion.+zielonka_rec.Goals as goal
 
 abbrev cs : ℕ → lts.Claims
