@@ -44,14 +44,14 @@ after c =
     record {
       rooms =
           record {
-            owners = last.1.1.0;
-            priorities = last.1.1.1.0;
-            offsets = last.1.1.1.1.0;
-            targets = last.1.1.1.1.1.0;
-            work = last.1.1.1.1.1.1.0;
+            owners = last.owners;
+            priorities = last.priorities;
+            offsets = last.offsets;
+            targets = last.targets;
+            work = last.work;
           };
-      n = last.1.1.1.1.1.1.1.0;
-      m = last.1.1.1.1.1.1.1.1.0;
+      n = last.n;
+      m = last.m;
     }
 
 abbrev gave : AtAfterRead → Outcome
