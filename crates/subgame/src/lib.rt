@@ -13,7 +13,7 @@ pub use parity::{mark_parity, mark_used};
 use parity_game::Priority;
 
 // The game restricted to the vertices of priority at most top.
-#[derive(Drop)]
+#[derive(Clone, Copy)]
 pub struct Subgame<'a> {
     pub targets: &'a [u16],
     pub top: Priority,
