@@ -38,8 +38,8 @@
  * different priorities. 2 * (C(n,0) + C(n,1) + ... + C(n,d)) - 1 calls and n * (n + 2)^d rounds are always enough; both are
  * proved. Where that number is above UINT64_MAX, no budget is proved to be enough; UINT64_MAX then asks for as much as can be asked.
  *
- * Stack, on x86-64: reckonbough_zielonka nests at most n + 1 calls of itself, 368 bytes each; a thread with 2 MiB of stack is
- * enough for every game. reckonbough_quasi_polynomial nests at most 258 calls, 272 bytes each. What takes or gives a record needs
+ * Stack, on x86-64: reckonbough_zielonka nests at most n + 1 calls of itself, 192 bytes each; a thread with 2 MiB of stack is
+ * enough for every game. reckonbough_quasi_polynomial nests at most 258 calls, 224 bytes each. What takes or gives a record needs
  * less than 6 KiB beside that, every other function less than 2 KiB.
  */
 #ifndef RECKONBOUGH_H

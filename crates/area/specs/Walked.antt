@@ -1,6 +1,6 @@
 -- A walk over the members of a set in the work area that changes each member it passes: members passed are changed, those still to come
 -- and the vertices outside the set are as they were. What is looked at of a vertex, and what a change is, the walk leaves open.
-use Rattle.std.specs.Prelude.{true, false, List, ◌∷◌, ◌⊎◌, ◌≡◌, refl, ℕ, ◌+◌, ◌≤◌, ◌<◌, length, get_or, set}
+use Rattle.std.specs.Prelude.{true, false, List, ◌∷◌, ◌⊎◌, ◌≡◌, refl, ℕ, ◌+◌, ◌≤◌, ◌<◌, length, get_or, set, Option, Some, None}
 use Rattle.std.proofs.Common.{inl, inr, ⊎_elim, sym, ap, subst, subst₂, ◌∙◌, arith, length-set, get_or-set_same, get_or-set_other}
 use Rattle.std.proofs.Math.Decide.{ℕ_discrete}
 use Rattle.rules.specs.Counting.{times}
@@ -12,8 +12,6 @@ use Rattle.walk.specs.MemberLaws.{times_members}
 use Rattle.parity_game.specs.declared.player.VertexIndex.{VertexIndex}
 use Rattle.walk.specs.Walk.{words_from, members, left, Begins, Walks}
 use Rattle.walk.specs.declared.members.Members.{Members}
-use Rattle.walk.specs.declared.members.Next.{Next}
-use Rattle.walk.specs.declared.members.Next.TheVariants.{Member, Done}
 use Rattle.area.specs.Area.{words_at, set_at}
 use Rattle.area.specs.Lent.{words_alike, words_few}
 use Rattle.area.specs.Walking.{times_gone, Walking, walking_start, counted, next_member, next_once, next_other, walking_next, next_shorter}
@@ -203,22 +201,22 @@ module _ {C : Type 0} {n s base : ℕ} {Out : ℕ → Type 0} {Good : List ℕ �
         reached =
             record { member = member; small = small; shorter = next_shorter rest c.walking next; more = more }
 
-      module _ {next : Next} (step : Walks (words_from s base work) walk next) where
+      module _ {next : Option VertexIndex} (rest : Members) (step : Walks (words_from s base work) walk next rest) where
         -- what the step told, of the set as it was at first
-        told_of : {what : Next} → next ≡ what → Walks (words_at n base before) walk what
-        told_of told = subst₂ (λ (xs : List ℕ) (what : Next). Walks xs walk what) (kept_words given c.keeps) told step
+        told_of : {what : Option VertexIndex} → next ≡ what → Walks (words_at n base before) walk what rest
+        told_of told = subst₂ (λ (xs : List ℕ) (what : Option VertexIndex). Walks xs walk what rest) (kept_words given c.keeps) told step
 
         -- the walk is over
-        pub walked_all : next ≡ Done → Walked n base Out Good view Does before work
+        pub walked_all : next ≡ None → Walked n base Out Good view Does before work
         walked_all told =
             record { keeps = c.keeps; inside = λ u m. c.seen u m (gone u); outside = λ u l m. c.unseen u l (inl m) }
           where
             gone : (u : ℕ) → times u (left (words_at n base before) walk) ≡ 0
-            gone u = ap (times u) (told_of told) ∙ times_gone u
+            gone u = ap (times u) (told_of told).0 ∙ times_gone u
 
         -- **it has reached a member**
-        pub walked_next : {v : VertexIndex} {rest : Members} → next ≡ Member v rest → Reached c v.0 rest
-        walked_next {rest = rest} told = let (moved, low) = told_of told in reached rest moved low
+        pub walked_next : {v : VertexIndex} → next ≡ Some v → Reached c v.0 rest
+        walked_next told = let (moved, low) = told_of told in reached rest moved low
 
 -- ---- a walk that changes nothing
 

@@ -8,12 +8,12 @@ use Rattle.rules.specs.Pgsolver.{is_digit}
 use Rattle.rules.specs.Printing as Printing
 use Rattle.rules.specs.Printing.{arguments_ask_by, arguments_ask, value_after, default_budget}
 use Rattle.basics.specs.Basics.{and_left, and_right, and_intro}
-use Rattle.arguments.specs.declared.arguments.Asked.{Asked}
-use Rattle.arguments.specs.declared.arguments.Asked.TheVariants.{Budget, Wrong}
+use Rattle.std.specs.declared.option.Option.{Option}
+use Rattle.std.specs.declared.option.Option.TheVariants.{None, Some}
 
-abbrev pub asked : Asked → Printing.Asked
-asked (Budget b) = Printing.Asked.within b
-asked Wrong = Printing.Asked.wrong
+abbrev pub asked : Option ℕ → Printing.Asked
+asked (Some b) = Printing.Asked.within b
+asked None = Printing.Asked.wrong
 
 -- the first argument is the one at hand, where there is one
 abbrev pub FirstIs : List ℕ → List (List ℕ) → Type 0
@@ -21,18 +21,18 @@ FirstIs first [] = Unit {0}
 FirstIs first (a ∷ more) = a ≡ first
 
 -- with so many arguments, the program's name among them
-abbrev pub Asks : ℕ → List ℕ → Asked → Type 0
+abbrev pub Asks : ℕ → List ℕ → Option ℕ → Type 0
 Asks given first r =
     (arguments : List (List ℕ)) → length arguments ≡ given - 1 → FirstIs first arguments → asked r ≡ arguments_ask arguments
 
 -- ---- by cases on how many there are
 
-pub asks_none : (given : ℕ) (first : List ℕ) → given ≤ 1 → Asks given first (Budget default_budget)
+pub asks_none : (given : ℕ) (first : List ℕ) → given ≤ 1 → Asks given first (Some default_budget)
 unfolding arguments_ask_by
 asks_none given first few [] long is = refl
 asks_none given first few (a ∷ more) long is = absurd (omega arith)
 
-pub asks_many : (given : ℕ) (first : List ℕ) → 2 < given → Asks given first Wrong
+pub asks_many : (given : ℕ) (first : List ℕ) → 2 < given → Asks given first None
 unfolding arguments_ask_by
 asks_many given first many [] long is = absurd (omega arith)
 asks_many given first many (a ∷ []) long is = absurd (omega arith)
@@ -42,7 +42,7 @@ asks_many given first many (a ∷ (b ∷ more)) long is = refl
 abbrev pub fine : List ℕ → Bool
 fine a = ltb 0 (length a) && leb (length a) 9 && every_of a is_digit
 
-pub asks_wrong : (given : ℕ) (first : List ℕ) → 1 < given → fine first ≡ false → Asks given first Wrong
+pub asks_wrong : (given : ℕ) (first : List ℕ) → 1 < given → fine first ≡ false → Asks given first None
 unfolding arguments_ask_by
 asks_wrong given first some bad [] long is = absurd (omega arith)
 asks_wrong given first some bad (a ∷ []) long is =
@@ -55,7 +55,7 @@ pub asks_one :
     given ≤ 2 →
     fine first ≡ true →
     v ≡ value_after 0 first →
-    Asks given first (Budget v)
+    Asks given first (Some v)
 unfolding arguments_ask_by
 asks_one given first v some one good e [] long is = absurd (omega arith)
 asks_one given first v some one good e (a ∷ []) long is =

@@ -8,18 +8,11 @@ ghost use Rattle.arguments.specs.Asking.{Asks};
 // The budget of each engine unless an argument gives another.
 const DEFAULT_BUDGET: u64 = 65536;
 
-#[derive(Clone, Copy)]
-pub enum Asked {
-    Budget(u64),
-    // 36.
-    Wrong,
-}
-
 fn all_digits(bytes: &[u8]) -> bool
     ensures { result ≡ every_of bytes.now is_digit }
 {
-    for i in 0..bytes.len() {
-        if bytes[i] < 48 || 57 < bytes[i] {
+    for b in bytes {
+        if !b.is_ascii_digit() {
             return false;
         }
     }
@@ -31,24 +24,24 @@ fn value_of(digits: &[u8]) -> u64
     ensures { result ≡ value_after 0 digits.now }
 {
     let mut value = 0;
-    for i in 0..digits.len() {
-        value = 10 * value + (digits[i] - 48) as u64;
+    for &d in digits {
+        value = 10 * value + (d - 48) as u64;
     }
     value
 }
 
-// `given` counts the program's own name too, and `first` is the argument after it.
-pub fn ask(given: usize, first: &[u8]) -> Asked
+// `given` counts the program's own name too, and `first` is the argument after it. `None` is 36.
+pub fn ask(given: usize, first: &[u8]) -> Option<u64>
     ensures { Asks given first.now result }
 {
     if given <= 1 {
-        return Asked::Budget(DEFAULT_BUDGET);
+        return Some(DEFAULT_BUDGET);
     }
     if given > 2 || first.len() == 0 || first.len() > 9 {
-        return Asked::Wrong;
+        return None;
     }
     if !all_digits(first) {
-        return Asked::Wrong;
+        return None;
     }
-    Asked::Budget(value_of(first))
+    Some(value_of(first))
 }

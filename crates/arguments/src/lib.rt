@@ -3,4 +3,4 @@
 
 mod arguments;
 
-pub use arguments::{Asked, ask};
+pub use arguments::ask;

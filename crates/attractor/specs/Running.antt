@@ -8,7 +8,7 @@ use Rattle.std.proofs.Common.{ap, subst₂, ◌∙◌, le_refl, add-zero, arith}
 use Prim.Native.Nat.{ℕ, suc, ◌+◌, ◌-◌, ◌*◌, ◌≤◌, ◌<◌}
 use Rattle.rules.specs.Counting.{Set, count}
 use Rattle.rules.specs.Game.{Player, Game, Edge, player_of, same}
-use Rattle.rules.specs.Tables.{Tables, game_of, vertices, edges_in, words, targets_of, Accepted, tables_of}
+use Rattle.rules.specs.Tables.{Tables, game_of, vertices, edges_in, words, targets_of, Accepted}
 use Rattle.rules.specs.Attractor.{attractor, looks_of}
 use Rattle.theory.specs.Steps.{at_first, Takes, Finished}
 use Rattle.rules.specs.Distance.{distance, attractor_entry}
@@ -24,63 +24,62 @@ use Rattle.area.specs.Area.{counters, distances, entries, free, set_at, words_at
 use Rattle.area.specs.Lent.{part_length}
 use Rattle.layer.specs.Layer.{marks}
 use Rattle.layer.specs.Laws.{unmarked_empty}
-use Rattle.attractor_counters.specs.Counters.{own_by, inside_count}
+use Rattle.attractor_drawing.specs.Drawn.{Plan, inside, tables_with}
+use Rattle.attractor_counters.specs.Counters.{own_of, counts_in}
 use Rattle.attractor_look.specs.State.{State}
 use Rattle.attractor_look.specs.Growth.{Mark}
 use Rattle.attractor_step.specs.Taking.{growing}
 use Rattle.attractor_step.specs.Layers.{neither, Layered, layered_turn}
-use Rattle.attractor_look.specs.InArea.{cells, layer_at, state_at}
+use Rattle.attractor_look.specs.InArea.{cells, layer_at, state_in}
 use Rattle.attractor_look.specs.InAreaLaws.{cells_at}
-use Rattle.attractor_word.specs.Attracted.{Attractable, Attracted, owned}
-use Rattle.attractor_word.specs.Going.{Going, now_at, taken_at, fits}
+use Rattle.attractor_word.specs.Attracted.{Attracted, owned}
+use Rattle.attractor_word.specs.Going.{Drawable, Going, now_at, taken_at, fits}
 use Rattle.attractor_layer.specs.OneLayer.{LayerStands}
 
 -- before each layer is taken: nobody is drawn into the next one yet
-pub record Running (owners offsets targets : List ℕ) (alpha within set : ℕ) (before : List ℕ) (this next far looks : ℕ)
-    (after : List ℕ) : Type 0 where
-  pub going : Going owners offsets targets alpha within set before this next far looks (now_at (length owners) this after) after
-  pub deep : far ≤ count (length owners) (taken_at (length owners) set this next after) + 1
-  pub next_none : (u : ℕ) → now_at (length owners) next after u ≡ false
+pub record Running (d : Plan) (before : List ℕ) (this next far looks : ℕ) (after : List ℕ) : Type 0 where
+  pub going : Going d before this next far looks (now_at (length d.owners) this after) after
+  pub deep : far ≤ count (length d.owners) (taken_at (length d.owners) d.set this next after) + 1
+  pub next_none : (u : ℕ) → now_at (length d.owners) next after u ≡ false
 
-module _ {owners offsets targets : List ℕ} {alpha within set : ℕ} {before : List ℕ}
-    (given : Attractable owners offsets targets alpha within set before) where
+module _ {d : Plan} {before : List ℕ} (given : Drawable d before) where
   abbrev n : ℕ
-  n = length owners
+  n = length d.owners
 
   abbrev m : ℕ
-  m = length targets
+  m = length d.targets
 
   abbrev V' : Set
-  V' = set_at n within before
+  V' = inside d before
 
   abbrev T : Set
-  T = set_at n set before
+  T = set_at n d.set before
 
   abbrev own : Set
-  own = own_by owners alpha
+  own = own_of d
 
   abbrev counts : ℕ → ℕ
-  counts = inside_count offsets targets V'
+  counts = counts_in d before
 
   abbrev entry : ℕ → ℕ
   entry = cells n (entries n m) before
 
   module _ {this next far looks : ℕ} {after : List ℕ}
-      (c : Going owners offsets targets alpha within set before this next far looks (now_at n this after) after) where
+      (c : Going d before this next far looks (now_at n this after) after) where
     abbrev state : State
-    state = state_at counts n m set next after
+    state = state_in d before next after
 
     abbrev now : Set
     now = now_at n this after
 
     abbrev taken : Set
-    taken = taken_at n set this next after
+    taken = taken_at n d.set this next after
 
     -- the layer is done: nothing is left in it, and turning to the next takes none
     layer_done : marks (layer_at n this after) ≡ 0 → (u : ℕ) → now u ≡ false
     layer_done = unmarked_empty (layer_at n this after) c.layer
 
-    pub turned : marks (layer_at n this after) ≡ 0 → taken_at n set next this after ≡ taken
+    pub turned : marks (layer_at n this after) ≡ 0 → taken_at n d.set next this after ≡ taken
     turned z =
         fun_ext
         (λ u.
@@ -91,21 +90,19 @@ module _ {owners offsets targets : List ℕ} {alpha within set : ℕ} {before : 
     -- the layer may be taken where it has a mark
     pub layer_stands :
         (marks (layer_at n this after) ≡ 0 → ⊥) →
-        LayerStands owners offsets targets alpha within set this next far before looks (count n taken) 0 after
+        LayerStands d this next far before looks (count n taken) 0 after
     layer_stands more =
         record {
           given = given;
           going =
-              subst (λ (k : ℕ). Going owners offsets targets alpha within set before this next far k now after)
-              (sym (add-zero looks)) c;
+              subst (λ (k : ℕ). Going d before this next far k now after) (sym (add-zero looks)) c;
           never_less = le_refl (count n taken);
           grown = λ z. absurd (more z);
         }
 
     -- the layer is done, and the next one is taken
     module _ (deeper : far ≤ count n taken) where
-      pub running_turn : marks (layer_at n this after) ≡ 0 → Running owners offsets targets alpha within set before next this
-          (far + 1) looks after
+      pub running_turn : marks (layer_at n this after) ≡ 0 → Running d before next this (far + 1) looks after
       unfolding game_of
       running_turn z =
           record {
@@ -129,8 +126,8 @@ module _ {owners offsets targets : List ℕ} {alpha within set : ℕ} {before : 
                             λ u.
                             subst
                             (λ (S : Set).
-                            Mark (V' u) (T u) (own u) (count_of (targets_of offsets targets u) V') (state.members u)
-                            (state.counter u) (count_of (targets_of offsets targets u) S))
+                            Mark (V' u) (T u) (own u) (count_of (targets_of d.offsets d.targets u) V') (state.members u)
+                            (state.counter u) (count_of (targets_of d.offsets d.targets u) S))
                             (sym (turned z)) (c.stands.marks u);
                         early = λ u p. c.stands.early u (ap (λ (S : Set). S u) (sym (turned z)) ∙ p);
                       };
@@ -138,14 +135,14 @@ module _ {owners offsets targets : List ℕ} {alpha within set : ℕ} {before : 
                   far_some = omega arith;
                   run =
                       λ priorities ok.
-                      let g = game_of (tables_of owners priorities offsets targets) in
-                      let a = player_of alpha in (
+                      let g = game_of (tables_with d priorities) in
+                      let a = player_of d.alpha in (
                         subst
-                            (λ (S : Set). Takes g a V' (at_first T) (growing S looks (state_at counts n m set this after)))
+                            (λ (S : Set). Takes g a V' (at_first T) (growing S looks (state_in d before this after)))
                             (sym (turned z))
                             (c.run priorities ok).0,
                         subst
-                            (λ (k : ℕ). Layered g a V' T own entry k (now_at n next after) (state_at counts n m set this after))
+                            (λ (k : ℕ). Layered g a V' T own entry k (now_at n next after) (state_in d before this after))
                             same_far
                             (turn_lays priorities ok),
                       );
@@ -158,14 +155,13 @@ module _ {owners offsets targets : List ℕ} {alpha within set : ℕ} {before : 
           same_far = omega (arith, c.far_some)
 
           turn_lays :
-              (priorities : List ℕ) (ok : Accepted (tables_of owners priorities offsets targets)) →
-              Layered (game_of (tables_of owners priorities offsets targets)) (player_of alpha) V' T own entry (suc (far - 1))
-              (now_at n next after) (state_at counts n m set this after)
+              (priorities : List ℕ) (ok : Accepted (tables_with d priorities)) →
+              Layered (game_of (tables_with d priorities)) (player_of d.alpha) V' T own entry (suc (far - 1))
+              (now_at n next after) (state_in d before this after)
           turn_lays priorities ok =
-              layered_turn (game_of (tables_of owners priorities offsets targets)) (player_of alpha) V' T own
-              (fits owners offsets targets alpha within set before given priorities ok)
-              (omega (arith, given.edges.few_vertices)) (owned owners offsets targets alpha given.side priorities ok)
-              entry (far - 1) now state c.stands (c.run priorities ok).1 (layer_done z) (state_at counts n m set this after)
+              layered_turn (game_of (tables_with d priorities)) (player_of d.alpha) V' T own (fits given priorities ok)
+              (omega (arith, given.edges.few_vertices)) (owned d.owners d.offsets d.targets d.alpha given.side priorities ok)
+              entry (far - 1) now state c.stands (c.run priorities ok).1 (layer_done z) (state_in d before this after)
               refl refl refl (layer_done z)
 
     -- no member is left
@@ -176,22 +172,22 @@ module _ {owners offsets targets : List ℕ} {alpha within set : ℕ} {before : 
       -- **what is left is the attractor, with its distances and entries**
       pub running_all :
           (priorities : List ℕ) →
-          Accepted (tables_of owners priorities offsets targets) →
-          Attracted (tables_of owners priorities offsets targets) (player_of alpha) within set before after looks
+          Accepted (tables_with d priorities) →
+          Attracted (tables_with d priorities) (player_of d.alpha) d.within d.set before after looks
       unfolding game_of
       running_all priorities ok =
           record {
             long = c.long;
             holds =
                 record {
-                  long = part_length set (words n) after (omega (arith, c.long, given.placed.set_high));
+                  long = part_length d.set (words n) after (omega (arith, c.long, given.placed.set_high));
                   bits = λ v l. members_are v;
                   clear =
                       λ v l.
-                      other_bit (words_at n set after) v
+                      other_bit (words_at n d.set after) v
                       (not_true_is_false (state.members v) (λ p. let less = below_only v p in omega arith));
                 };
-            met = steps_looks g a V' T starts (fits owners offsets targets alpha within set before given priorities ok) (c.run priorities ok).0 finished;
+            met = steps_looks g a V' T starts (fits given priorities ok) (c.run priorities ok).0 finished;
             distances =
                 λ v p t.
                 let i = members_are v ∙ p in
@@ -211,16 +207,16 @@ module _ {owners offsets targets : List ℕ} {alpha within set : ℕ} {before : 
           }
         where
           g : Game
-          g = game_of (tables_of owners priorities offsets targets)
+          g = game_of (tables_with d priorities)
 
           a : Player
-          a = player_of alpha
+          a = player_of d.alpha
 
           is : (v : ℕ) → own v ≡ same (g.owner v) a
-          is = owned owners offsets targets alpha given.side priorities ok
+          is = owned d.owners d.offsets d.targets d.alpha given.side priorities ok
 
           starts : (v w : ℕ) → Edge g v w → v < g.size
-          starts = (accepted_total (tables_of owners priorities offsets targets) ok).starts
+          starts = (accepted_total (tables_with d priorities) ok).starts
 
           lay : Layered g a V' T own entry (far - 1) now state
           lay = (c.run priorities ok).1
@@ -230,8 +226,7 @@ module _ {owners offsets targets : List ℕ} {alpha within set : ℕ} {before : 
 
           members_are : (v : ℕ) → state.members v ≡ attractor g a V' T v
           members_are =
-              steps_members g a V' T starts (fits owners offsets targets alpha within set before given priorities ok)
-              (c.run priorities ok).0 finished
+              steps_members g a V' T starts (fits given priorities ok) (c.run priorities ok).0 finished
 
 -- two work areas in which V, the target, the entries and all that stays are the same
 pub record SameAreas (n m within set : ℕ) (x y : List ℕ) : Type 0 where

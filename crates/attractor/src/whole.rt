@@ -5,8 +5,9 @@ ghost use Rattle.rules.specs.Game.{player_of};
 ghost use Rattle.rules.specs.Tables.{Accepted, tables_of};
 ghost use Rattle.attractor_word.specs.Attracted.{Attractable, Attracted};
 
-use area::{Area, behind_layer, marks_at};
+use area::{behind_layer, marks_at};
 use attractor_begin::begin_layers;
+use attractor_drawing::Drawing;
 use attractor_layer::take_layer;
 
 pub fn attract(
@@ -24,19 +25,24 @@ pub fn attract(
         Attracted (tables_of owners.now priorities offsets.now targets.now)
         (player_of alpha) within set work.old work.new result }
 {
-    let n = owners.len();
-    let m = targets.len();
-    let s = parity_game::set_words(n);
-    let first = Area { n, m, s }.layers();
+    let s = parity_game::set_words(owners.len());
+    let drawing = Drawing {
+        owners,
+        offsets,
+        targets,
+        s,
+        alpha,
+        within,
+        set,
+    };
+    let first = drawing.area().layers();
     begin_layers(work, first, set, s);
     let mut this = first;
     let mut next = behind_layer(first, s);
     let mut far: u64 = 1;
     let mut looks: u64 = 0;
     while work[marks_at(this, s)] != 0 {
-        looks += take_layer(
-            owners, offsets, targets, s, alpha, work, within, set, this, next, far,
-        );
+        looks += take_layer(&drawing, work, this, next, far);
         let done = this;
         this = next;
         next = done;

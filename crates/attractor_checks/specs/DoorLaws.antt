@@ -1,14 +1,14 @@
 -- Laws for the checks of the public attractor: the test of check 12 and the sizes by their cases, and what accepted sets say.
-use Rattle.std.specs.Prelude.{Bool, true, false, ◌&&◌, not, List, ◌≡◌, refl, ℕ, ◌*◌, ◌≤◌, ◌<◌, length}
+use Rattle.std.specs.Prelude.{Bool, true, false, ◌&&◌, not, List, [], ◌∷◌, ◌≡◌, refl, ℕ, ◌*◌, ◌≤◌, ◌<◌, length}
 use Rattle.std.proofs.Common.{⊎_elim, sym, ◌∙◌, arith}
 use borrow.Author.Tests.{lt-ltb, le-ltb, eq-eqb, ne_eqb}
 use Rattle.rules.specs.Counting.{every_of}
-use Rattle.rules.specs.Outcome.{Verdict, none, refused}
+use Rattle.rules.specs.Outcome.{Verdict, none, refused, ◌then◌}
 use Rattle.rules.specs.Tables.{words, work_words, check9, check10}
 use Rattle.rules.specs.Words.{set_of}
 use Rattle.rules.specs.Attractor.{check12}
 use Rattle.basics.specs.Basics.{clash, lt_or_ge, not_false_is_true}
-use Rattle.parity_game.specs.Laws.{given_at_none}
+use Rattle.parity_game.specs.Laws.{given_at_none, check9_set, check9_table, then_assoc}
 use Rattle.sets.specs.Laws.{member_inside}
 use Rattle.attractor_checks.specs.Door.{stray, size_checks}
 
@@ -95,6 +95,26 @@ module _ (n m within target result strategy distances work : ℕ) where
 
     pub size_right : strategy ≡ n → distances ≡ n → work_words n m ≤ work → none ≡ sizes
     size_right d e l = sym (ten_passes l) ∙ nine_passed d e
+
+-- the sizes one by one are the sizes
+module _ (n m within target result strategy distances work : ℕ) where
+  abbrev one_set : ℕ → Verdict
+  one_set k = check9 n (k ∷ []) []
+
+  abbrev tables_left : Verdict
+  tables_left = check9 n [] (strategy ∷ []) then check9 n [] (distances ∷ []) then check10 n m work
+
+  pub sizes_in_order :
+      one_set within then one_set target then one_set result then tables_left ≡
+      size_checks n m within target result strategy distances work
+  sizes_in_order =
+      simp (
+        check9_set n within (target ∷ result ∷ []) (strategy ∷ distances ∷ []),
+        check9_set n target (result ∷ []) (strategy ∷ distances ∷ []),
+        check9_set n result [] (strategy ∷ distances ∷ []),
+        check9_table n strategy (distances ∷ []),
+        then_assoc,
+      )
 
 -- sets that check 12 lets pass: V has no bit at n or above, and holds the target
 module _ (n : ℕ) (V' T : List ℕ) (first : length V' ≡ words n) (second : length T ≡ words n) (passed : check12 n V' T ≡ none) where

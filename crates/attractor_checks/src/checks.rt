@@ -1,12 +1,11 @@
 // 9, 10 and 12, each for its number and its place. None writes anything.
 ghost use Rattle.std.specs.Prelude.{◌≡◌, ◌≤◌, length};
-ghost use Rattle.rules.specs.Outcome.{outcome, answered};
 ghost use Rattle.rules.specs.Attractor.{check12};
 ghost use Rattle.rules.specs.Tables.{words};
-ghost use Rattle.parity_game.specs.Said.{said};
+ghost use Rattle.parity_game.specs.Said.{verdict};
 ghost use Rattle.attractor_checks.specs.Door.{stray, BothBits, size_checks};
 
-use parity_game::{Answer, BAD_SIZE, SHORT_WORK, STRAY_BIT};
+use parity_game::{Checked, Refusal};
 
 // A bit at n or above in either set, or a target bit not in V.
 fn is_stray(n: usize, within: &[u64], target: &[u64], b: usize) -> bool
@@ -16,31 +15,27 @@ fn is_stray(n: usize, within: &[u64], target: &[u64], b: usize) -> bool
     let inside = sets::contains(within, b);
     let asked = sets::contains(target, b);
     if b < n {
-        if inside {
-            return false;
-        }
-        return asked;
+        asked && !inside
+    } else {
+        inside || asked
     }
-    if inside {
-        return true;
-    }
-    asked
 }
 
 // 12: the lowest such bit.
-pub fn check_bits(n: usize, within: &[u64], target: &[u64]) -> Answer
+pub fn check_bits(n: usize, within: &[u64], target: &[u64]) -> Checked
     requires { (length within.now ≡ words n) × (length target.now ≡ words n) × (n ≤ 4096) }
-    ensures { said result ≡ outcome (check12 n within.now target.now) (answered 0) }
+    ensures { verdict result ≡ check12 n within.now target.now }
 {
     for b in 0..64 * within.len() {
         if is_stray(n, within, target, b) {
-            return Answer::AtPlace(STRAY_BIT, b);
+            return Err(Refusal::StrayBit(b));
         }
     }
-    Answer::Answered(0)
+    Ok(())
 }
 
 // 9 and 10, by lengths.
+#[tactic(auto, using(crate::specs::DoorLaws::sizes_in_order))]
 pub fn check_sizes(
     n: usize,
     m: usize,
@@ -50,28 +45,14 @@ pub fn check_sizes(
     strategy: usize,
     distances: usize,
     work: usize,
-) -> Answer
+) -> Checked
     requires { (n ≤ 4096) × (m ≤ 16384) }
-    ensures { said result ≡ outcome (size_checks n m within target res strategy distances work) (answered 0) }
+    ensures { verdict result ≡ size_checks n m within target res strategy distances work }
 {
-    let s = parity_game::set_words(n);
-    if within != s {
-        return Answer::Refused(BAD_SIZE);
-    }
-    if target != s {
-        return Answer::Refused(BAD_SIZE);
-    }
-    if res != s {
-        return Answer::Refused(BAD_SIZE);
-    }
-    if strategy != n {
-        return Answer::Refused(BAD_SIZE);
-    }
-    if distances != n {
-        return Answer::Refused(BAD_SIZE);
-    }
-    if work < parity_game::work_words(n, m) {
-        return Answer::Refused(SHORT_WORK);
-    }
-    Answer::Answered(0)
+    parity_game::check_set(n, within)?;
+    parity_game::check_set(n, target)?;
+    parity_game::check_set(n, res)?;
+    parity_game::check_table(n, strategy)?;
+    parity_game::check_table(n, distances)?;
+    parity_game::check_work(n, m, work)
 }

@@ -18,11 +18,15 @@ use Rattle.area.specs.Area.{counters, distances, met_at, free, set_at}
 use Rattle.area.specs.Lent.{back, part_is, part_set, part_length, bit_fits}
 use Rattle.area.specs.Lent.{inserted_long, inserted_rest, inserted_set, inserted_other}
 use Rattle.area.specs.SetsAt.{set_kept}
+use Rattle.attractor_drawing.specs.Drawn.{Plan, inside}
 use Rattle.attractor_counters.specs.Tally.{flag}
 
 -- the vertices of player alpha
 abbrev pub own_by : List ℕ → ℕ → Set
 own_by owners alpha v = eqb (get_or owners v 0) alpha
+
+abbrev pub own_of : Plan → Set
+own_of d = own_by d.owners d.alpha
 
 -- ---- one vertex
 
@@ -69,6 +73,10 @@ module _ (offsets targets : List ℕ) (v : ℕ) (set : List ℕ) (given : EdgesO
 -- a counter at first: how many edges end inside V
 abbrev pub inside_count : List ℕ → List ℕ → Set → ℕ → ℕ
 inside_count offsets targets S v = count_of (targets_of offsets targets v) S
+
+-- those of a drawing, where V is as in a work area
+abbrev pub counts_in : Plan → List ℕ → ℕ → ℕ
+counts_in d work = inside_count d.offsets d.targets (inside d work)
 
 -- the counter of v: its word where v was met, and else what it is at first; 0 past n
 unfoldable pub counter_at : (ℕ → ℕ) → ℕ → ℕ → List ℕ → ℕ → ℕ

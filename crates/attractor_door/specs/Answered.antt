@@ -1,6 +1,6 @@
 -- From the verdict of the checks to what the public attractor promises: a refusal leaves everything, and past the checks all that the
 -- work asks for is there.
-use Rattle.std.specs.Prelude.{List, [], ◌∷◌, ◌≡◌, refl, ℕ, ◌+◌, ◌-◌, ◌≤◌, length, take, drop}
+use Rattle.std.specs.Prelude.{Result, Err, List, [], ◌∷◌, ◌≡◌, refl, ℕ, ◌+◌, ◌-◌, ◌≤◌, length, take, drop}
 use Rattle.std.proofs.Common.{sym, ap, subst, ◌∙◌, arith, length-take}
 use Rattle.rules.specs.Game.{Player}
 use Rattle.rules.specs.Outcome.{Outcome, Verdict, none, refused, outcome, answered, ◌then◌}
@@ -8,6 +8,9 @@ use Rattle.rules.specs.Tables.{Tables, game_of, vertices, edges_in, words, work_
 use Rattle.rules.specs.Attractor.{check12, looks_of}
 use Rattle.parity_game.specs.Laws.{then_none, then_assoc, Numbered, numbered_then, numbered_given_at, numbered_tables, numbered_check9, numbered_check10}
 use Rattle.parity_game.specs.Laws.{check9_set, check9_set_none, check9_table, check9_table_none, check10_none}
+use Rattle.parity_game.specs.declared.refusal.Refusal.{Refusal}
+use Rattle.parity_game.specs.Said.{said, verdict}
+use Rattle.parity_game.specs.Laws.{refused_outcome}
 use Rattle.area.specs.Area.{free}
 use Rattle.area.specs.Regions.{free_words}
 use Rattle.rules.specs.Solver.{cleared}
@@ -53,6 +56,18 @@ attracts_refused t a V' T l o e h =
   where
     refuses : attractor_checks t V' T l ≡ none → ⊥
     refuses z = h (ap (λ (x : Outcome). x.number) (e ∙ ap (λ (v : Verdict). outcome v (answered 0)) z))
+
+-- the same of what the checks refused
+pub attracts_stopped :
+    {t : Tables} {a : Player} {V' T : List ℕ} {l : LentResult} (x : Result ℕ Refusal) (f : Refusal) →
+    x ≡ Err f →
+    verdict (Err f) ≡ attractor_checks t V' T l →
+    Attracts t a V' T l l (said x)
+attracts_stopped {t} {a} {V'} {T} {l} x f gave was =
+    rw gave (record {
+      gives = refused_outcome f (attractor_checks t V' T l) (answered (looks_of (game_of t) (wanted t a V' T))) was;
+      leaves = subst (λ (v : Verdict). AttractorLeaves v t a V' T l l) was refl;
+    })
 
 -- an answer
 pub attracts_answered :

@@ -1,16 +1,16 @@
 // The attractor, on accepted tables: it checks all that it is lent, works in the work area, and writes only when it
 // answers.
 ghost use Rattle.std.specs.Prelude.{◌≡◌, ◌≤◌};
-ghost use Rattle.rules.specs.Outcome.{outcome, answered};
 ghost use Rattle.rules.specs.Tables.{tables_of, Accepted};
-ghost use Rattle.parity_game.specs.Said.{said, is};
+ghost use Rattle.parity_game.specs.Said.{said, verdict, is};
 ghost use Rattle.rules.specs.Attracts.{Attracts};
 ghost use Rattle.attractor_checks.specs.Door.{lent_checks};
 
 use attractor_checks::{check_bits, check_sizes};
-use parity_game::{Answer, Player};
+use parity_game::{Answer, Checked, Player};
 
 // 9, 10 and 12, by the lengths of what is lent.
+#[tactic(auto, using(parity_game::specs::Laws::then_assoc))]
 fn check_lent(
     n: usize,
     m: usize,
@@ -20,14 +20,11 @@ fn check_lent(
     strategy: usize,
     distances: usize,
     work: usize,
-) -> Answer
+) -> Checked
     requires { (n ≤ 4096) × (m ≤ 16384) }
-    ensures { said result
-        ≡ outcome
-        (lent_checks n m within.now target.now res strategy distances work)
-        (answered 0) }
+    ensures { verdict result ≡ lent_checks n m within.now target.now res strategy distances work }
 {
-    let r = check_sizes(
+    check_sizes(
         n,
         m,
         within.len(),
@@ -36,10 +33,7 @@ fn check_lent(
         strategy,
         distances,
         work,
-    );
-    if r.number() != 0 {
-        return r;
-    }
+    )?;
     check_bits(n, within, target)
 }
 
@@ -76,7 +70,7 @@ pub fn attractor(
 {
     let n = owners.len();
     let m = targets.len();
-    let verdict = check_lent(
+    check_lent(
         n,
         m,
         within,
@@ -85,13 +79,10 @@ pub fn attractor(
         strategy.len(),
         distances.len(),
         work.len(),
-    );
-    if verdict.number() != 0 {
-        return verdict;
-    }
+    )?;
     let w = parity_game::work_words(n, m);
     let alpha = player.index();
-    Answer::Answered(attractor_run::run(
+    Ok(attractor_run::run(
         owners,
         offsets,
         targets,

@@ -4,79 +4,77 @@ use Rattle.std.proofs.Common.{inl, inr, ⊎_elim, sym, ap, ap₂, subst, subst�
 use Rattle.std.proofs.Math.Path.{fun_ext}
 use Rattle.rules.specs.Counting.{Set, count}
 use Rattle.rules.specs.Game.{player_of}
-use Rattle.rules.specs.Tables.{game_of, words, targets_of, tables_of}
+use Rattle.rules.specs.Tables.{game_of, words, targets_of}
 use Rattle.theory.specs.Steps.{at_first, Takes}
 use Rattle.area.specs.Area.{distances, entries, layers, layer_words, met_at, set_at}
 use Rattle.area.specs.Lent.{back, back_part}
 use Rattle.layer.specs.Layer.{Layer, Poppable, Popped, in_layer, marks}
-use Rattle.attractor_counters.specs.Counters.{own_by, inside_count}
+use Rattle.attractor_drawing.specs.Drawn.{Plan, inside, tables_with}
+use Rattle.attractor_counters.specs.Counters.{own_of, counts_in}
 use Rattle.attractor_look.specs.State.{State}
 use Rattle.attractor_step.specs.Taking.{Standing, growing}
 use Rattle.attractor_step.specs.Layers.{taken_of, LayersApart, Layered}
-use Rattle.attractor_look.specs.InArea.{cells, layer_at, state_at}
+use Rattle.attractor_look.specs.InArea.{cells, layer_at, state_in}
 use Rattle.attractor_look.specs.InAreaLaws.{Changes, back_changes, changes_cells}
 use Rattle.attractor_look.specs.InAreaLaws.{changes_set, changes_layer, changes_counter, state_alike, layer_part, layer_long}
-use Rattle.attractor_word.specs.Attracted.{Attractable}
-use Rattle.attractor_word.specs.Going.{Going, now_at, taken_in, taken_at, this_low, this_high, layers_apart}
+use Rattle.attractor_word.specs.Going.{Drawable, Going, now_at, taken_in, taken_at, this_low, this_high, layers_apart}
 use Rattle.attractor_word.specs.OneWord.{From, Stands, Wordable, TookWord, with_word, left_none}
 use Rattle.attractor_layer.specs.OneLayer.{LayerStands, layer_fits}
 
-module _ {owners offsets targets : List ℕ} {alpha within set this next far : ℕ} {before : List ℕ} {sofar taken₀ looks : ℕ}
-    {after : List ℕ}
-    (l : LayerStands owners offsets targets alpha within set this next far before sofar taken₀ looks after) where
+module _ {d : Plan} {this next far : ℕ} {before : List ℕ} {sofar taken₀ looks : ℕ} {after : List ℕ}
+    (l : LayerStands d this next far before sofar taken₀ looks after) where
   abbrev n : ℕ
-  n = length owners
+  n = length d.owners
 
   abbrev m : ℕ
-  m = length targets
+  m = length d.targets
 
   abbrev V' : Set
-  V' = set_at n within before
+  V' = inside d before
 
   abbrev T : Set
-  T = set_at n set before
+  T = set_at n d.set before
 
   abbrev own : Set
-  own = own_by owners alpha
+  own = own_of d
 
   abbrev counts : ℕ → ℕ
-  counts = inside_count offsets targets V'
+  counts = counts_in d before
 
   abbrev entry : ℕ → ℕ
   entry = cells n (entries n m) before
 
-  abbrev given : Attractable owners offsets targets alpha within set before
+  abbrev given : Drawable d before
   given = l.given
 
   -- the looks of all layers
   abbrev all : ℕ
   all = sofar + looks
 
-  abbrev c : Going owners offsets targets alpha within set before this next far all (now_at n this after) after
+  abbrev c : Going d before this next far all (now_at n this after) after
   c = l.going
 
   abbrev state : State
-  state = state_at counts n m set next after
+  state = state_in d before next after
 
   abbrev now : Set
   now = now_at n this after
 
   abbrev taken : Set
-  taken = taken_at n set this next after
+  taken = taken_at n d.set this next after
 
   fits : this + layer_words n ≤ length after
   fits = layer_fits given c
 
   low_this : layers n m ≤ this
-  low_this = this_low owners offsets targets alpha within set before given this next far all now after c
+  low_this = this_low given c
 
   high_this : this + layer_words n ≤ met_at n m
-  high_this = this_high owners offsets targets alpha within set before given this next far all now after c
+  high_this = this_high given c
 
   next_apart : (next + layer_words n ≤ this) ⊎ (this + layer_words n ≤ next)
   next_apart =
-      ⊎_elim (λ h. inr h) (λ h. inl h)
-      (layers_apart owners offsets targets alpha within set before given this next far all now after c)
+      ⊎_elim (λ h. inr h) (λ h. inl h) (layers_apart given c)
 
   -- the lowest word of the layer is popped
   module _ {s : ℕ} (size : s ≡ words n) (more : marks (layer_at n this after) ≡ 0 → ⊥) {end : ℕ}
@@ -113,10 +111,10 @@ module _ {owners offsets targets : List ℕ} {alpha within set this next far : �
       mid_next : layer_at n next mid ≡ layer_at n next after
       mid_next = changes_layer mid_changes n next next_apart
 
-      mid_state : state_at counts n m set next mid ≡ state
+      mid_state : state_in d before next mid ≡ state
       mid_state =
           state_alike
-          (changes_set mid_changes n set (inr (omega (arith, high_this, given.placed.set_low))))
+          (changes_set mid_changes n d.set (inr (omega (arith, high_this, given.placed.set_low))))
           (changes_counter mid_changes counts n m (inl (omega (arith, low_this))) (inr high_this))
           (changes_cells mid_changes n (distances n m) (inl (omega (arith, low_this))))
           (changes_cells mid_changes n (entries n m) (inl (omega (arith, low_this))))
@@ -126,14 +124,13 @@ module _ {owners offsets targets : List ℕ} {alpha within set this next far : �
       mid_left : now ≡ with_word at word (now_at n this mid)
       mid_left = fun_ext popped.set ∙ ap (λ (xs : List ℕ). with_word at word (in_layer xs)) (sym mid_layer)
 
-      mid_taken : taken_in n set next (with_word at word (now_at n this mid)) mid ≡ taken
+      mid_taken : taken_in n d.set next (with_word at word (now_at n this mid)) mid ≡ taken
       mid_taken = ap₂ taken_of (sym mid_left) mid_state
 
       abbrev from : From
       from = record { before = before; this = this; looks = all; taken = count n taken }
 
-      mid_going : Going owners offsets targets alpha within set before this next far all (with_word at word (now_at n this mid))
-          mid
+      mid_going : Going d before this next far all (with_word at word (now_at n this mid)) mid
       mid_going =
           record {
             long = mid_changes.long ∙ c.long;
@@ -145,25 +142,25 @@ module _ {owners offsets targets : List ℕ} {alpha within set this next far : �
             parts = moved (λ (N : Set) (x : State). LayersApart N x) c.parts;
             stands =
                 moved
-                (λ (N : Set) (x : State). Standing n (targets_of offsets targets) V' T own (taken_of N x) x) c.stands;
+                (λ (N : Set) (x : State). Standing n (targets_of d.offsets d.targets) V' T own (taken_of N x) x) c.stands;
             few = moved (λ (N : Set) (x : State). all ≤ 16384 * count n (taken_of N x)) c.few;
             far_some = c.far_some;
             run =
                 λ priorities ok.
-                let g = game_of (tables_of owners priorities offsets targets) in
-                let a = player_of alpha in
+                let g = game_of (tables_with d priorities) in
+                let a = player_of d.alpha in
                 moved
                 (λ (N : Set) (x : State).
                 Takes g a V' (at_first T) (growing (taken_of N x) all x) × Layered g a V' T own entry (far - 1) N x)
                 (c.run priorities ok);
           }
         where
-          moved : (P : Set → State → Type 0) → P now state → P (with_word at word (now_at n this mid)) (state_at counts n m set
-              next mid)
+          moved :
+              (P : Set → State → Type 0) → P now state → P (with_word at word (now_at n this mid)) (state_in d before next mid)
           moved P p = subst₂ P mid_left (sym mid_state) p
 
       -- **the members of the word may be taken**
-      word_stands : Stands owners offsets targets alpha within set next at far from word 0 mid
+      word_stands : Stands d next at far from word 0 mid
       word_stands =
           record {
             given = given;
@@ -171,33 +168,33 @@ module _ {owners offsets targets : List ℕ} {alpha within set this next far : �
             going =
                 subst
                 (λ (k : ℕ).
-                Going owners offsets targets alpha within set before this next far k (with_word at word (now_at n this mid)) mid)
+                Going d before this next far k (with_word at word (now_at n this mid)) mid)
                 (sym (add-zero all)) mid_going;
             never_less = subst (λ (S : Set). count n taken ≤ count n S) (sym mid_taken) (le_refl (count n taken));
             grown = λ z. absurd (popped.some z);
           }
 
-      pub take_word_ready : Wordable owners offsets targets s alpha within set next at word far mid
-      take_word_ready = record { size = size; small = popped.small; from = from; stands = word_stands }
+      pub take_word_ready : Wordable d next at word far mid
+      take_word_ready = record { small = popped.small; from = from; stands = word_stands }
 
       -- all of them were taken
       module _ {fin : List ℕ} {met : ℕ}
-          (took : TookWord owners offsets targets alpha within set next at word far mid 0 met fin) where
-        stands_then : Stands owners offsets targets alpha within set next at far from 0 met fin
+          (took : TookWord d next at word far mid 0 met fin) where
+        stands_then : Stands d next at far from 0 met fin
         stands_then = took from word_stands
 
-        going_word : Going owners offsets targets alpha within set before this next far (sofar + (looks + met)) (now_at n this fin) fin
+        going_word : Going d before this next far (sofar + (looks + met)) (now_at n this fin) fin
         going_word =
-            subst₂ (λ (k : ℕ) (N : Set). Going owners offsets targets alpha within set before this next far k N fin)
+            subst₂ (λ (k : ℕ) (N : Set). Going d before this next far k N fin)
             (add_assoc sofar looks met) (left_none at (now_at n this fin)) stands_then.going
 
-        pub word_grows : count n taken < count n (taken_at n set this next fin)
+        pub word_grows : count n taken < count n (taken_at n d.set this next fin)
         word_grows =
-            subst (λ (N : Set). count n taken < count n (taken_in n set next N fin)) (left_none at (now_at n this fin))
+            subst (λ (N : Set). count n taken < count n (taken_in n d.set next N fin)) (left_none at (now_at n this fin))
             (stands_then.grown refl)
 
         -- **what held before the word was popped holds again**
-        pub word_taken : LayerStands owners offsets targets alpha within set this next far before sofar taken₀ (looks + met) fin
+        pub word_taken : LayerStands d this next far before sofar taken₀ (looks + met) fin
         word_taken =
             record {
               given = given;

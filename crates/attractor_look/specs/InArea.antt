@@ -5,7 +5,8 @@ use Rattle.basics.specs.Frame.{Beside}
 use Rattle.predecessors.specs.Table.{SoundEdges}
 use Rattle.area.specs.Area.{counters, distances, entries, layers, layer_words, met_at, free, set_at}
 use Rattle.layer.specs.Layer.{Layer, in_layer}
-use Rattle.attractor_counters.specs.Counters.{own_by, inside_count, counter_at}
+use Rattle.attractor_drawing.specs.Drawn.{Plan, inside}
+use Rattle.attractor_counters.specs.Counters.{own_of, counter_at, counts_in}
 use Rattle.attractor_look.specs.State.{State}
 use Rattle.attractor_look.specs.Looks.{Safe}
 
@@ -60,21 +61,23 @@ pub record Becomes (first : ℕ → ℕ) (n m set next : ℕ) (f : State → Sta
   pub state : state_at first n m set next after ≡ f (state_at first n m set next before)
   pub layer : Layer (layer_at n next before) → Layer (layer_at n next after)
 
+-- both over the work area of a drawing, where the counters of those not met yet are by V as it was before
+abbrev pub state_in : Plan → List ℕ → ℕ → List ℕ → State
+state_in d before next after = state_at (counts_in d before) (length d.owners) (length d.targets) d.set next after
+
+abbrev pub Makes : (ℕ → ℕ) → Plan → ℕ → (State → State) → List ℕ → List ℕ → Type 0
+Makes first d next f before after = Becomes first (length d.owners) (length d.targets) d.set next f before after
+
 -- what `join` asks for
-pub record Joinable (n m s set next : ℕ) (work : List ℕ) (v : ℕ) : Type 0 where
-  pub size : s ≡ words n
-  pub room : SetRoom n m set next work
-  pub layer : Layer (layer_at n next work)
-  pub small : v < n
+pub record Joinable (d : Plan) (next : ℕ) (work : List ℕ) (v : ℕ) : Type 0 where
+  pub room : SetRoom (length d.owners) (length d.targets) d.set next work
+  pub layer : Layer (layer_at (length d.owners) next work)
+  pub small : v < length d.owners
 
 -- what `touch` asks for
-pub record Touchable (owners offsets targets : List ℕ) (s alpha within set next : ℕ) (work : List ℕ) (v : ℕ) : Type 0 where
-  pub size : s ≡ words (length owners)
-  pub edges : SoundEdges (length owners) offsets targets
-  pub placed : SetsPlaced (length owners) (length targets) within set work
-  pub room : SetRoom (length owners) (length targets) set next work
-  pub layer : Layer (layer_at (length owners) next work)
-  pub safe :
-      let n = length owners in
-      Safe n (set_at n within work) (own_by owners alpha)
-      (state_at (inside_count offsets targets (set_at n within work)) n (length targets) set next work) v
+pub record Touchable (d : Plan) (next : ℕ) (work : List ℕ) (v : ℕ) : Type 0 where
+  pub edges : SoundEdges (length d.owners) d.offsets d.targets
+  pub placed : SetsPlaced (length d.owners) (length d.targets) d.within d.set work
+  pub room : SetRoom (length d.owners) (length d.targets) d.set next work
+  pub layer : Layer (layer_at (length d.owners) next work)
+  pub safe : Safe (length d.owners) (inside d work) (own_of d) (state_in d work next work) v

@@ -26,7 +26,7 @@ pub fn write_distances(target: &[u64], res: &[u64], work: &[u64], far: usize, di
         ≡ listed (length distances.old)
         (measure target.now res.now (word_of work.now far)) }
 {
-    for v in 0..distances.len() {
-        distances[v] = distance_entry(target, res, work, far, v);
+    for (v, distance) in distances.iter_mut().enumerate() {
+        *distance = distance_entry(target, res, work, far, v);
     }
 }

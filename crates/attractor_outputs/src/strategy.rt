@@ -47,7 +47,7 @@ pub fn write_strategy(
         (chosen owners.now alpha target.now res.now
         (word_of work.now entries)) }
 {
-    for v in 0..owners.len() {
-        strategy[v] = strategy_entry(owners, alpha, target, res, work, entries, v);
+    for (v, entry) in strategy.iter_mut().enumerate() {
+        *entry = strategy_entry(owners, alpha, target, res, work, entries, v);
     }
 }

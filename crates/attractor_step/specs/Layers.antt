@@ -1,6 +1,6 @@
 -- Layer by layer: while the members of distance d are taken in rising order, whoever comes in has distance d + 1 and, where it
 -- is own, the rules' entry.
-use Rattle.std.specs.Prelude.{Bool, true, false, ◌&&◌, ◌||◌, not, cond, List, ◌⊎◌, ◌≡◌, refl, ℕ, suc, ◌≤◌, ◌<◌, eqb}
+use Rattle.std.specs.Prelude.{Bool, true, false, ◌&&◌, ◌||◌, not, cond, List, ◌≡◌, refl, ℕ, suc, ◌≤◌, ◌<◌, eqb}
 use Rattle.std.proofs.Math.Bool.{or-false}
 use Rattle.std.proofs.Common.{⊎_elim, sym, ap, ap₂, ◌∙◌, arith, eq-eqb, ne_eqb, eqb-true}
 use Rattle.std.proofs.Math.Decide.{ℕ_discrete}

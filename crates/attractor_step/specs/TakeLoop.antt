@@ -4,55 +4,48 @@ use Rattle.std.proofs.Common.{sym, ap, subst, ◌∙◌, inl, le_refl, arith, le
 use Rattle.std.proofs.Math.Nat.{sub_self}
 use Rattle.rules.specs.Counting.{Set}
 use Rattle.rules.specs.Game.{Player, Game, same}
-use Rattle.rules.specs.Tables.{words}
 use Rattle.theory.specs.Steps.{TakesOne}
 use Rattle.predecessors.specs.Table.{start, row, SoundEdges}
-use Rattle.area.specs.Area.{set_at}
 use Rattle.layer.specs.Layer.{Layer}
-use Rattle.attractor_counters.specs.Counters.{own_by, inside_count}
+use Rattle.attractor_drawing.specs.Drawn.{Plan, inside}
+use Rattle.attractor_counters.specs.Counters.{own_of, inside_count, counts_in}
 use Rattle.attractor_look.specs.State.{State, touched, looked, looked_none, looked_more}
 use Rattle.attractor_look.specs.Looks.{Safe}
 use Rattle.attractor_step.specs.Taking.{Standing, TakeReady, and_one, growing, taking_step}
-use Rattle.attractor_look.specs.InArea.{layer_at, state_at, SetsPlaced, SetRoom, Becomes, Touchable}
+use Rattle.attractor_look.specs.InArea.{layer_at, state_at, state_in, SetsPlaced, SetRoom, Makes, Touchable}
 use Rattle.attractor_look.specs.InAreaLaws.{kept_set, kept_placed, kept_room_lem, becomes_same, becomes_then, becomes_as}
 
 -- what `take` asks for: the row of w lies in the table, and each look along it is safe
-pub record Takeable (owners offsets targets : List ℕ) (s alpha within set next : ℕ) (work : List ℕ) (w far : ℕ) : Type 0 where
-  pub size : s ≡ words (length owners)
-  pub edges : SoundEdges (length owners) offsets targets
-  pub placed : SetsPlaced (length owners) (length targets) within set work
-  pub room : SetRoom (length owners) (length targets) set next work
-  pub layer : Layer (layer_at (length owners) next work)
-  pub small : w < length owners
+pub record Takeable (d : Plan) (next : ℕ) (work : List ℕ) (w far : ℕ) : Type 0 where
+  pub edges : SoundEdges (length d.owners) d.offsets d.targets
+  pub placed : SetsPlaced (length d.owners) (length d.targets) d.within d.set work
+  pub room : SetRoom (length d.owners) (length d.targets) d.set next work
+  pub layer : Layer (layer_at (length d.owners) next work)
+  pub small : w < length d.owners
   pub rising : start work w ≤ start work (w + 1)
-  pub top : start work (w + 1) ≤ length targets
+  pub top : start work (w + 1) ≤ length d.targets
   pub safe :
-      let n = length owners in
+      let n = length d.owners in
       (k : ℕ) →
       k < length (row n work w) →
-      Safe n (set_at n within work) (own_by owners alpha)
-      (looked (set_at n within work) (own_by owners alpha) w far (take k (row n work w))
-      (state_at (inside_count offsets targets (set_at n within work)) n (length targets) set next work))
+      Safe n (inside d work) (own_of d)
+      (looked (inside d work) (own_of d) w far (take k (row n work w)) (state_in d work next work))
       (get_or (row n work w) k 0)
 
 -- what `take` leaves: the looks along the row were made; and in a game whose predecessor entries of w are that row, with w a
 -- member not yet taken, this is one of the rules' steps, the entries it meets included
-pub record Took (owners offsets targets : List ℕ) (alpha within set next w far : ℕ) (before after : List ℕ) : Type 0 where
+pub record Took (d : Plan) (next w far : ℕ) (before after : List ℕ) : Type 0 where
   pub becomes :
-      let n = length owners in
-      Becomes (inside_count offsets targets (set_at n within before)) n (length targets) set next
-      (looked (set_at n within before) (own_by owners alpha) w far (row n before w))
-      before after
+      Makes (counts_in d before) d next (looked (inside d before) (own_of d) w far (row (length d.owners) before w)) before after
   pub step :
-      let n = length owners in
-      let state = state_at (inside_count offsets targets (set_at n within before)) n (length targets) set next in
+      let here = row (length d.owners) before w in
+      let state = state_in d before next in
       (g : Game) (a : Player) (T taken : Set) (looks : ℕ) →
-      ((v : ℕ) → own_by owners alpha v ≡ same (g.owner v) a) →
-      Standing g.size g.targets (set_at n within before) T (own_by owners alpha) taken (state before) →
-      TakeReady g.size g.targets taken w (row n before w) (state before) →
-      TakesOne g a (set_at n within before)
-      (growing taken looks (state before))
-      (growing (and_one w taken) (looks + length (row n before w)) (state after))
+      ((v : ℕ) → own_of d v ≡ same (g.owner v) a) →
+      Standing g.size g.targets (inside d before) T (own_of d) taken (state before) →
+      TakeReady g.size g.targets taken w here (state before) →
+      TakesOne g a (inside d before) (growing taken looks (state before))
+      (growing (and_one w taken) (looks + length here) (state after))
 
 -- ---- rows
 
@@ -71,38 +64,35 @@ row_at n w k work h l =
 -- ---- the loop
 
 -- the looks up to entry e were made
-pub record Looking (owners offsets targets : List ℕ) (alpha within set next w far : ℕ) (before : List ℕ) (e : ℕ)
-    (after : List ℕ) : Type 0 where
+pub record Looking (d : Plan) (next w far : ℕ) (before : List ℕ) (e : ℕ) (after : List ℕ) : Type 0 where
   pub low : start before w ≤ e
   pub high : e ≤ start before (w + 1)
   pub becomes :
-      let n = length owners in
-      Becomes (inside_count offsets targets (set_at n within before)) n (length targets) set next
-      (looked (set_at n within before) (own_by owners alpha) w far (take (e - start before w) (row n before w)))
+      Makes (counts_in d before) d next
+      (looked (inside d before) (own_of d) w far (take (e - start before w) (row (length d.owners) before w)))
       before after
 
-module _ (owners offsets targets : List ℕ) (s alpha within set next w far : ℕ) (before : List ℕ)
-    (given : Takeable owners offsets targets s alpha within set next before w far) where
+module _ (d : Plan) (next w far : ℕ) (before : List ℕ) (given : Takeable d next before w far) where
   abbrev n : ℕ
-  n = length owners
+  n = length d.owners
 
   abbrev m : ℕ
-  m = length targets
+  m = length d.targets
 
   abbrev V' : Set
-  V' = set_at n within before
+  V' = inside d before
 
   abbrev own : Set
-  own = own_by owners alpha
+  own = own_of d
 
   abbrev counts : ℕ → ℕ
-  counts = inside_count offsets targets V'
+  counts = counts_in d before
 
   abbrev here : List ℕ
   here = row n before w
 
   abbrev Looks : ℕ → List ℕ → Type 0
-  Looks e after = Looking owners offsets targets alpha within set next w far before e after
+  Looks e after = Looking d next w far before e after
 
   -- the row lies before the counters, and so in the work area
   row_fits : n + 1 + start before (w + 1) ≤ length before
@@ -116,9 +106,9 @@ module _ (owners offsets targets : List ℕ) (s alpha within set next w far : �
         becomes =
             becomes_as
             (looked V' own w far (take (start before w - start before w) here))
-            (becomes_same counts n m set next before)
-            (ap (λ (k : ℕ). looked V' own w far (take k here) (state_at counts n m set next before)) (sub_self (start before w)) ∙
-            looked_none V' own w far (state_at counts n m set next before));
+            (becomes_same counts n m d.set next before)
+            (ap (λ (k : ℕ). looked V' own w far (take k here) (state_in d before next before)) (sub_self (start before w)) ∙
+            looked_none V' own w far (state_in d before next before));
       }
 
   module _ (e : ℕ) (after : List ℕ) (l : Looks e after) (more : e < start before (w + 1)) where
@@ -135,13 +125,12 @@ module _ (owners offsets targets : List ℕ) (s alpha within set next w far : �
         at : n + 1 + e ≡ n + 1 + start before w + (e - start before w)
         at = omega (arith, l.low)
 
-    same_inside : set_at n within after ≡ V'
-    same_inside = kept_set n m within set next before after given.placed given.room l.becomes.kept
+    same_inside : inside d after ≡ V'
+    same_inside = kept_set n m d.within d.set next before after given.placed given.room l.becomes.kept
 
-    pub look_ready : Touchable owners offsets targets s alpha within set next after (get_or after (n + 1 + e) 0)
+    pub look_ready : Touchable d next after (get_or after (n + 1 + e) 0)
     look_ready =
         record {
-          size = given.size;
           edges = given.edges;
           placed = kept_placed l.becomes.kept given.placed;
           room = kept_room_lem l.becomes.kept given.room;
@@ -149,12 +138,11 @@ module _ (owners offsets targets : List ℕ) (s alpha within set next w far : �
           safe =
               subst
               (λ (v : ℕ).
-              Safe n (set_at n within after) own
-              (state_at (inside_count offsets targets (set_at n within after)) n m set next after) v)
+              Safe n (inside d after) own (state_in d after next after) v)
               (sym entry_read)
               (subst
               (λ (S : Set).
-              Safe n S own (state_at (inside_count offsets targets S) n m set next after) (get_or here (e - start before w) 0))
+              Safe n S own (state_at (inside_count d.offsets d.targets S) n m d.set next after) (get_or here (e - start before w) 0))
               (sym same_inside)
               (subst
               (λ (t : State). Safe n V' own t (get_or here (e - start before w) 0))
@@ -165,9 +153,7 @@ module _ (owners offsets targets : List ℕ) (s alpha within set next w far : �
     -- one look more
     pub looking_more :
         (after' : List ℕ) →
-        Becomes (inside_count offsets targets (set_at n within after)) n m set next
-        (touched (set_at n within after) own w far (get_or after (n + 1 + e) 0))
-        after after' →
+        Makes (counts_in d after) d next (touched (inside d after) own w far (get_or after (n + 1 + e) 0)) after after' →
         Looks (e + 1) after'
     looking_more after' b =
         record {
@@ -180,30 +166,30 @@ module _ (owners offsets targets : List ℕ) (s alpha within set next w far : �
         one_more : e + 1 - start before w ≡ suc (e - start before w)
         one_more = omega (arith, l.low)
 
-        here_becomes : Becomes counts n m set next (touched V' own w far (get_or after (n + 1 + e) 0)) after after'
+        here_becomes : Makes counts d next (touched V' own w far (get_or after (n + 1 + e) 0)) after after'
         here_becomes =
             subst
             (λ (S : Set).
-            Becomes (inside_count offsets targets S) n m set next (touched S own w far (get_or after (n + 1 + e) 0)) after after')
+            Makes (inside_count d.offsets d.targets S) d next (touched S own w far (get_or after (n + 1 + e) 0)) after after')
             same_inside b
 
         same_looks :
-            looked V' own w far (take (e + 1 - start before w) here) (state_at counts n m set next before) ≡
+            looked V' own w far (take (e + 1 - start before w) here) (state_in d before next before) ≡
             touched V' own w far (get_or after (n + 1 + e) 0)
-            (looked V' own w far (take (e - start before w) here) (state_at counts n m set next before))
+            (looked V' own w far (take (e - start before w) here) (state_in d before next before))
         same_looks =
-            let t = looked V' own w far (take (e - start before w) here) (state_at counts n m set next before) in
-            ap (λ (k : ℕ). looked V' own w far (take k here) (state_at counts n m set next before)) one_more ∙
+            let t = looked V' own w far (take (e - start before w) here) (state_in d before next before) in
+            ap (λ (k : ℕ). looked V' own w far (take k here) (state_in d before next before)) one_more ∙
             ap
-            (λ (vs : List ℕ). looked V' own w far vs (state_at counts n m set next before))
+            (λ (vs : List ℕ). looked V' own w far vs (state_in d before next before))
             (take-suc here (e - start before w) 0 short) ∙
             looked_more V' own w far (get_or here (e - start before w) 0) (take (e - start before w) here)
-            (state_at counts n m set next before) ∙
+            (state_in d before next before) ∙
             ap (λ (v : ℕ). touched V' own w far v t) (sym entry_read)
 
   -- all looks were made
   pub looking_all : (e : ℕ) (after : List ℕ) → Looks e after → start before (w + 1) ≤ e →
-      Took owners offsets targets alpha within set next w far before after
+      Took d next w far before after
   looking_all e after l done =
       record {
         becomes = all;
@@ -211,15 +197,15 @@ module _ (owners offsets targets : List ℕ) (s alpha within set next w far : �
             λ g a T taken looks owned st ready.
             subst
             (λ (t : State).
-            TakesOne g a V' (growing taken looks (state_at counts n m set next before))
+            TakesOne g a V' (growing taken looks (state_in d before next before))
             (growing (and_one w taken) (looks + length here) t))
             (sym all.state)
-            (taking_step g a V' T own owned taken looks w far here (state_at counts n m set next before) st ready);
+            (taking_step g a V' T own owned taken looks w far here (state_in d before next before) st ready);
       }
     where
-      all : Becomes counts n m set next (looked V' own w far here) before after
+      all : Makes counts d next (looked V' own w far here) before after
       all =
           becomes_as (looked V' own w far here) l.becomes
           (ap
-          (λ (vs : List ℕ). looked V' own w far vs (state_at counts n m set next before))
+          (λ (vs : List ℕ). looked V' own w far vs (state_in d before next before))
           (sym (take_all (e - start before w) here (omega (arith, row_length n w before row_fits, l.low)))))

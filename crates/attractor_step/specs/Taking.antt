@@ -1,6 +1,6 @@
 -- Taking a member is one of the rules' steps: from a state in which some members are taken, the looks along the row of one more
 -- lead to one in which it is taken too.
-use Rattle.std.specs.Prelude.{true, false, ◌&&◌, ◌||◌, ◌⊎◌, ◌≡◌, refl, ℕ, ◌+◌, ◌≤◌, ◌<◌, eqb, length, get_or, take}
+use Rattle.std.specs.Prelude.{true, false, ◌&&◌, ◌||◌, ◌≡◌, refl, ℕ, ◌+◌, ◌≤◌, ◌<◌, eqb, length, get_or, take}
 use mathlib.Core.List.{List, Memᴰ}
 use Rattle.std.proofs.Common.{⊎_elim, sym, ap, subst, ◌∙◌, arith, eq-eqb, eqb-true}
 use Rattle.std.proofs.Math.Path.{fun_ext}

@@ -4,15 +4,14 @@ use Rattle.std.specs.Prelude.{Bool, true, false, ◌||◌, List, ◌≡◌, ℕ,
 use Rattle.std.proofs.Common.{⊎_elim, sym, ap, ap₂, subst, ◌∙◌, add_assoc, arith, eqb-true}
 use Rattle.std.proofs.Math.Path.{fun_ext}
 use Rattle.rules.specs.Counting.{Set, count}
-use Rattle.rules.specs.Tables.{words}
 use Rattle.basics.specs.Basics.{bool_cases, not_true_is_false, or_left}
 use Rattle.predecessors.specs.Table.{start}
 use Rattle.layer.specs.Layer.{in_layer}
 use Rattle.layer.specs.Lowest.{others, lowest_of, lowest_small, in_word, word_none, first_member, first_lowest, first_gone}
 use Rattle.attractor_step.specs.Layers.{but_one}
 use Rattle.attractor_step.specs.TakeLoop.{Takeable, Took}
-use Rattle.attractor_word.specs.Attracted.{Attractable}
-use Rattle.attractor_word.specs.Going.{Going, now_at, taken_in, next_fits, row_rises, looks_few, take_ready}
+use Rattle.attractor_drawing.specs.Drawn.{Plan}
+use Rattle.attractor_word.specs.Going.{Drawable, Going, now_at, taken_in, next_fits, row_rises, looks_few, take_ready}
 use Rattle.attractor_word.specs.Going.{fin_layer, taken_grows, going_more}
 
 -- a run where a word was popped: the work area as it was lent, this layer's place, the looks made and how many were taken
@@ -27,45 +26,41 @@ abbrev pub with_word : ℕ → ℕ → Set → Set
 with_word at rest now u = in_word at rest u || now u
 
 -- of word `at` the members of `rest` are left, and what stands in the layer is higher; where none is left, one was taken
-pub record Stands (owners offsets targets : List ℕ) (alpha within set next at far : ℕ) (from : From) (rest looks : ℕ)
-    (work : List ℕ) : Type 0 where
-  pub given : Attractable owners offsets targets alpha within set from.before
-  pub higher : (u : ℕ) → now_at (length owners) from.this work u ≡ true → 64 * at + 64 ≤ u
+pub record Stands (d : Plan) (next at far : ℕ) (from : From) (rest looks : ℕ) (work : List ℕ) : Type 0 where
+  pub given : Drawable d from.before
+  pub higher : (u : ℕ) → now_at (length d.owners) from.this work u ≡ true → 64 * at + 64 ≤ u
   pub going :
-      Going owners offsets targets alpha within set from.before from.this next far (from.looks + looks)
-      (with_word at rest (now_at (length owners) from.this work)) work
+      Going d from.before from.this next far (from.looks + looks)
+      (with_word at rest (now_at (length d.owners) from.this work)) work
   pub never_less :
-      let n = length owners in
-      from.taken ≤ count n (taken_in n set next (with_word at rest (now_at n from.this work)) work)
+      let n = length d.owners in
+      from.taken ≤ count n (taken_in n d.set next (with_word at rest (now_at n from.this work)) work)
   pub grown :
-      let n = length owners in
-      rest ≡ 0 → from.taken < count n (taken_in n set next (with_word at rest (now_at n from.this work)) work)
+      let n = length d.owners in
+      rest ≡ 0 → from.taken < count n (taken_in n d.set next (with_word at rest (now_at n from.this work)) work)
 
 -- what `take_word` asks for
-pub record Wordable (owners offsets targets : List ℕ) (s alpha within set next at word far : ℕ) (work : List ℕ) : Type 0 where
-  pub size : s ≡ words (length owners)
+pub record Wordable (d : Plan) (next at word far : ℕ) (work : List ℕ) : Type 0 where
   pub small : at < 64
   pub from : From
-  pub stands : Stands owners offsets targets alpha within set next at far from word 0 work
+  pub stands : Stands d next at far from word 0 work
 
 -- from each run that was where the word was popped, `rest` of it is left
-abbrev pub TookWord : List ℕ → List ℕ → List ℕ → ℕ → ℕ → ℕ → ℕ → ℕ → ℕ → ℕ → List ℕ → ℕ → ℕ → List ℕ → Type 0
-TookWord owners offsets targets alpha within set next at word far before rest looks after =
+abbrev pub TookWord : Plan → ℕ → ℕ → ℕ → ℕ → List ℕ → ℕ → ℕ → List ℕ → Type 0
+TookWord d next at word far before rest looks after =
     (from : From) →
-    Stands owners offsets targets alpha within set next at far from word 0 before →
-    Stands owners offsets targets alpha within set next at far from rest looks after
+    Stands d next at far from word 0 before →
+    Stands d next at far from rest looks after
 
 -- before each member of the word
-pub record Taking (owners offsets targets : List ℕ) (alpha within set next at word far : ℕ) (before : List ℕ) (rest looks : ℕ)
-    (after : List ℕ) : Type 0 where
+pub record Taking (d : Plan) (next at word far : ℕ) (before : List ℕ) (rest looks : ℕ) (after : List ℕ) : Type 0 where
   pub fits : rest < 2 ^ 64
-  pub took : TookWord owners offsets targets alpha within set next at word far before rest looks after
+  pub took : TookWord d next at word far before rest looks after
 
-module _ (owners offsets targets : List ℕ) (alpha within set next at far : ℕ) (from : From) (rest looks : ℕ) (work : List ℕ)
-    (c : Stands owners offsets targets alpha within set next at far from rest looks work)
-    (fits : rest < 2 ^ 64) (some : rest ≡ 0 → ⊥) where
+module _ {d : Plan} {next at far : ℕ} {from : From} {rest looks : ℕ} {work : List ℕ}
+    (c : Stands d next at far from rest looks work) (fits : rest < 2 ^ 64) (some : rest ≡ 0 → ⊥) where
   abbrev n : ℕ
-  n = length owners
+  n = length d.owners
 
   abbrev standing : Set
   standing = now_at n from.this work
@@ -91,35 +86,26 @@ module _ (owners offsets targets : List ℕ) (alpha within set next at far : ℕ
   lowest u l = ap₂ (λ (x y : Bool). x || y) (first_lowest at rest fits some u l) (not_standing u (omega (arith, w_small)))
 
   pub word_fits : w + 1 < length work
-  word_fits =
-      next_fits owners offsets targets alpha within set from.before c.given from.this next far (from.looks + looks)
-      left work c.going w here
+  word_fits = next_fits c.given c.going w here
 
   pub word_rises : start work w ≤ start work (w + 1)
-  word_rises =
-      row_rises owners offsets targets alpha within set from.before c.given from.this next far (from.looks + looks)
-      left work c.going w here
+  word_rises = row_rises c.given c.going w here
 
   pub word_few : from.looks + looks + (start work (w + 1) - start work w) ≤ 67125248
-  word_few =
-      looks_few owners offsets targets alpha within set from.before c.given from.this next far (from.looks + looks)
-      left work c.going w here
+  word_few = looks_few c.given c.going w here
 
-  pub word_ready : (s : ℕ) → s ≡ words n → Takeable owners offsets targets s alpha within set next work w far
-  word_ready =
-      take_ready owners offsets targets alpha within set from.before c.given from.this next far (from.looks + looks)
-      left work c.going w here
+  pub word_ready : Takeable d next work w far
+  word_ready = take_ready c.given c.going w here
 
   -- the lowest member was taken
-  module _ (fin : List ℕ) (took : Took owners offsets targets alpha within set next w far work fin) where
+  module _ (fin : List ℕ) (took : Took d next w far work fin) where
     abbrev more : ℕ
     more = start work (w + 1) - start work w
 
     same_standing : now_at n from.this fin ≡ standing
     same_standing =
         ap in_layer
-        (fin_layer owners offsets targets alpha within set from.before c.given from.this next far (from.looks + looks)
-        left work c.going w here lowest fin took)
+        (fin_layer c.given c.going w here lowest fin took)
 
     left_then : but_one w left ≡ with_word at (others rest) (now_at n from.this fin)
     left_then =
@@ -136,7 +122,7 @@ module _ (owners offsets targets : List ℕ) (alpha within set next at far : ℕ
         other u e = let gone = first_gone at rest fits some u in rw (gone, e)
 
     -- the same holds with one member fewer
-    pub word_more : Stands owners offsets targets alpha within set next at far from (others rest) (looks + more) fin
+    pub word_more : Stands d next at far from (others rest) (looks + more) fin
     word_more =
         record {
           given = c.given;
@@ -146,25 +132,19 @@ module _ (owners offsets targets : List ℕ) (alpha within set next at far : ℕ
           grown = λ z. omega (arith, c.never_less, grows);
         }
       where
-        going_then : Going owners offsets targets alpha within set from.before from.this next far (from.looks + (looks
-            + more)) (with_word at (others rest) (now_at n from.this fin)) fin
+        going_then :
+            Going d from.before from.this next far (from.looks + (looks + more))
+            (with_word at (others rest) (now_at n from.this fin)) fin
         going_then =
-            subst
-            (λ (N : Set).
-            Going owners offsets targets alpha within set from.before from.this next far (from.looks + (looks + more)) N fin)
-            left_then
-            (subst
-            (λ (k : ℕ). Going owners offsets targets alpha within set from.before from.this next far k (but_one w left) fin)
-            (add_assoc from.looks looks more)
-            (going_more owners offsets targets alpha within set from.before c.given from.this next far
-            (from.looks + looks) left work c.going w here lowest fin took))
+            subst (λ (N : Set). Going d from.before from.this next far (from.looks + (looks + more)) N fin) left_then
+            (subst (λ (k : ℕ). Going d from.before from.this next far k (but_one w left) fin) (add_assoc from.looks looks more)
+            (going_more c.given c.going w here lowest fin took))
 
-        grows : count n (taken_in n set next left work) < count n (taken_in n set next (with_word at (others rest) (now_at n
+        grows : count n (taken_in n d.set next left work) < count n (taken_in n d.set next (with_word at (others rest) (now_at n
             from.this fin)) fin)
         grows =
-            subst (λ (N : Set). count n (taken_in n set next left work) < count n (taken_in n set next N fin)) left_then
-            (taken_grows owners offsets targets alpha within set from.before c.given from.this next far
-            (from.looks + looks) left work c.going w here lowest fin took)
+            subst (λ (N : Set). count n (taken_in n d.set next left work) < count n (taken_in n d.set next N fin)) left_then
+            (taken_grows c.given c.going w here lowest fin took)
 
 -- where nothing of the word is left, what stands in the layer is left
 pub left_none : (at : ℕ) (now : Set) → with_word at 0 now ≡ now

@@ -1,5 +1,5 @@
 -- The second pass over the work area: the search for one part against the links, and what it leaves.
-use Rattle.std.specs.Prelude.{Bool, false, ◌&&◌, List, ◌⊎◌, ◌≡◌, refl, ℕ, ◌+◌, ◌-◌, ◌≤◌, ◌<◌, length, get_or, set}
+use Rattle.std.specs.Prelude.{Bool, false, ◌&&◌, List, ◌≡◌, refl, ℕ, ◌+◌, ◌-◌, ◌≤◌, ◌<◌, length, get_or, set}
 use Rattle.std.proofs.Math.Bool.{true}
 use Rattle.std.proofs.Common.{inl, ◌∙◌, le_refl}
 use Rattle.std.proofs.Math.Logic.{⊎_elim}

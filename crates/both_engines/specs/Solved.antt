@@ -13,8 +13,8 @@ use Rattle.rules.specs.Words.{set_of, Holds}
 use Rattle.rules.specs.Zielonka.{zielonka}
 use Rattle.basics.specs.Basics.{clash, length_listed, get_or_listed}
 use Rattle.kept_numbers.specs.Reading as Reading
-use Rattle.printing.specs.declared.line.Counted.{Counted}
-use Rattle.printing.specs.declared.line.Counted.TheVariants.{Needed, Over}
+use Rattle.std.specs.declared.option.Option.{Option}
+use Rattle.std.specs.declared.option.Option.TheVariants.{None, Some}
 use Rattle.printing.specs.Line.{line_bytes}
 
 -- a game for the engines, and room for the line
@@ -70,19 +70,19 @@ ready_passes {t} {kept} {l} {out} r =
 
 -- ---- what an engine gave
 
-abbrev pub counted_of : Outcome → Counted
-counted_of o = cond (eqb o.number 13) Over (Needed o.count)
+abbrev pub counted_of : Outcome → Option ℕ
+counted_of o = cond (eqb o.number 13) None (Some o.count)
 
 -- what is needed, or that it is more than the budget
-abbrev pub counted_for : ℕ → ℕ → Counted
-counted_for budget needed = cond (ltb budget needed) Over (Needed needed)
+abbrev pub counted_for : ℕ → ℕ → Option ℕ
+counted_for budget needed = cond (ltb budget needed) None (Some needed)
 
 counted_budgeted : (budget needed : ℕ) → counted_of (budgeted budget needed) ≡ counted_for budget needed
 counted_budgeted budget needed = by (ltb budget needed)
   where
     by : (over : Bool) →
         counted_of (cond over (record { number = 13; place = 0; count = budget }) (answered needed))
-        ≡ cond over Over (Needed needed)
+        ≡ cond over None (Some needed)
     by true = refl
     by false = refl
 
@@ -128,7 +128,7 @@ line_by :
     (x y : Bool) (calls rounds n : ℕ) (S zielonkas promotions : Set) →
     (x ≡ false → winner_digits n S ≡ winner_digits n zielonkas) →
     (x ≡ true → y ≡ false → winner_digits n S ≡ winner_digits n promotions) →
-    line_bytes n S (cond x Over (Needed calls)) (cond y Over (Needed rounds)) ≡
+    line_bytes n S (cond x None (Some calls)) (cond y None (Some rounds)) ≡
     file_word ++
     (space ++
     (cond x (cond y dash (winner_digits n promotions)) (winner_digits n zielonkas) ++

@@ -2,22 +2,22 @@
 ghost use Rattle.std.specs.Prelude.{◌≡◌};
 ghost use Rattle.rules.specs.Printing.{solved_line};
 ghost use Rattle.rules.specs.Tables.{game_of, tables_of};
-ghost use Rattle.parity_game.specs.Said.{said};
+ghost use Rattle.solver.specs.Unsolved.{said};
 ghost use Rattle.putting.specs.Puts.{Puts};
 ghost use Rattle.both_engines.specs.Solved.{counted_of, EnginesReady, EnginesGiven};
 
 use kept_numbers::KEPT;
-use parity_game::Answer;
-use printing::Counted;
+use solver::Unsolved;
 
-// What an engine that accepted the game needed, or that it was too much.
-fn counted(answer: Answer) -> Counted
+// What an engine needed, or that it was more than its budget. Neither refuses here; a refusal would go by its number.
+fn counted(answer: Result<u64, Unsolved>) -> Option<u64>
     ensures { result ≡ counted_of (said answer) }
 {
-    if answer.number() == 13 {
-        return Counted::Over;
+    match answer {
+        Ok(count) => Some(count),
+        Err(Unsolved::OverBudget(_)) => None,
+        Err(Unsolved::Refused(refused)) => (refused.number() != 13).then_some(0),
     }
-    Counted::Needed(answer.count())
 }
 
 // Promotion comes first and Zielonka writes over its sets, so that the winners are Zielonka's unless it gave 13.

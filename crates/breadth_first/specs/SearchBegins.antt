@@ -1,6 +1,6 @@
 -- Where a search begins: no vertex has a word; then one vertex more gets the word n + 1 and goes to the end of the queue; or
 -- all that leads to u, so that the way from u goes round.
-use Rattle.std.specs.Prelude.{true, false, List, [], ◌∷◌, ◌⊎◌, ◌≡◌, refl, ℕ, ◌+◌, ◌-◌, ◌≤◌, ◌<◌, length, get_or, set}
+use Rattle.std.specs.Prelude.{true, false, List, [], ◌∷◌, ◌≡◌, refl, ℕ, ◌+◌, ◌≤◌, ◌<◌, length, get_or, set}
 use Rattle.std.proofs.Common.{inl, inr, ⊎_elim, sym, ap, subst, ◌∙◌, le_refl, add-one, arith}
 use Rattle.rules.specs.Loop.{alone}
 use Rattle.rules.specs.Winning.{Reach}

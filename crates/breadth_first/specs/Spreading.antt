@@ -1,6 +1,6 @@
 -- The search: what stands in its queue and in its row of words, and what it leaves. Each vertex that has a word has a way along
 -- the links to where the search began, of no more vertices than stand before it in the queue and itself.
-use Rattle.std.specs.Prelude.{true, false, List, ◌∷◌, ◌⊎◌, ◌≡◌, ℕ, ◌+◌, ◌-◌, ◌≤◌, ◌<◌, length}
+use Rattle.std.specs.Prelude.{true, false, List, ◌∷◌, ◌≡◌, ℕ, ◌+◌, ◌≤◌, ◌<◌, length}
 use Rattle.std.proofs.Common.{⊎_elim, sym, ap, subst, ◌∙◌, add-one, arith}
 use Rattle.rules.specs.Counting.{count}
 use Rattle.rules.specs.Loop.{Path, alone, next}

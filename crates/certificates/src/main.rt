@@ -23,7 +23,7 @@ fn check(
     let mut count = 0;
     let n = owners.len();
     let m = targets.len();
-    record::fresh_count(n, m, owners, priorities, offsets, targets, &mut kept);
+    let _ = record::fresh_count(n, m, owners, priorities, offsets, targets, &mut kept);
     let number = reckonbough_checker::certificate::reckonbough_check(
         n as u64, m as u64, owners, priorities, offsets, targets, &kept, even, odd, strategy,
         &mut work, &mut place, &mut count,

@@ -40,8 +40,8 @@ pub record CyclesReady (t : Tables) (even strategy work : List ℕ) : Type 0 whe
   pub ok23 : check23 (game_of t) even strategy ≡ none
   pub room : work_words (vertices t) (edges_in t) ≤ length work
 
-pub record CyclesTold (t : Tables) (even strategy before after : List ℕ) (o : Outcome) : Type 0 where
-  pub gives : o ≡ outcome (check24 (game_of t) even strategy) (answered 0)
+pub record CyclesTold (t : Tables) (even strategy before after : List ℕ) (v : Verdict) : Type 0 where
+  pub gives : v ≡ check24 (game_of t) even strategy
   pub long : length after ≡ length before
   pub beyond : Unchanged (Behind (work_words (vertices t) (edges_in t))) before after
 
@@ -52,8 +52,8 @@ pub record Certifiable (t : Tables) (even odd strategy work : List ℕ) : Type 0
   pub strategy_long : length strategy ≡ vertices t
   pub room : work_words (vertices t) (edges_in t) ≤ length work
 
-pub record Certifies (t : Tables) (even odd strategy before after : List ℕ) (o : Outcome) : Type 0 where
-  pub gives : o ≡ outcome (certificate_checks (game_of t) even odd strategy) (answered 0)
+pub record Certifies (t : Tables) (even odd strategy before after : List ℕ) (v : Verdict) : Type 0 where
+  pub gives : v ≡ certificate_checks (game_of t) even odd strategy
   pub long : length after ≡ length before
   pub beyond : Unchanged (Behind (work_words (vertices t) (edges_in t))) before after
 
@@ -149,21 +149,19 @@ module _ {t : Tables} {even strategy before : List ℕ} (given : CyclesReady t e
 
       -- **The search over the two rows is the rule's 24.**
       pub cycles_told :
-          {o : Outcome} →
-          o ≡ outcome (given_at 24 (length t.priorities) (losing_at even after rows (length t.priorities))) (answered 0) →
-          CyclesTold t even strategy before after o
+          {v : Verdict} →
+          v ≡ given_at 24 (length t.priorities) (losing_at even after rows (length t.priorities)) →
+          CyclesTold t even strategy before after v
       unfolding game_of
       cycles_told e =
           record {
             gives =
-                e ∙
-                ap (λ (v : Verdict). outcome v (answered 0))
-                (given_at_cong 24 (length t.priorities) (losing_at even after rows (length t.priorities)) chosen losing_says ∙
+                e ∙ given_at_cong 24 (length t.priorities) (losing_at even after rows (length t.priorities)) chosen losing_says ∙
                 ap (λ (k : ℕ). given_at 24 k chosen) each ∙
                 sym
                 (check24_chosen (game_of t) (accepted_total t given.accepted)
                 (omega (arith, (accepted_sound t given.accepted).few_vertices)) even strategy given.ok22 given.ok23 256
-                highest));
+                highest);
             long = done.long;
             beyond = λ i l. done.beyond i (omega (arith, fits));
           }
@@ -268,8 +266,9 @@ module _ {t : Tables} {even odd strategy before : List ℕ} (given : Certifiable
   from21 e = e
 
   -- 21, 22 or 25, or 23: the work area was not touched
-  pub certify_stops : {o : Outcome} → o ≡ outcome in_order (answered 0) → Certifies t even odd strategy before before o
-  certify_stops e = record { gives = from21 e; long = refl; beyond = λ i l. refl }
+  pub certify_stops : {v : Verdict} → v ≡ in_order → Certifies t even odd strategy before before v
+  unfolding certificate_checks game_of
+  certify_stops e = record { gives = e; long = refl; beyond = λ i l. refl }
 
 -- ---- the whole
 
@@ -314,14 +313,17 @@ module _ {t : Tables} {even odd strategy before : List ℕ} where
 
   -- **past the checks, with the work area cleared**
   pub checks_done :
-      (ok : refusals t even odd strategy before ≡ none) {middle after : List ℕ} {o : Outcome} →
-      Certifies t even odd strategy before middle o →
+      (ok : refusals t even odd strategy before ≡ none) {middle after : List ℕ} {v : Verdict} {o : Outcome} →
+      Certifies t even odd strategy before middle v →
+      o ≡ outcome v (answered 0) →
       {cleared_to : ℕ} → cleared_to ≡ work_words (vertices t) (edges_in t) →
       ClearedUpTo 0 cleared_to middle after →
       Checks t even odd strategy before after o
-  checks_done ok {middle} {after} {o} c is zeros =
+  checks_done ok {middle} {after} {v} {o} c says is zeros =
       record {
-        gives = past (certificate_checks (game_of t) even odd strategy) ok c.gives;
+        gives =
+            past (certificate_checks (game_of t) even odd strategy) ok
+            (says ∙ ap (λ (v : Verdict). outcome v (answered 0)) c.gives);
         work = all_clear ∙ ap (λ (v : Verdict). left_by v t before) (sym ok);
       }
     where

@@ -1,16 +1,17 @@
 // The kind 24: a cycle whose highest priority has the other parity, by the parts of both parities.
 ghost use Rattle.std.specs.Prelude.{◌≡◌, ◌+◌, ◌*◌, ◌<◌, length};
-ghost use Rattle.rules.specs.Outcome.{outcome, answered, given_at};
-ghost use Rattle.parity_game.specs.Said.{said};
+ghost use Rattle.rules.specs.Outcome.{given_at};
+ghost use Rattle.parity_game.specs.Said.{verdict};
 ghost use Rattle.checker.specs.Cycles.{losing_at, CyclesScannable, MarksReady, CyclesMarked};
 ghost use Rattle.checker.specs.Checks.{CyclesReady, CyclesTold};
 ghost use Rattle.rules.specs.Record.{fresh_count};
 ghost use Rattle.rules.specs.Tables.{tables_of};
 
-use parity_game::{Answer, LOSING_CYCLE, VertexIndex};
+use parity_game::{Checked, Refusal, VertexIndex};
 use search_rows::{Rows, next_row};
 
 // Whether v is marked in the row of the other parity: the even priorities from rows on, then the odd ones.
+#[tactic(auto, using(crate::specs::Cycles::losing_even, crate::specs::Cycles::losing_odd))]
 fn is_losing(even: &[u64], work: &[u64], rows: usize, n: usize, v: usize) -> bool
     requires { (v < 64 * length even.now) × (v < n) × (rows + n + v < length work.now) }
     ensures { result ≡ losing_at even.now work.now rows n v }
@@ -22,16 +23,16 @@ fn is_losing(even: &[u64], work: &[u64], rows: usize, n: usize, v: usize) -> boo
 }
 
 // The lowest vertex that is marked so.
-fn find_losing(even: &[u64], work: &[u64], rows: usize, n: usize) -> Answer
+fn find_losing(even: &[u64], work: &[u64], rows: usize, n: usize) -> Checked
     requires { CyclesScannable even.now work.now rows n }
-    ensures { said result ≡ outcome (given_at 24 n (losing_at even.now work.now rows n)) (answered 0) }
+    ensures { verdict result ≡ given_at 24 n (losing_at even.now work.now rows n) }
 {
     for v in 0..n {
         if is_losing(even, work, rows, n, v) {
-            return Answer::AtVertex(LOSING_CYCLE, VertexIndex(v));
+            return Err(Refusal::LosingCycle(VertexIndex(v)));
         }
     }
-    Answer::Answered(0)
+    Ok(())
 }
 
 // Marks the vertices on cycles, in two rows of n words behind the words of the search for parts.
@@ -70,12 +71,12 @@ pub fn check_cycles(
     even: &[u64],
     strategy: &[u16],
     work: &mut [u64],
-) -> Answer
+) -> Checked
     requires { CyclesReady (tables_of owners.now priorities.now offsets.now targets.now) even.now
         strategy.now work.old × (kept.now ≡ fresh_count priorities.now) }
     ensures { CyclesTold (tables_of owners.now priorities.now offsets.now
         targets.now) even.now
-        strategy.now work.old work.new (said result) }
+        strategy.now work.old work.new (verdict result) }
 {
     mark_cycles(owners, priorities, offsets, targets, kept, strategy, work);
     let n = priorities.len();

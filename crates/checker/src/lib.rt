@@ -5,13 +5,13 @@
 mod cycles;
 
 ghost use Rattle.std.specs.Prelude.{◌≡◌};
-ghost use Rattle.parity_game.specs.Said.{said};
+ghost use Rattle.parity_game.specs.Said.{said, verdict};
 ghost use Rattle.rules.specs.Checker.{Checks};
 ghost use Rattle.checker.specs.Checks.{Certifiable, Certifies};
 ghost use Rattle.rules.specs.Record.{fresh_count};
 ghost use Rattle.rules.specs.Tables.{tables_of, Accepted};
 
-use parity_game::Answer;
+use parity_game::{Answer, Checked};
 
 // The kinds 21, 22 or 25, 23 and 24, in this order.
 fn certify(
@@ -24,25 +24,16 @@ fn certify(
     odd: &[u64],
     strategy: &[u16],
     work: &mut [u64],
-) -> Answer
+) -> Checked
     requires { Certifiable (tables_of owners.now priorities.now offsets.now targets.now) even.now odd.now
         strategy.now work.old × (kept.now ≡ fresh_count priorities.now) }
     ensures { Certifies (tables_of owners.now priorities.now offsets.now
         targets.now) even.now odd.now
-        strategy.now work.old work.new (said result) }
+        strategy.now work.old work.new (verdict result) }
 {
-    let split = checker_partition::check_partition(owners.len(), even, odd);
-    if split.number() != 0 {
-        return split;
-    }
-    let entries = checker_entries::check_entries(owners, offsets, targets, even, strategy);
-    if entries.number() != 0 {
-        return entries;
-    }
-    let stays = checker_sides::check_sides(owners, offsets, targets, even, strategy);
-    if stays.number() != 0 {
-        return stays;
-    }
+    checker_partition::check_partition(owners.len(), even, odd)?;
+    checker_entries::check_entries(owners, offsets, targets, even, strategy)?;
+    checker_sides::check_sides(owners, offsets, targets, even, strategy)?;
     cycles::check_cycles(
         owners, priorities, offsets, targets, kept, even, strategy, work,
     )
@@ -68,20 +59,11 @@ pub fn check(
 {
     let n = owners.len();
     let m = targets.len();
-    let r = lent_checks::checks::check_lent(
-        n,
-        m,
-        even.len(),
-        odd.len(),
-        strategy.len(),
-        work.len(),
-    );
-    if r.number() != 0 {
-        return r;
-    }
-    let r = certify(
+    lent_checks::checks::check_lent(n, m, even.len(), odd.len(), strategy.len(), work.len())?;
+    let checked = certify(
         owners, priorities, offsets, targets, kept, even, odd, strategy, work,
     );
     parts::clear(work, 0, parity_game::work_words(n, m));
-    r
+    checked?;
+    Ok(0)
 }

@@ -1,10 +1,10 @@
 -- The kind 22, and 25 in its place: the tests as the code makes them, and what a search over a vertex's edges tells.
-use Rattle.std.specs.Prelude.{Bool, true, false, cond, ◌⊎◌, ◌≡◌, length, get_or}
+use Rattle.std.specs.Prelude.{Bool, true, false, cond, ◌≡◌, length, get_or}
 use Rattle.std.proofs.Math.Bool.{not}
 use mathlib.Core.List.{List, Memᴰ}
 use Rattle.std.proofs.Common.{⊎_elim, ◌∙◌, add-one, arith}
 use Rattle.std.proofs.Math.Path.{refl, sym, ap}
-use Prim.Native.Nat.{ℕ, zero, suc, ◌+◌, ◌-◌, ◌*◌, ◌≤◌, ◌<◌}
+use Prim.Native.Nat.{ℕ, zero, suc, ◌+◌, ◌*◌, ◌≤◌, ◌<◌}
 use borrow.Author.Tests.{eqb-true, eq-eqb, ne_eqb}
 use Rattle.std.proofs.Math.Dec.{eqb}
 use Rattle.rules.specs.Counting.{Set, every, some_of, every_of}

@@ -1,13 +1,14 @@
 // 23: the edges that decide stay on their side, the strategy edge of a winner's own vertex and every edge of a loser's.
 ghost use Rattle.std.specs.Prelude.{◌≡◌, ◌*◌, ◌<◌, length};
-ghost use Rattle.rules.specs.Outcome.{outcome, answered, given_at};
-ghost use Rattle.parity_game.specs.Said.{said};
+ghost use Rattle.rules.specs.Outcome.{given_at};
+ghost use Rattle.parity_game.specs.Said.{verdict};
 ghost use Rattle.checker_sides.specs.Sides.{side_of, Sided, leaves_set};
 
 use checker_entries::is_own;
-use parity_game::{Answer, LEAVES_SET, VertexIndex};
+use parity_game::{Checked, Refusal, VertexIndex};
 
 // Whether w lies in the set that holds v.
+#[tactic(auto, using(crate::specs::Sides::side_even, crate::specs::Sides::side_odd))]
 fn stays(even: &[u64], v: usize, w: usize) -> bool
     requires { (v < 64 * length even.now) × (w < 64 * length even.now) }
     ensures { result ≡ side_of even.now v w }
@@ -25,27 +26,25 @@ pub fn check_sides(
     targets: &[u16],
     even: &[u64],
     strategy: &[u16],
-) -> Answer
+) -> Checked
     requires { Sided owners.now offsets.now targets.now even.now strategy.now }
-    ensures { said result ≡
-        outcome
-        (given_at 23 (length owners.now)
-        (leaves_set owners.now offsets.now targets.now even.now
-        strategy.now))
-        (answered 0) }
+    ensures { verdict result ≡
+        given_at 23 (length owners.now)
+        (leaves_set owners.now offsets.now targets.now even.now strategy.now) }
 {
     'vertices: for v in 0..owners.len() {
         if is_own(owners, even, v) {
-            if stays(even, v, strategy[v] as usize) {
+            let inside = stays(even, v, strategy[v] as usize);
+            if inside {
                 continue 'vertices;
             }
-            return Answer::AtVertex(LEAVES_SET, VertexIndex(v));
+            return Err(Refusal::LeavesSet(VertexIndex(v)));
         }
         for e in offsets[v] as usize..offsets[v + 1] as usize {
             if !stays(even, v, targets[e] as usize) {
-                return Answer::AtVertex(LEAVES_SET, VertexIndex(v));
+                return Err(Refusal::LeavesSet(VertexIndex(v)));
             }
         }
     }
-    Answer::Answered(0)
+    Ok(())
 }

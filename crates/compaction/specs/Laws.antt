@@ -1,7 +1,7 @@
 -- What callers go by: what compaction gives is one thing, an answer leaves tables with the same winners, which a second
 -- compaction does not change, and their kept numbers; and a refusal leaves what was lent as it was.
-use Rattle.std.specs.Prelude.{List, [], ◌∷◌, map, ◌↔◌, ◌≡◌, refl, ℕ, ◌<◌, length}
-use Rattle.std.proofs.Common.{sym, ap, ◌∙◌, arith}
+use Rattle.std.specs.Prelude.{Result, Err, List, [], ◌∷◌, map, ◌↔◌, ◌≡◌, refl, ℕ, ◌<◌, length}
+use Rattle.std.proofs.Common.{sym, subst, ap, ◌∙◌, arith}
 use Rattle.rules.specs.Compaction.{compacted, LentCompacted, compaction_checks, new_table, compacted_by, Compacts}
 use Rattle.rules.specs.Counting.{Set}
 use Rattle.rules.specs.Game.{Player}
@@ -11,7 +11,9 @@ use Rattle.rules.specs.Tables.{Tables, vertices, game_of, table_checks, check9, 
 use Rattle.rules.specs.Winning.{Wins, WinningSets}
 use Rattle.parity_game.specs.Laws.{Numbered, numbered_then, numbered_tables, numbered_check9, zero_none}
 use Rattle.parity_game.specs.Laws.{then_none, outcome_pass}
-use Rattle.parity_game.specs.Said.{refusal}
+use Rattle.parity_game.specs.declared.refusal.Refusal.{Refusal}
+use Rattle.parity_game.specs.Said.{refusal, said, verdict}
+use Rattle.parity_game.specs.Laws.{refused_outcome}
 use Rattle.record.specs.Laws.{numbered_room, room_nine, room_passes}
 use Rattle.theory.specs.Compaction.{with_priorities, compacted_accepted}
 use Rattle.theory.specs.CompactionFewest.{compacted_twice}
@@ -56,6 +58,21 @@ unfolding Accepted
 compacts_table t before o ok e =
     compacts_refused t before o
     (e ∙ sym (outcome_pass (table_checks t) (table_room t before then kept_room before.kept) (answered 0) ok))
+
+-- which a check of it gives,
+pub compacts_stopped :
+    {t : Tables} {before : LentCompacted} (a : Result ℕ Refusal) (f : Refusal) →
+    a ≡ Err f →
+    Accepted t →
+    verdict (Err f) ≡ table_room t before →
+    Compacts t before before (said a)
+unfolding Accepted
+compacts_stopped {t} {before} a f gave ok was =
+    let all : verdict (Err f) ≡ compaction_checks t before = rw (ok, sym was) refl in
+    rw gave (record {
+      gives = refused_outcome f (compaction_checks t before) (answered 0) all;
+      leaves = subst (λ (v : Verdict). before ≡ compacted_by v t before) all refl;
+    })
 
 -- or for the new kept numbers
 pub compacts_kept :

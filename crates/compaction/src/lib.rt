@@ -9,7 +9,7 @@ ghost use Rattle.rules.specs.Tables.{tables_of, Accepted};
 
 use compaction_numbers::{mark, number, write};
 use kept_numbers::KEPT;
-use parity_game::{Answer, BAD_SIZE};
+use parity_game::{Answer, Refusal};
 
 // Writes the new priority of each vertex, and the kept numbers of the new table, for all accepted tables.
 pub fn compact(
@@ -27,15 +27,12 @@ pub fn compact(
         (lent_of new_priorities.new new_kept.new)
         (said result) }
 {
-    let sized = parity_game::check_table(owners.len(), new_priorities.len());
-    if sized.number() != 0 {
-        return sized;
-    }
+    parity_game::check_table(owners.len(), new_priorities.len())?;
     if new_kept.len() != KEPT {
-        return Answer::Refused(BAD_SIZE);
+        return Err(Refusal::BadSize);
     }
     let numbers = number(mark(priorities));
     write(priorities, numbers, new_priorities);
     kept_numbers::write_fresh(new_priorities, new_kept);
-    Answer::Answered(0)
+    Ok(0)
 }

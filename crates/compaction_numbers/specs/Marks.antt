@@ -1,5 +1,7 @@
 -- What compaction's steps promise one another.
-use Rattle.std.specs.Prelude.{Bool, true, false, List, ◌≡◌, ℕ, ◌≤◌, ◌<◌, eqb, length, get_or}
+use Rattle.std.specs.declared.option.Option.{Option}
+use Rattle.std.specs.declared.option.Option.TheVariants.{None, Some}
+use Rattle.std.specs.Prelude.{true, List, ◌≡◌, ℕ, ◌≤◌, ◌<◌, eqb, length, get_or}
 use Rattle.rules.specs.Compaction.{Last, nothing, last, used, next_number, last_below}
 use Rattle.rules.specs.Counting.{Set}
 
@@ -16,9 +18,9 @@ abbrev pub Marks : List ℕ → List ℕ → Type 0
 Marks priorities marks = (p : ℕ) → p < 256 → marked marks p ≡ used priorities p
 
 -- the last new number given, if any was
-abbrev pub last_given : Bool → ℕ → Last
-last_given true q = last q
-last_given false q = nothing
+abbrev pub last_given : Option ℕ → Last
+last_given None = nothing
+last_given (Some q) = last q
 
 -- each marked priority below k has its new number
 abbrev pub Numbers : ℕ → List ℕ → List ℕ → Type 0

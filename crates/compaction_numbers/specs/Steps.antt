@@ -1,6 +1,8 @@
 -- What the loops of compaction do in one turn, as facts about lists.
-use Rattle.std.specs.Prelude.{Bool, true, false, ◌||◌, List, map, ◌≡◌, refl, ℕ, zero, suc, ◌+◌, ◌≤◌, ◌<◌, eqb, length, get_or, set, replicate}
-use Rattle.std.proofs.Common.{⊎_elim, sym, ap, ◌∙◌, zero-le, suc-le-suc, not-suc-le-zero, le_refl, lt_irrefl, lt_trans, add-one, arith, eqb-true, length-set, get_or-set_same, get_or-set_other, ext_get_or}
+use Rattle.std.specs.declared.option.Option.{Option}
+use Rattle.std.specs.declared.option.Option.TheVariants.{None, Some}
+use Rattle.std.specs.Prelude.{Bool, true, false, ◌||◌, List, map, ◌≡◌, refl, ℕ, zero, suc, ◌+◌, ◌≤◌, ◌<◌, eqb, length, get_or, set, replicate, IfSome}
+use Rattle.std.proofs.Common.{⊎_elim, sym, ap, ◌∙◌, suc-le-suc, not-suc-le-zero, le_refl, lt_irrefl, lt_trans, add-one, arith, eqb-true, length-set, get_or-set_same, get_or-set_other, ext_get_or}
 use Rattle.std.proofs.Math.Nat.{le_step}
 use Rattle.std.proofs.lemmas.Bool.{eqb-false}
 use Rattle.std.proofs.lemmas.List.{get_or-replicate, length-replicate, length-map}
@@ -44,32 +46,32 @@ marks_more v priorities marks long told p small =
     (bool_cases (eqb (get_or priorities v 0) p)))
 
 -- the marked priorities below k have their new numbers, of which the last is as told
-pub record NumbersGiven (k : ℕ) (marks numbers : List ℕ) (any : Bool) (q : ℕ) : Type 0 where
+pub record NumbersGiven (k : ℕ) (marks numbers : List ℕ) (latest_given : Option ℕ) : Type 0 where
   pub long : length numbers ≡ 256
-  pub latest : last_given any q ≡ last_below (marked marks) k
-  pub small : q ≤ 255
+  pub latest : last_given latest_given ≡ last_below (marked marks) k
+  pub small : IfSome latest_given (λ q. q ≤ 255)
   pub each : Numbers k marks numbers
 
 -- none has one yet
-pub given_none : (marks : List ℕ) → NumbersGiven 0 marks (replicate 256 0) false 0
+pub given_none : (marks : List ℕ) → NumbersGiven 0 marks (replicate 256 0) None
 unfolding last_below
 given_none marks =
     record {
       long = length-replicate {A = ℕ} 256 0;
       latest = refl;
-      small = zero-le;
+      small = tt;
       each = λ p l. absurd (not-suc-le-zero l);
     }
 
 -- one marked priority more has its number
 pub given_used :
-    (k : ℕ) (marks numbers : List ℕ) (any : Bool) (q r : ℕ) →
-    NumbersGiven k marks numbers any q →
+    (k : ℕ) (marks numbers : List ℕ) (before : Option ℕ) (r : ℕ) →
+    NumbersGiven k marks numbers before →
     k < 256 →
     marked marks k ≡ true →
-    r ≡ next_number (last_given any q) k →
-    NumbersGiven (k + 1) marks (set numbers k r) true r
-given_used k marks numbers any q r given below here is-next =
+    r ≡ next_number (last_given before) k →
+    NumbersGiven (k + 1) marks (set numbers k r) (Some r)
+given_used k marks numbers before r given below here is-next =
     let is_new : r ≡ next_number (last_below (marked marks) k) k = is-next ∙ ap (λ (l : Last). next_number l k) given.latest in
     let low = number_small (marked marks) k in
     record {
@@ -87,11 +89,11 @@ given_used k marks numbers any q r given below here is-next =
 
 -- one priority more that is not marked
 pub given_unused :
-    (k : ℕ) (marks numbers : List ℕ) (any : Bool) (q : ℕ) →
-    NumbersGiven k marks numbers any q →
+    (k : ℕ) (marks numbers : List ℕ) (before : Option ℕ) →
+    NumbersGiven k marks numbers before →
     marked marks k ≡ false →
-    NumbersGiven (k + 1) marks numbers any q
-given_unused k marks numbers any q given here =
+    NumbersGiven (k + 1) marks numbers before
+given_unused k marks numbers before given here =
     record {
       long = given.long;
       latest = rw add-one (given.latest ∙ sym (last_unused (marked marks) k here));

@@ -2,7 +2,7 @@
 // parity; and a table written by them. The rule itself is in `next_number` alone.
 #![tactic(auto)]
 
-ghost use Rattle.std.specs.Prelude.{map, ◌≡◌, ◌≤◌, length, get_or};
+ghost use Rattle.std.specs.Prelude.{map, ◌≡◌, ◌≤◌, length, get_or, IfSome};
 ghost use Rattle.rules.specs.Compaction.{next_number};
 ghost use Rattle.compaction_numbers.specs.Marks.{Small, Marks, Numbers, last_given};
 
@@ -14,23 +14,22 @@ pub fn mark(priorities: &[u16]) -> [u8; PRIORITIES]
     ensures { Marks priorities.now result }
 {
     let mut used = [0u8; PRIORITIES];
-    for v in 0..priorities.len() {
-        let p = priorities[v] as usize;
-        used[p] = 1;
+    for &p in priorities {
+        used[p as usize] = 1;
     }
     used
 }
 
 // The new number of p: the lowest of its parity that is not below `last`, the last new number given, or a first one.
-fn next_number(any: bool, last: u16, p: u16) -> u16
-    requires { last ≤ 255 }
-    ensures { result ≡ next_number (last_given any last) p }
+fn next_number(last: Option<u16>, p: u16) -> u16
+    requires { IfSome last (λ q. q ≤ 255) }
+    ensures { result ≡ next_number (last_given last) p }
 {
-    if !any {
-        return p % 2;
+    match last {
+        None => p % 2,
+        Some(last) if last % 2 == p % 2 => last,
+        Some(last) => last + 1,
     }
-    let step = if last % 2 == p % 2 { 0 } else { 1 };
-    last + step
 }
 
 // The new number of each used priority.
@@ -38,13 +37,12 @@ pub fn number(used: [u8; PRIORITIES]) -> [u16; PRIORITIES]
     ensures { Numbers 256 used result }
 {
     let mut numbers = [0u16; PRIORITIES];
-    let mut any = false;
-    let mut last = 0;
-    for p in 0..PRIORITIES {
-        if used[p] == 1 {
-            last = next_number(any, last, p as u16);
-            any = true;
-            numbers[p] = last;
+    let mut last = None;
+    for (p, &mark) in used.iter().enumerate() {
+        if mark == 1 {
+            let next = next_number(last, p as u16);
+            numbers[p] = next;
+            last = Some(next);
         }
     }
     numbers
@@ -55,8 +53,7 @@ pub fn write(priorities: &[u16], numbers: [u16; PRIORITIES], new_priorities: &mu
     requires { Small priorities.now × (length new_priorities.old ≡ length priorities.now) }
     ensures { new_priorities.new ≡ map (λ p. get_or numbers p 0) priorities.now }
 {
-    for v in 0..new_priorities.len() {
-        let p = priorities[v] as usize;
-        new_priorities[v] = numbers[p];
+    for (v, &p) in priorities.iter().enumerate() {
+        new_priorities[v] = numbers[p as usize];
     }
 }

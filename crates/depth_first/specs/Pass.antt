@@ -1,5 +1,5 @@
 -- The first pass as a whole: the search from one root, and the roots one after another.
-use Rattle.std.specs.Prelude.{true, false, List, ◌⊎◌, ◌≡◌, refl, ℕ, suc, ◌+◌, ◌-◌, ◌≤◌, ◌<◌, length, get_or}
+use Rattle.std.specs.Prelude.{true, false, List, ◌≡◌, refl, ℕ, suc, ◌+◌, ◌-◌, ◌≤◌, ◌<◌, length, get_or}
 use mathlib.Core.List.Memᴰ
 use Rattle.std.proofs.Common.{⊎_elim, sym, ap, subst, ◌∙◌, add-one, arith}
 use Rattle.basics.specs.Basics.{bool_cases, clash, not_false_is_true, below_suc}

@@ -2,10 +2,10 @@
 // the order in which they finish.
 ghost use Rattle.std.specs.Prelude.{◌≡◌, ◌+◌, ◌<◌};
 ghost use Rattle.search_rows.specs.Rows.{marks};
-ghost use Rattle.search_links.specs.Graph.{graph};
+ghost use Rattle.search_links.specs.Graph.{graph_of, size, edge_count};
 ghost use Rattle.depth_first.specs.Walking.{Scannable, Scanned, Pushable, pushed, Advances, Advanced, Startable, Searches, Passes, WalkFinished};
 
-use search_rows::Rows;
+use search_links::Graph;
 
 // How many vertices are on the stack, and how many have finished.
 #[derive(Clone, Copy)]
@@ -15,30 +15,15 @@ pub struct Progress {
 }
 
 // The next edge of t, from an edge on, that leads to a vertex not yet visited, or where t's edges end.
-fn next_edge(
-    priorities: &[u16],
-    offsets: &[u16],
-    targets: &[u16],
-    entries: &[u16],
-    p: u16,
-    work: &[u64],
-    t: usize,
-    from: usize,
-) -> usize
-    requires { Scannable (graph priorities.now offsets.now targets.now entries.now p) work.now t from }
-    ensures { Scanned (graph priorities.now offsets.now targets.now
-        entries.now p)
-        work.now t from result }
+fn next_edge(graph: &Graph, work: &[u64], t: usize, from: usize) -> usize
+    requires { Scannable (graph_of graph.now) work.now t from }
+    ensures { Scanned (graph_of graph.now) work.now t from result }
 {
-    let rows = Rows {
-        n: priorities.len(),
-        m: targets.len(),
-    };
-    let marks = rows.marks();
-    let end = offsets[t + 1] as usize;
+    let marks = graph.rows().marks();
+    let end = graph.offsets[t + 1] as usize;
     for e in from..end {
-        let w = targets[e] as usize;
-        if search_links::opens(priorities, entries, p, work, marks, w, t, w) {
+        let w = graph.targets[e] as usize;
+        if graph.opens(work, marks, w, t, w) {
             return e;
         }
     }
@@ -46,53 +31,39 @@ fn next_edge(
 }
 
 // y is visited, with its cursor at its first edge, and goes onto the stack.
-fn push(rows: Rows, offsets: &[u16], work: &mut [u64], y: usize, top: usize)
-    requires { Pushable rows.n (marks rows.n rows.m) offsets.now work.old y top }
-    ensures { work.new ≡ pushed rows.n (marks rows.n rows.m) offsets.now y top
-        work.old }
+fn push(graph: &Graph, work: &mut [u64], y: usize, top: usize)
+    requires { Pushable (size (graph_of graph.now))
+        (marks (size (graph_of graph.now)) (edge_count (graph_of graph.now)))
+        graph.now.offsets.now work.old y top }
+    ensures { work.new ≡ pushed (size (graph_of graph.now))
+        (marks (size (graph_of graph.now)) (edge_count (graph_of graph.now)))
+        graph.now.offsets.now y top work.old }
 {
-    let marks = rows.marks();
-    let stack = rows.queue();
-    work[marks + y] = offsets[y] as u64 + 1;
-    work[stack + top] = y as u64;
+    let rows = graph.rows();
+    work[rows.marks() + y] = graph.offsets[y] as u64 + 1;
+    work[rows.queue() + top] = y as u64;
 }
 
 // One move, with t on top of the stack: the next unvisited vertex that it leads to goes onto the stack, or it is
 // finished.
-fn advance(
-    priorities: &[u16],
-    offsets: &[u16],
-    targets: &[u16],
-    entries: &[u16],
-    p: u16,
-    work: &mut [u64],
-    t: usize,
-    at: Progress,
-) -> Progress
-    requires { Advances (graph priorities.now offsets.now targets.now entries.now p) work.old t at.top
-        at.done }
-    ensures { Advanced (graph priorities.now offsets.now targets.now
-        entries.now p)
-        work.old work.new at.top at.done result.top result.done }
+fn advance(graph: &Graph, work: &mut [u64], t: usize, at: Progress) -> Progress
+    requires { Advances (graph_of graph.now) work.old t at.top at.done }
+    ensures { Advanced (graph_of graph.now) work.old work.new at.top at.done result.top result.done }
 {
-    let rows = Rows {
-        n: priorities.len(),
-        m: targets.len(),
-    };
+    let rows = graph.rows();
     let marks = rows.marks();
     let from = work[marks + t] as usize - 1;
-    let e = next_edge(priorities, offsets, targets, entries, p, work, t, from);
+    let e = next_edge(graph, work, t, from);
     work[marks + t] = e as u64 + 1;
-    if e < offsets[t + 1] as usize {
-        let y = targets[e] as usize;
-        push(rows, offsets, work, y, at.top);
+    if e < graph.offsets[t + 1] as usize {
+        let y = graph.targets[e] as usize;
+        push(graph, work, y, at.top);
         return Progress {
             top: at.top + 1,
-            done: at.done,
+            ..at
         };
     }
-    let order = rows.order();
-    work[order + at.done] = t as u64;
+    work[rows.order() + at.done] = t as u64;
     Progress {
         top: at.top - 1,
         done: at.done + 1,
@@ -100,58 +71,30 @@ fn advance(
 }
 
 // The search from one root, until the stack is empty. Gives the number of vertices finished.
-fn search_from(
-    priorities: &[u16],
-    offsets: &[u16],
-    targets: &[u16],
-    entries: &[u16],
-    p: u16,
-    work: &mut [u64],
-    r: usize,
-    done: usize,
-) -> usize
-    requires { Startable (graph priorities.now offsets.now targets.now entries.now p) work.old r done }
-    ensures { Searches (graph priorities.now offsets.now targets.now
-        entries.now p)
-        work.old work.new r done result }
+fn search_from(graph: &Graph, work: &mut [u64], r: usize, done: usize) -> usize
+    requires { Startable (graph_of graph.now) work.old r done }
+    ensures { Searches (graph_of graph.now) work.old work.new r done result }
 {
-    let rows = Rows {
-        n: priorities.len(),
-        m: targets.len(),
-    };
-    let stack = rows.queue();
-    push(rows, offsets, work, r, 0);
+    let stack = graph.rows().queue();
+    push(graph, work, r, 0);
     let mut at = Progress { top: 1, done };
     while at.top != 0 {
         let t = work[stack + (at.top - 1)] as usize;
-        at = advance(priorities, offsets, targets, entries, p, work, t, at);
+        at = advance(graph, work, t, at);
     }
     at.done
 }
 
 // The order in which the vertices of priority at most p finish, and how many there are.
-pub fn first_pass(
-    priorities: &[u16],
-    offsets: &[u16],
-    targets: &[u16],
-    entries: &[u16],
-    p: u16,
-    work: &mut [u64],
-) -> usize
-    requires { Passes (graph priorities.now offsets.now targets.now entries.now p) work.old }
-    ensures { WalkFinished (graph priorities.now offsets.now targets.now
-        entries.now p)
-        work.old work.new result }
+pub fn first_pass(graph: &Graph, work: &mut [u64]) -> usize
+    requires { Passes (graph_of graph.now) work.old }
+    ensures { WalkFinished (graph_of graph.now) work.old work.new result }
 {
-    let rows = Rows {
-        n: priorities.len(),
-        m: targets.len(),
-    };
-    let marks = rows.marks();
+    let marks = graph.rows().marks();
     let mut done = 0;
-    for r in 0..priorities.len() {
-        if search_links::is_fresh(priorities, p, work, marks, r) {
-            done = search_from(priorities, offsets, targets, entries, p, work, r, done);
+    for r in 0..graph.priorities.len() {
+        if graph.is_fresh(work, marks, r) {
+            done = search_from(graph, work, r, done);
         }
     }
     done

@@ -4,52 +4,47 @@
 
 ghost use Rattle.std.specs.Prelude.{◌≡◌, ◌+◌, length};
 ghost use Rattle.rules.specs.Tables.{check6, check7, check8};
-ghost use Rattle.rules.specs.Outcome.{outcome, answered};
-ghost use Rattle.parity_game.specs.Said.{said};
+ghost use Rattle.parity_game.specs.Said.{verdict};
 
-use parity_game::{Answer, BAD_OFFSET, BAD_TARGET, DEAD_END, VertexIndex};
+use parity_game::{Checked, Refusal, VertexIndex};
 
 // 6: the offsets begin at 0, never fall and end at m.
-pub fn check_offsets(offsets: &[u16], n: usize, m: usize) -> Answer
+pub fn check_offsets(offsets: &[u16], n: usize, m: usize) -> Checked
     requires { length offsets.now ≡ n + 1 }
-    ensures { said result ≡ outcome (check6 n m offsets.now) (answered 0) }
+    ensures { verdict result ≡ check6 n m offsets.now }
 {
     if offsets[0] != 0 {
-        return Answer::AtPlace(BAD_OFFSET, 0);
+        return Err(Refusal::BadOffset(0));
     }
-    for i in 0..n {
-        if offsets[i + 1] < offsets[i] {
-            return Answer::AtPlace(BAD_OFFSET, i);
-        }
+    if let Some(i) = offsets.windows(2).position(|pair| pair[1] < pair[0]) {
+        return Err(Refusal::BadOffset(i));
     }
     if offsets[n] as usize != m {
-        return Answer::AtPlace(BAD_OFFSET, n);
+        return Err(Refusal::BadOffset(n));
     }
-    Answer::Answered(0)
+    Ok(())
 }
 
 // 7: every target is a vertex.
-pub fn check_targets(targets: &[u16], n: usize) -> Answer
-    ensures { said result ≡ outcome (check7 n (length targets.now) targets.now) (answered 0) }
+pub fn check_targets(targets: &[u16], n: usize) -> Checked
+    ensures { verdict result ≡ check7 n (length targets.now) targets.now }
 {
-    for e in 0..targets.len() {
-        if n <= targets[e] as usize {
-            return Answer::AtPlace(BAD_TARGET, e);
-        }
+    match targets.iter().position(|target| n <= *target as usize) {
+        Some(e) => Err(Refusal::BadTarget(e)),
+        None => Ok(()),
     }
-    Answer::Answered(0)
 }
 
 // 8: every vertex has an edge. The first edge of a vertex decides.
-pub fn is_total(offsets: &[u16], n: usize) -> Answer
+pub fn is_total(offsets: &[u16], n: usize) -> Checked
     requires { length offsets.now ≡ n + 1 }
-    ensures { said result ≡ outcome (check8 n offsets.now) (answered 0) }
+    ensures { verdict result ≡ check8 n offsets.now }
 {
     'vertices: for v in 0..n {
         for _e in offsets[v]..offsets[v + 1] {
             continue 'vertices;
         }
-        return Answer::AtVertex(DEAD_END, VertexIndex(v));
+        return Err(Refusal::DeadEnd(VertexIndex(v)));
     }
-    Answer::Answered(0)
+    Ok(())
 }

@@ -2,27 +2,25 @@
 // two refusals, and writes the one entry that it names; the kept numbers follow a changed priority.
 #![tactic(auto)]
 
-ghost use Rattle.std.specs.Prelude.{◌≡◌};
-ghost use Rattle.rules.specs.Outcome.{outcome, answered};
+ghost use Rattle.std.specs.Prelude.{◌≡◌, leb};
+ghost use Rattle.rules.specs.Outcome.{given, ◌then◌};
 ghost use Rattle.rules.specs.Record.{record_of, Edits, set_priority, set_owner, turn_edge};
-ghost use Rattle.parity_game.specs.Said.{said};
-ghost use Rattle.edits.specs.Laws.{own_asks};
+ghost use Rattle.parity_game.specs.Said.{said, verdict, refusal_of};
 
-use parity_game::{
-    Answer, HIGH_PRIORITY, NO_SUCH_ENTRY, NO_SUCH_OWNER, NO_SUCH_TARGET, PRIORITIES,
-};
+use parity_game::{Answer, Checked, PRIORITIES, Refusal};
 
-// 41, then the number of a value that is not below its limit.
-fn check_own(size: usize, entry: usize, value: usize, limit: usize, number: u64) -> Answer
-    ensures { said result ≡ outcome (own_asks size entry value limit number) (answered 0) }
+// 41, then what refuses a value that is not below its limit.
+fn check_own(size: usize, entry: usize, value: usize, limit: usize, beyond: Refusal) -> Checked
+    ensures { verdict result ≡ given 41 entry (leb size entry) then
+        given (refusal_of beyond).number (refusal_of beyond).place (leb limit value) }
 {
     if size <= entry {
-        return Answer::AtPlace(NO_SUCH_ENTRY, entry);
+        return Err(Refusal::NoSuchEntry(entry));
     }
     if limit <= value {
-        return Answer::AtPlace(number, entry);
+        return Err(beyond);
     }
-    Answer::Answered(0)
+    Ok(())
 }
 
 // Sets the priority of a vertex, for every input.
@@ -44,17 +42,12 @@ pub fn set_priority(
         kept.new)
         (said result) }
 {
-    let r = record::check_record(n, m, owners, priorities, offsets, targets, kept);
-    if r.number() != 0 {
-        return r;
-    }
-    let own = check_own(n, vertex, priority, PRIORITIES, HIGH_PRIORITY);
-    if own.number() != 0 {
-        return own;
-    }
+    record::check_record(n, m, owners, priorities, offsets, targets, kept)?;
+    let beyond = Refusal::HighPriority(vertex);
+    check_own(n, vertex, priority, PRIORITIES, beyond)?;
     kept_numbers::recount(kept, priorities[vertex] as usize, priority);
     priorities[vertex] = priority as u16;
-    Answer::Answered(0)
+    Ok(0)
 }
 
 // Sets the owner of a vertex, for every input.
@@ -76,16 +69,10 @@ pub fn set_owner(
         kept.now)
         (said result) }
 {
-    let r = record::check_record(n, m, owners, priorities, offsets, targets, kept);
-    if r.number() != 0 {
-        return r;
-    }
-    let own = check_own(n, vertex, owner, 2, NO_SUCH_OWNER);
-    if own.number() != 0 {
-        return own;
-    }
+    record::check_record(n, m, owners, priorities, offsets, targets, kept)?;
+    check_own(n, vertex, owner, 2, Refusal::NoSuchOwner(vertex))?;
     owners[vertex] = owner as u8;
-    Answer::Answered(0)
+    Ok(0)
 }
 
 // Turns an edge to another target, for every input.
@@ -107,14 +94,8 @@ pub fn turn_edge(
         kept.now)
         (said result) }
 {
-    let r = record::check_record(n, m, owners, priorities, offsets, targets, kept);
-    if r.number() != 0 {
-        return r;
-    }
-    let own = check_own(m, edge, target, n, NO_SUCH_TARGET);
-    if own.number() != 0 {
-        return own;
-    }
+    record::check_record(n, m, owners, priorities, offsets, targets, kept)?;
+    check_own(m, edge, target, n, Refusal::NoSuchTarget(edge))?;
     targets[edge] = target as u16;
-    Answer::Answered(0)
+    Ok(0)
 }

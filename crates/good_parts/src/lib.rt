@@ -4,11 +4,11 @@
 
 ghost use Rattle.std.specs.Prelude.{◌≡◌, ◌+◌, ◌≤◌, ◌<◌, length};
 ghost use Rattle.search_links.specs.Area.{ClearedUpTo};
-ghost use Rattle.search_links.specs.Graph.{graph};
+ghost use Rattle.search_links.specs.Graph.{graph_of};
 ghost use Rattle.good_parts.specs.Noting.{Noteable, Noted, note_test};
 ghost use Rattle.good_parts.specs.Good.{Loopable, loops_at, Testable, good_at, Collectable, TestedBelow};
 
-use search_links::keeps;
+use search_links::Graph;
 use search_rows::Rows;
 
 // The words from one place up to another are cleared.
@@ -26,12 +26,12 @@ fn tells(priorities: &[u16], p: u16, l: u64, u: usize, two: bool) -> bool
     ensures { result ≡ note_test priorities.now p l u two }
 {
     if l == 0 {
-        return false;
+        false
+    } else if two {
+        l != u as u64 + 1
+    } else {
+        priorities[u] == p
     }
-    if two {
-        return l != u as u64 + 1;
-    }
-    priorities[u] == p
 }
 
 // Marks the labels of which some vertex tells so.
@@ -51,23 +51,15 @@ pub fn note(priorities: &[u16], m: usize, p: u16, work: &mut [u64], row: usize, 
 }
 
 // Whether v leads to itself, apart from its priority.
-fn has_loop(
-    priorities: &[u16],
-    offsets: &[u16],
-    targets: &[u16],
-    entries: &[u16],
-    p: u16,
-    v: usize,
-) -> bool
-    requires { Loopable (graph priorities.now offsets.now targets.now entries.now p) v }
-    ensures { result ≡ loops_at (graph priorities.now offsets.now targets.now
-        entries.now p) v }
+fn has_loop(graph: &Graph, v: usize) -> bool
+    requires { Loopable (graph_of graph.now) v }
+    ensures { result ≡ loops_at (graph_of graph.now) v }
 {
-    if !keeps(entries, v, v) {
+    if !graph.keeps(v, v) {
         return false;
     }
-    for e in offsets[v] as usize..offsets[v + 1] as usize {
-        if targets[e] as usize == v {
+    for e in graph.offsets[v] as usize..graph.offsets[v + 1] as usize {
+        if graph.targets[e] as usize == v {
             return true;
         }
     }
@@ -75,57 +67,29 @@ fn has_loop(
 }
 
 // Whether v lies in a good part.
-fn is_good(
-    priorities: &[u16],
-    offsets: &[u16],
-    targets: &[u16],
-    entries: &[u16],
-    p: u16,
-    work: &[u64],
-    v: usize,
-) -> bool
-    requires { Testable (graph priorities.now offsets.now targets.now entries.now p) work.now v }
-    ensures { result ≡ good_at (graph priorities.now offsets.now targets.now
-        entries.now p)
-        work.now v }
+fn is_good(graph: &Graph, work: &[u64], v: usize) -> bool
+    requires { Testable (graph_of graph.now) work.now v }
+    ensures { result ≡ good_at (graph_of graph.now) work.now v }
 {
-    if p < priorities[v] {
+    if graph.p < graph.priorities[v] {
         return false;
     }
-    let rows = Rows {
-        n: priorities.len(),
-        m: targets.len(),
-    };
-    let labels = rows.labels();
-    let label = work[labels + v] as usize - 1;
-    let hits = rows.hits();
-    if work[hits + label] == 0 {
+    let rows = graph.rows();
+    let label = work[rows.labels() + v] as usize - 1;
+    if work[rows.hits() + label] == 0 {
         return false;
     }
-    let pairs = rows.pairs();
-    if work[pairs + label] != 0 {
-        return true;
-    }
-    has_loop(priorities, offsets, targets, entries, p, v)
+    work[rows.pairs() + label] != 0 || has_loop(graph, v)
 }
 
 // Marks the vertices that lie in a good part, in a row of n words.
-pub fn collect(
-    priorities: &[u16],
-    offsets: &[u16],
-    targets: &[u16],
-    entries: &[u16],
-    p: u16,
-    work: &mut [u64],
-    base: usize,
-)
-    requires { Collectable (graph priorities.now offsets.now targets.now entries.now p) work.old base }
-    ensures { TestedBelow (graph priorities.now offsets.now targets.now
-        entries.now p)
-        work.old base (length priorities.now) work.new }
+pub fn collect(graph: &Graph, work: &mut [u64], base: usize)
+    requires { Collectable (graph_of graph.now) work.old base }
+    ensures { TestedBelow (graph_of graph.now)
+        work.old base (length graph.now.priorities.now) work.new }
 {
-    for v in 0..priorities.len() {
-        if is_good(priorities, offsets, targets, entries, p, work, v) {
+    for v in 0..graph.priorities.len() {
+        if is_good(graph, work, v) {
             work[base + v] = 1;
         }
     }

@@ -1,12 +1,10 @@
 -- How far the search for the highest priority has come.
-use Rattle.std.specs.Prelude.{true, List, ◌≡◌, ℕ, ◌≤◌, max, length, get_or}
+use Rattle.std.specs.Prelude.{true, List, ◌≡◌, ℕ, ◌≤◌, max, length, get_or, Option, Some, None}
 use Rattle.std.proofs.Common.{arith}
 use Rattle.basics.specs.Greatest.{greatest_bounds, greatest_le}
 use Rattle.parity_game.specs.declared.player.VertexIndex.{VertexIndex}
 use Rattle.walk.specs.Walk.{words_from, Begins, Walks}
 use Rattle.walk.specs.declared.members.Members.{Members}
-use Rattle.walk.specs.declared.members.Next.{Next}
-use Rattle.walk.specs.declared.members.Next.TheVariants.{Member, Done}
 use Rattle.area.specs.Area.{set_at}
 use Rattle.area.specs.Walked.{Passed, passes, passed_weaker, walked_none, walked_all, walked_next}
 use Rattle.highest_priority.specs.Parts.{highest_of, Searchable}
@@ -40,13 +38,13 @@ module _ {priorities : List ℕ} {s base top : ℕ} {work : List ℕ} (given : S
         greatest_le (length priorities) (set_at (length priorities) base work) (λ u. get_or priorities u 0) top (λ u l m. given.under u m),
       )
 
-  module _ {walk : Members} {highest : ℕ} (c : SearchedTo priorities base work walk highest) {next : Next}
-      (step : Walks (words_from s base work) walk next)
+  module _ {walk : Members} {highest : ℕ} (c : SearchedTo priorities base work walk highest) {next : Option VertexIndex} (rest : Members)
+      (step : Walks (words_from s base work) walk next rest)
     where
       -- the walk is over
-      pub searched_all : next ≡ Done → highest ≡ highest_of priorities (set_at (length priorities) base work)
+      pub searched_all : next ≡ None → highest ≡ highest_of priorities (set_at (length priorities) base work)
       searched_all told =
-          let all = (walked_all given.walkable c.passed step told).inside in
+          let all = (walked_all given.walkable c.passed rest step told).inside in
           omega (
             arith,
             c.most,
@@ -55,14 +53,14 @@ module _ {priorities : List ℕ} {s base top : ℕ} {work : List ℕ} (given : S
 
       -- the next member's priority counts
       pub searched_more :
-          {v : VertexIndex} {rest : Members} {higher : ℕ} →
-          next ≡ Member v rest →
+          {v : VertexIndex} {higher : ℕ} →
+          next ≡ Some v →
           higher ≡ max highest (get_or priorities v.0 0) →
           SearchedTo priorities base work rest higher
       searched_more {v} {higher = higher} told is =
           let weaker : Passed (length priorities) base (λ u. get_or priorities u 0 ≤ higher) work walk =
           passed_weaker (λ u l. omega (arith, l, is)) c.passed in
-          let reached = walked_next given.walkable weaker step told in
+          let reached = walked_next given.walkable weaker rest step told in
           record {
             passed = reached.more (passes (omega (arith, is)));
             most = omega (arith, is, c.most, bounds v.0 reached.member);

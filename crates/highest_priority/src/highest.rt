@@ -5,19 +5,15 @@ ghost use Rattle.highest_priority.specs.Parts.{highest_of, Searchable, Collects,
 ghost use Rattle.highest_priority.specs.Extending.{Extends, Extended};
 
 use area::Area;
-use parity_game::{Player, Priority};
+use parity_game::{Player, Priority, VertexIndex};
 use successors::inside::lowest_inside;
-use walk::{Members, Next};
+use walk::Members;
 
 // The number before p, or 0.
 pub fn one_less(p: Priority) -> Priority
     ensures { result.0 ≡ p.0 - 1 }
 {
-    if p.0 == 0 {
-        Priority(0)
-    } else {
-        Priority(p.0 - 1)
-    }
+    Priority(p.0.saturating_sub(1))
 }
 
 // The highest priority in V, its members found by words. No priority in V is above `top`, so a member that has it ends
@@ -35,21 +31,14 @@ pub fn get_highest_prio(
 {
     let mut highest: u16 = 0;
     let mut walk = Members::new(work, base, s);
-    loop {
-        let next = walk.next(work, base, s);
-        let Next::Member(member, rest) = next else {
-            return Priority(highest as usize);
-        };
-        let v = member.0;
+    while let Some(VertexIndex(v)) = walk.next(work, base, s) {
         let p = priorities[v];
         if p as usize == top.0 {
             return top;
         }
-        if highest < p {
-            highest = p;
-        }
-        walk = rest;
+        highest = highest.max(p);
     }
+    Priority(highest as usize)
 }
 
 // U: the members of V with priority p, found by words.
@@ -65,16 +54,10 @@ pub fn collect(
     ensures { Collected priorities.now p.0 within into work.old work.new }
 {
     let mut walk = Members::new(work, within, s);
-    loop {
-        let next = walk.next(work, within, s);
-        let Next::Member(member, rest) = next else {
-            return;
-        };
-        let v = member.0;
+    while let Some(VertexIndex(v)) = walk.next(work, within, s) {
         if priorities[v] as usize == p.0 {
             sets::insert(&mut work[into..into + s], v);
         }
-        walk = rest;
     }
 }
 
@@ -99,16 +82,10 @@ pub fn extend_lowest(
     let entries = Area { n, m, s }.entries();
     let alpha = Player::from_priority(p).index();
     let mut walk = Members::new(work, from, s);
-    loop {
-        let next = walk.next(work, from, s);
-        let Next::Member(member, rest) = next else {
-            return;
-        };
-        let v = member.0;
-        if owners[v] == alpha {
-            let w = lowest_inside(n, offsets, targets, member, &work[base..base + s]);
-            work[entries + v] = w;
+    while let Some(v) = walk.next(work, from, s) {
+        if owners[v.0] == alpha {
+            let w = lowest_inside(n, offsets, targets, v, &work[base..base + s]);
+            work[entries + v.0] = w;
         }
-        walk = rest;
     }
 }

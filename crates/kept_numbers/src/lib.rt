@@ -3,13 +3,12 @@
 #![tactic(auto)]
 
 ghost use Rattle.std.specs.Prelude.{◌≡◌, length, take};
-ghost use Rattle.rules.specs.Outcome.{outcome, answered};
 ghost use Rattle.rules.specs.Record.{kept_for, fresh_count, kept_check};
-ghost use Rattle.parity_game.specs.Said.{said};
+ghost use Rattle.parity_game.specs.Said.{verdict};
 ghost use Rattle.theory.specs.Counts.{moved};
 ghost use Rattle.kept_numbers.specs.Steps.{Counts, Movable};
 
-use parity_game::{Answer, KEPT_DIFFER, PRIORITIES};
+use parity_game::{Checked, PRIORITIES, Refusal};
 
 // Behind the counts stand how many priorities are there, and the highest.
 pub const DIFFERENT: usize = 256;
@@ -24,8 +23,8 @@ fn tally(priorities: &[u16]) -> [u64; KEPT]
     ensures { Counts priorities.now result }
 {
     let mut counts = [0u64; KEPT];
-    for v in 0..priorities.len() {
-        let p = priorities[v] as usize;
+    for &p in priorities {
+        let p = p as usize;
         if p < PRIORITIES {
             counts[p] += 1;
         }
@@ -60,19 +59,14 @@ pub fn fresh(priorities: &[u16]) -> [u64; KEPT]
 }
 
 // 47: what is kept is a fresh count.
-pub fn check_kept(priorities: &[u16], kept: &[u64]) -> Answer
-    ensures { said result ≡ outcome (kept_check priorities.now kept.now) (answered 0) }
+pub fn check_kept(priorities: &[u16], kept: &[u64]) -> Checked
+    ensures { verdict result ≡ kept_check priorities.now kept.now }
 {
-    if kept.len() != KEPT {
-        return Answer::Refused(KEPT_DIFFER);
-    }
     let count = fresh(priorities);
-    for i in 0..KEPT {
-        if kept[i] != count[i] {
-            return Answer::Refused(KEPT_DIFFER);
-        }
+    if kept != count.as_slice() {
+        return Err(Refusal::KeptDiffer);
     }
-    Answer::Answered(0)
+    Ok(())
 }
 
 // Writes kept numbers.
@@ -80,9 +74,7 @@ pub fn put(count: &[u64; KEPT], kept: &mut [u64])
     requires { (length count.now ≡ 258) × (length kept.old ≡ 258) }
     ensures { kept.new ≡ count.now }
 {
-    for i in 0..KEPT {
-        kept[i] = count[i];
-    }
+    kept.copy_from_slice(count);
 }
 
 // Writes a fresh count.

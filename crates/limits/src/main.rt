@@ -12,7 +12,7 @@ fn report(rt: &impl Print, name: &str, budget: u64, work: &mut [u64]) -> io::Res
     let mut kept = [0u64; KEPT];
     let mut place = 0;
     let mut count = 0;
-    record::fresh_count(2, 2, &[0, 1], &[2, 1], &[0, 1, 2], &[1, 1], &mut kept);
+    let _ = record::fresh_count(2, 2, &[0, 1], &[2, 1], &[0, 1, 2], &[1, 1], &mut kept);
     let number = reckonbough_solvers::recursion::reckonbough_zielonka(
         2,
         2,

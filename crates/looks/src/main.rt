@@ -21,7 +21,7 @@ fn main(rt: HostRuntime) -> io::Result<()> {
     let mut kept = [0u64; KEPT];
     let mut place = 0;
     let mut count = 0;
-    record::fresh_count(2, 3, &[1, 0], &[1, 2], &[0, 2, 3], &[1, 1, 1], &mut kept);
+    let _ = record::fresh_count(2, 3, &[1, 0], &[1, 2], &[0, 2, 3], &[1, 1, 1], &mut kept);
     let number = reckonbough_attractor::attraction::reckonbough_attractor(
         2,
         3,

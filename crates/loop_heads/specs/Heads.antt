@@ -1,5 +1,5 @@
 -- The search that begins at the vertices of exactly p that a row of words marks.
-use Rattle.std.specs.Prelude.{Bool, true, false, ◌&&◌, List, ◌⊎◌, ◌≡◌, ℕ, ◌+◌, ◌≤◌, ◌<◌, length, get_or}
+use Rattle.std.specs.Prelude.{Bool, true, false, ◌&&◌, List, ◌≡◌, ℕ, ◌+◌, ◌≤◌, ◌<◌, length, get_or}
 use Rattle.std.proofs.Math.Bool.{not}
 use Rattle.std.proofs.Common.{inr, ⊎_elim, sym, subst, ◌∙◌, add-one, arith}
 use Rattle.std.proofs.Math.Path.{ap}
@@ -38,6 +38,10 @@ module _ (priorities : List ℕ) (p row : ℕ) (work : List ℕ) (v : ℕ) where
   pub true_head : get_or priorities v 0 ≡ p → (get_or work (row + v) 0 ≡ 0 → ⊥) → head priorities p row work v ≡ true
   unfolding head
   true_head e d = and_intro (eq-eqb (get_or priorities v 0) p e) (ap not (ne_eqb (get_or work (row + v) 0) 0 d))
+
+-- the graph with all its vertices let in
+abbrev pub among_all : Graph → Graph
+among_all G = record G { top = 255 }
 
 pub record Headable (G : Graph) (row : ℕ) (work : List ℕ) : Type 0 where
   pub tables : Open G work

@@ -1,7 +1,7 @@
 -- What the steps of mending and its callers go by: the checks in the order in which the code makes them, the sizes as it works
 -- them out, what an answer and a refusal leave, and that an answer leaves tables that pass document 01's checks.
-use Rattle.std.specs.Prelude.{◌||◌, List, [], ◌≡◌, refl, ℕ, ◌+◌, ◌-◌, ◌*◌, ◌≤◌, ◌<◌, ltb, length}
-use Rattle.std.proofs.Common.{sym, ap, ◌∙◌, arith, lt-ltb, le-ltb, ltb-false}
+use Rattle.std.specs.Prelude.{Result, Err, ◌||◌, List, [], ◌≡◌, refl, ℕ, ◌+◌, ◌-◌, ◌*◌, ◌≤◌, ◌<◌, ltb, length}
+use Rattle.std.proofs.Common.{sym, subst, ap, ◌∙◌, arith, lt-ltb, le-ltb, ltb-false}
 use Rattle.rules.specs.Counting.{count}
 use Rattle.rules.specs.Mending.{mended, altered, dropped_up_to, mending_list, MendingLent, check35, mending_checks, mending_leaves}
 use Rattle.rules.specs.Mending.{overwritten, Mends}
@@ -10,6 +10,9 @@ use Rattle.rules.specs.Tables.{Tables, vertices, edges_in, Accepted, check1, che
 use Rattle.parity_game.specs.Laws.{length_checks, then_assoc, then_none, given_none, check3_none, Numbered, numbered_then}
 use Rattle.parity_game.specs.Laws.{numbered_given, numbered_lengths, numbered_check3, numbered_check4, numbered_check5}
 use Rattle.parity_game.specs.Laws.{numbered_check6, zero_none}
+use Rattle.parity_game.specs.declared.refusal.Refusal.{Refusal}
+use Rattle.parity_game.specs.Said.{said, verdict}
+use Rattle.parity_game.specs.Laws.{refused_outcome}
 use Rattle.basics.specs.Basics.{or_false_both, count_le}
 use Rattle.theory.specs.Mending.{export_checks, Shaped, mended_length, list_length}
 use Rattle.theory.specs.MendingAccepted.{mended_accepted}
@@ -171,6 +174,18 @@ mends_refused t before o e h =
           refusal_leaves (mending_checks t before) t before (length (mending_list t))
           (λ z. h (ap (λ (x : Outcome). x.number) e ∙ z));
     }
+
+-- the same of what a check refused
+pub mends_stopped :
+    {t : Tables} {before : MendingLent} (x : Result ℕ Refusal) (f : Refusal) →
+    x ≡ Err f →
+    verdict (Err f) ≡ mending_checks t before →
+    Mends t before before (said x)
+mends_stopped {t} {before} x f gave was =
+    rw gave (record {
+      gives = refused_outcome f (mending_checks t before) (answered (length (mending_list t))) was;
+      leaves = subst (λ (v : Verdict). before ≡ mending_leaves v t before) was refl;
+    })
 
 -- an answer meets it where the rule's tables and list were written
 pub mends_answered :

@@ -5,9 +5,8 @@
 
 ghost use Rattle.std.specs.Prelude.{◌≡◌, ◌≤◌};
 ghost use Rattle.rules.specs.Mending.{Mends};
-ghost use Rattle.rules.specs.Outcome.{outcome, answered};
 ghost use Rattle.rules.specs.Tables.{tables_of};
-ghost use Rattle.parity_game.specs.Said.{said};
+ghost use Rattle.parity_game.specs.Said.{said, verdict};
 ghost use Rattle.theory.specs.Mending.{export_checks};
 ghost use Rattle.mend.specs.Laws.{lent_of, room_checks};
 
@@ -15,34 +14,24 @@ use mend_counts::counts::{altered_vertices, dropped_edges};
 use mend_counts::priorities::write_priorities;
 use mend_edges::write_edges;
 use mend_list::write_list;
-use parity_game::{Answer, MOST_EDGES, SHORT_OUTPUT, TOO_MANY_EDGES};
+use parity_game::{Answer, Checked, MOST_EDGES, Refusal};
 
 // 1 to 6, for any four slices whatever they hold.
-fn check_export(owners: &[u8], priorities: &[u16], offsets: &[u16], targets: &[u16]) -> Answer
-    ensures { said result
-        ≡ outcome
-        (export_checks
-        (tables_of owners.now priorities.now offsets.now targets.now))
-        (answered 0) }
+#[tactic(auto, using(crate::specs::Laws::export_grouped))]
+fn check_export(owners: &[u8], priorities: &[u16], offsets: &[u16], targets: &[u16]) -> Checked
+    ensures { verdict result ≡ export_checks
+        (tables_of owners.now priorities.now offsets.now targets.now) }
 {
     let n = owners.len();
     let m = targets.len();
-    let r = checks_in_order::check_lengths(n, priorities.len(), offsets.len(), m);
-    if r.number() != 0 {
-        return r;
-    }
-    let r = checks_in_order::check_owners(owners);
-    if r.number() != 0 {
-        return r;
-    }
-    let r = checks_in_order::check_priorities(priorities);
-    if r.number() != 0 {
-        return r;
-    }
+    checks_in_order::check_lengths(n, priorities.len(), offsets.len(), m)?;
+    checks_in_order::check_owners(owners)?;
+    checks_in_order::check_priorities(priorities)?;
     checks_in_order::check_offsets(offsets, n, m)
 }
 
 // 35: each output and the list have the room that is needed.
+#[tactic(auto, unfolding(crate::specs::Laws::room_checks))]
 fn check_rooms(
     n: usize,
     edges: usize,
@@ -51,23 +40,14 @@ fn check_rooms(
     offsets: usize,
     targets: usize,
     list: usize,
-) -> Answer
+) -> Checked
     requires { n ≤ 4096 }
-    ensures { said result ≡ outcome (room_checks n edges entries priorities offsets targets list) (answered 0) }
+    ensures { verdict result ≡ room_checks n edges entries priorities offsets targets list }
 {
-    if priorities < n {
-        return Answer::Refused(SHORT_OUTPUT);
+    if priorities < n || offsets < n + 1 || targets < edges || list < entries {
+        return Err(Refusal::ShortOutput);
     }
-    if offsets < n + 1 {
-        return Answer::Refused(SHORT_OUTPUT);
-    }
-    if targets < edges {
-        return Answer::Refused(SHORT_OUTPUT);
-    }
-    if list < entries {
-        return Answer::Refused(SHORT_OUTPUT);
-    }
-    Answer::Answered(0)
+    Ok(())
 }
 
 // Writes the mended tables and the list of what was done, for every input.
@@ -89,18 +69,15 @@ pub fn mend(
         list.new)
         (said result) }
 {
-    let r = check_export(owners, priorities, offsets, targets);
-    if r.number() != 0 {
-        return r;
-    }
+    check_export(owners, priorities, offsets, targets)?;
     let dropped = dropped_edges(owners, targets);
     let altered = altered_vertices(owners, offsets, targets);
     let edges = targets.len() - dropped + altered;
     if MOST_EDGES < edges {
-        return Answer::Refused(TOO_MANY_EDGES);
+        return Err(Refusal::TooManyEdges);
     }
     let entries = dropped + 2 * altered;
-    let rooms = check_rooms(
+    check_rooms(
         owners.len(),
         edges,
         entries,
@@ -108,12 +85,9 @@ pub fn mend(
         new_offsets.len(),
         new_targets.len(),
         list.len(),
-    );
-    if rooms.number() != 0 {
-        return rooms;
-    }
+    )?;
     write_priorities(owners, priorities, offsets, targets, new_priorities);
     write_edges(owners, offsets, targets, new_offsets, new_targets);
     write_list(owners, priorities, offsets, targets, dropped, list);
-    Answer::Answered(entries as u64)
+    Ok(entries as u64)
 }

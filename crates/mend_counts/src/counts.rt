@@ -28,8 +28,8 @@ pub fn dropped_edges(owners: &[u8], targets: &[u16]) -> usize
 {
     let n = owners.len();
     let mut dropped = 0;
-    for e in 0..targets.len() {
-        if n <= targets[e] as usize {
+    for &target in targets {
+        if n <= target as usize {
             dropped += 1;
         }
     }

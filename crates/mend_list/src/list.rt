@@ -19,8 +19,8 @@ fn write_dropped(owners: &[u8], targets: &[u16], list: &mut [u16])
 {
     let n = owners.len();
     let mut end = 0;
-    for e in 0..targets.len() {
-        if n <= targets[e] as usize {
+    for (e, &target) in targets.iter().enumerate() {
+        if n <= target as usize {
             list[end] = e as u16;
             end += 1;
         }

@@ -14,7 +14,7 @@ pub struct Said {
     pub two_owners: bool,
 }
 
-// 0 where number 0 was given with these sets and this count, and the checker gives 0 to them; else 1.
+// Whether anything but number 0 was given with these sets and this count, or anything but 0 by the checker to them.
 pub fn differs(
     number: u64,
     made: u64,
@@ -23,45 +23,22 @@ pub fn differs(
     odd: u64,
     count: u64,
     wanted: Said,
-) -> u64
-    ensures { result ≡ 0 →
+) -> bool
+    ensures { result ≡ false →
         (number ≡ 0) × (made ≡ count) × (checked ≡ 0) ×
         (even ≡ wanted.even) × (odd ≡ wanted.odd) }
 {
-    if number != 0 {
-        return 1;
-    }
-    if made != count {
-        return 1;
-    }
-    if checked != 0 {
-        return 1;
-    }
-    if even != wanted.even {
-        return 1;
-    }
-    if odd != wanted.odd {
-        return 1;
-    }
-    0
+    number != 0 || made != count || checked != 0 || even != wanted.even || odd != wanted.odd
 }
 
-// 0 where two owners are refused, or number 0 was given with this set; else 1.
-pub fn set_differs(number: u64, set: u64, wanted: Said) -> u64
-    ensures { (result ≡ 0 → wanted.two_owners ≡ true → number ≡ 11) ×
-        (result ≡ 0 → wanted.two_owners ≡ false → (number ≡ 0) × (set ≡ wanted.solitaire)) }
+// Whether anything but the refusal of two owners was given where there are two, or else anything but this set.
+pub fn set_differs(number: u64, set: u64, wanted: Said) -> bool
+    ensures { (result ≡ false → wanted.two_owners ≡ true → number ≡ 11) ×
+        (result ≡ false → wanted.two_owners ≡ false → (number ≡ 0) × (set ≡ wanted.solitaire)) }
 {
     if wanted.two_owners {
-        if number != 11 {
-            return 1;
-        }
-        return 0;
+        number != 11
+    } else {
+        number != 0 || set != wanted.solitaire
     }
-    if number != 0 {
-        return 1;
-    }
-    if set != wanted.solitaire {
-        return 1;
-    }
-    0
 }

@@ -1,6 +1,6 @@
 -- What callers of the checks go by: how verdicts follow one another, that a number 0 says that nothing was refused, and all that
 -- is known of tables that were accepted.
-use Rattle.std.specs.Prelude.{Bool, true, false, not, ◌&&◌, ◌||◌, List, [], ◌∷◌, ◌≡◌, refl, ℕ, ◌+◌, ◌<◌, ◌≤◌, eqb, ltb, length, get_or}
+use Rattle.std.specs.Prelude.{Result, Err, Bool, true, false, not, ◌&&◌, ◌||◌, List, [], ◌∷◌, ◌≡◌, refl, ℕ, ◌+◌, ◌<◌, ◌≤◌, eqb, ltb, length, get_or}
 use Rattle.std.proofs.Common.{sym, ◌∙◌, ap, subst, arith, ltb-false, eqb-true}
 use Rattle.rules.specs.Counting.{some, every_of}
 use Rattle.rules.specs.Outcome.{Outcome, Verdict, none, refused, given, given_at, outcome, answered, ◌then◌}
@@ -8,6 +8,9 @@ use Rattle.rules.specs.Tables.{Tables, vertices, edges_in, words, work_words, ta
 pub use Rattle.accepted.specs.Tables.{then_none, given_none, given_at_none, check1_none, check2_none, check3_none, check4_none}
 pub use Rattle.accepted.specs.Tables.{check5_none, check6_none, check7_none, check8_none, never_falls, Sound, accepted_sound}
 use Rattle.rules.specs.Tables.{check1, check2, check3, check4, check5, check6, check7, check8, check9, check10}
+use Rattle.parity_game.specs.declared.refusal.Refusal.{Refusal}
+use Rattle.parity_game.specs.declared.refusal.Refusal.TheVariants.{TooManyVertices, TableLengths, TooManyEdges, BadOwner, BadPriority, BadOffset, BadTarget, DeadEnd, BadSize, ShortWork, OwnersDiffer, StrayBit, NotOneWinner, BadEntry, LeavesSet, LosingCycle, NoStrategy, BadText, BadIdentifier, BeyondLimit, NoVertex, ShortText, ShortOutput, NoSuchEntry, HighPriority, NoSuchTarget, NoSuchVertex, ShortList, NoLoop, KeptDiffer, NoSuchOwner, Again}
+use Rattle.parity_game.specs.Said.{verdict, refusal_of}
 
 -- ---- one check after another
 
@@ -204,3 +207,44 @@ check9_table_none n b e = go (eqb b n) refl e
 pub check10_none : (n m work : ℕ) → check10 n m work ≡ none → work_words n m ≤ work
 unfolding check10
 check10_none n m work e = ltb-false work (work_words n m) (given_none 10 0 (ltb work (work_words n m)) e)
+
+-- ---- what a check refused
+
+-- a refusal has count 0
+pub no_count : (e : Refusal) → (refusal_of e).count ≡ 0
+no_count TooManyVertices = refl
+no_count TableLengths = refl
+no_count TooManyEdges = refl
+no_count (BadOwner v) = refl
+no_count (BadPriority v) = refl
+no_count (BadOffset at) = refl
+no_count (BadTarget at) = refl
+no_count (DeadEnd v) = refl
+no_count BadSize = refl
+no_count ShortWork = refl
+no_count OwnersDiffer = refl
+no_count (StrayBit at) = refl
+no_count (NotOneWinner at) = refl
+no_count (BadEntry v) = refl
+no_count (LeavesSet v) = refl
+no_count (LosingCycle v) = refl
+no_count (NoStrategy v) = refl
+no_count (BadText at) = refl
+no_count (BadIdentifier at) = refl
+no_count (BeyondLimit at) = refl
+no_count NoVertex = refl
+no_count (ShortText at) = refl
+no_count ShortOutput = refl
+no_count (NoSuchEntry at) = refl
+no_count (HighPriority at) = refl
+no_count (NoSuchTarget at) = refl
+no_count (NoSuchVertex at) = refl
+no_count ShortList = refl
+no_count (NoLoop v) = refl
+no_count KeptDiffer = refl
+no_count (NoSuchOwner at) = refl
+no_count (Again k place) = refl
+
+-- what a check refused is the outcome, whatever would have come of it
+pub refused_outcome : (e : Refusal) (v : Verdict) (o : Outcome) → verdict (Err e) ≡ v → refusal_of e ≡ outcome v o
+refused_outcome e v o h = subst (λ (x : Verdict). refusal_of e ≡ outcome x o) h (ap (λ (k : ℕ). record { number = (refusal_of e).number; place = (refusal_of e).place; count = k }) (no_count e))

@@ -4,14 +4,14 @@ ghost use Rattle.rules.specs.Game.{opponent, parity, player_of};
 ghost use Rattle.parity_game.specs.Said.{is};
 
 // The index of a vertex.
-#[derive(Clone, Copy)]
+#[derive(Clone, Copy, Debug, PartialEq, Eq)]
 pub struct VertexIndex(pub usize);
 
 // A priority, or the number of a region.
-#[derive(Clone, Copy)]
+#[derive(Clone, Copy, Debug, PartialEq, Eq)]
 pub struct Priority(pub usize);
 
-#[derive(Clone, Copy)]
+#[derive(Clone, Copy, Debug, PartialEq, Eq)]
 pub enum Player {
     Even,
     Odd,

@@ -1,10 +1,9 @@
 // How many words a set and the work area have, and the checks 9 and 10 of what is lent. None writes anything.
 ghost use Rattle.std.specs.Prelude.{◌≡◌, ◌∷◌, [], ◌≤◌};
 ghost use Rattle.rules.specs.Tables.{words, work_words, check9, check10};
-ghost use Rattle.rules.specs.Outcome.{outcome, answered};
-ghost use Rattle.parity_game.specs.Said.{said};
+ghost use Rattle.parity_game.specs.Said.{verdict};
 
-use crate::answer::{Answer, BAD_SIZE, SHORT_WORK};
+use crate::refusal::{Checked, Refusal};
 
 // s: the words of a set of n vertices.
 pub fn set_words(n: usize) -> usize
@@ -22,32 +21,32 @@ pub fn work_words(n: usize, m: usize) -> usize
 }
 
 // 9 for one set.
-pub fn check_set(n: usize, set: usize) -> Answer
-    ensures { said result ≡ outcome (check9 n (set ∷ []) []) (answered 0) }
+pub fn check_set(n: usize, set: usize) -> Checked
+    ensures { verdict result ≡ check9 n (set ∷ []) [] }
 {
     if set != set_words(n) {
-        return Answer::Refused(BAD_SIZE);
+        return Err(Refusal::BadSize);
     }
-    Answer::Answered(0)
+    Ok(())
 }
 
 // 9 for one strategy or new priority table.
-pub fn check_table(n: usize, table: usize) -> Answer
-    ensures { said result ≡ outcome (check9 n [] (table ∷ [])) (answered 0) }
+pub fn check_table(n: usize, table: usize) -> Checked
+    ensures { verdict result ≡ check9 n [] (table ∷ []) }
 {
     if table != n {
-        return Answer::Refused(BAD_SIZE);
+        return Err(Refusal::BadSize);
     }
-    Answer::Answered(0)
+    Ok(())
 }
 
 // 10.
-pub fn check_work(n: usize, m: usize, work: usize) -> Answer
+pub fn check_work(n: usize, m: usize, work: usize) -> Checked
     requires { (n ≤ 4096) × (m ≤ 16384) }
-    ensures { said result ≡ outcome (check10 n m work) (answered 0) }
+    ensures { verdict result ≡ check10 n m work }
 {
     if work < work_words(n, m) {
-        return Answer::Refused(SHORT_WORK);
+        return Err(Refusal::ShortWork);
     }
-    Answer::Answered(0)
+    Ok(())
 }

@@ -1,5 +1,5 @@
 -- The stages joined: from a lent work area with the predecessor table to the row of marks, which are the rule's.
-use Rattle.std.specs.Prelude.{Bool, true, false, ◌&&◌, ◌||◌, ◌⊎◌, ◌≡◌, ℕ, ◌+◌, ◌-◌, ◌≤◌, ◌<◌, eqb, length, get_or}
+use Rattle.std.specs.Prelude.{Bool, true, false, ◌&&◌, ◌||◌, ◌≡◌, ℕ, ◌+◌, ◌-◌, ◌≤◌, ◌<◌, eqb, length, get_or}
 use mathlib.Core.List.{List, Memᴰ}
 use Rattle.std.proofs.Common.{inl, inr, ⊎_elim, sym, ap, ap₂, subst, ◌∙◌, le_refl, arith, lt-ltb}
 use Rattle.std.proofs.Math.Decide.{ℕ_discrete}

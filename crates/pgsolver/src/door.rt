@@ -9,12 +9,13 @@ ghost use Rattle.pgsolver_step.specs.Steps.{Fitting};
 ghost use Rattle.pgsolver_portion.specs.Reached.{TakenAs};
 ghost use Rattle.pgsolver_end.specs.Told.{Fitted};
 
-use parity_game::{Answer, BAD_SIZE, SHORT_WORK};
+use parity_game::{Answer, Refusal};
+use pgsolver_acts::state::State;
 use pgsolver_end::end::end_text;
 use pgsolver_finish::finish::{Asks, refuse};
 use pgsolver_portion::begin::begin;
-use pgsolver_portion::take::{Taken, take_portion};
-use reading_rooms::{Fits, check_rooms};
+use pgsolver_portion::take::take_portion;
+use reading_rooms::check_rooms;
 
 // A start, and the text as one portion.
 fn take_whole(
@@ -24,7 +25,7 @@ fn take_whole(
     priorities: &mut [u16],
     offsets: &mut [u16],
     targets: &mut [u16],
-) -> Taken
+) -> Result<State, Refusal>
     requires { Fitting owners.old priorities.old offsets.old }
     ensures { TakenAs most_bytes text.now (length text.now) result owners.new
         priorities.new offsets.new targets.new }
@@ -55,11 +56,7 @@ fn read_fitting(
         (said result) }
 {
     match take_whole(text, most_bytes, owners, priorities, offsets, targets) {
-        Taken::Refused(number, place) => {
-            refuse(owners, priorities, offsets, targets, work, n, m);
-            Answer::AtPlace(number, place as usize)
-        }
-        Taken::On(next) => end_text(
+        Ok(next) => end_text(
             asks,
             next,
             text.len() as u64,
@@ -71,6 +68,10 @@ fn read_fitting(
             n,
             m,
         ),
+        Err(refusal) => {
+            refuse(owners, priorities, offsets, targets, work, n, m);
+            Err(refusal)
+        }
     }
 }
 
@@ -94,19 +95,16 @@ fn read_by(
         work.new n.new m.new)
         (said result) }
 {
-    match check_rooms(
+    check_rooms(
         owners.len(),
         priorities.len(),
         offsets.len(),
         targets.len(),
         work.len(),
-    ) {
-        Fits::Sizes => Answer::Refused(BAD_SIZE),
-        Fits::Work => Answer::Refused(SHORT_WORK),
-        Fits::Fit => read_fitting(
-            asks, text, most_bytes, owners, priorities, offsets, targets, work, n, m,
-        ),
-    }
+    )?;
+    read_fitting(
+        asks, text, most_bytes, owners, priorities, offsets, targets, work, n, m,
+    )
 }
 
 // A game from a text: its tables pass document 01's list.

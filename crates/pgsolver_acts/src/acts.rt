@@ -37,27 +37,14 @@ fn on_separator(phase: Phase) -> Act
     ensures { result ≡ on_separator phase }
 {
     match phase {
-        Phase::AtStart => Act::Stay,
-        Phase::InWord(k) => if k == 6 {
-            Act::To(Phase::PastWord)
-        } else {
-            Act::Off
-        },
-        Phase::PastWord => Act::Stay,
+        Phase::InWord(6) => Act::To(Phase::PastWord),
+        Phase::InWord(_) => Act::Off,
         Phase::InHighest => Act::Head(Phase::PastHighest),
-        Phase::PastHighest => Act::Stay,
-        Phase::BetweenRecords => Act::Stay,
         Phase::InIdentifier => Act::Identify,
-        Phase::PastIdentifier => Act::Stay,
         Phase::InPriority => Act::Rank,
-        Phase::PastPriority => Act::Stay,
         Phase::InOwner => Act::Own,
-        Phase::PastOwner => Act::Stay,
         Phase::InTarget => Act::Aim(Phase::PastTarget),
-        Phase::PastTarget => Act::Stay,
-        Phase::PastComma => Act::Stay,
-        Phase::InName => Act::Stay,
-        Phase::PastName => Act::Stay,
+        _ => Act::Stay,
     }
 }
 
@@ -66,23 +53,18 @@ fn on_digit(phase: Phase) -> Act
     ensures { result ≡ on_digit phase }
 {
     match phase {
-        Phase::AtStart => Act::BeginIdentifier,
-        Phase::InWord(_) => Act::Off,
+        Phase::AtStart | Phase::BetweenRecords => Act::BeginIdentifier,
         Phase::PastWord => Act::Begin(Phase::InHighest),
-        Phase::InHighest => Act::More,
-        Phase::PastHighest => Act::Off,
-        Phase::BetweenRecords => Act::BeginIdentifier,
-        Phase::InIdentifier => Act::More,
         Phase::PastIdentifier => Act::Begin(Phase::InPriority),
-        Phase::InPriority => Act::More,
         Phase::PastPriority => Act::Begin(Phase::InOwner),
-        Phase::InOwner => Act::More,
-        Phase::PastOwner => Act::BeginTarget,
-        Phase::InTarget => Act::More,
-        Phase::PastTarget => Act::Off,
-        Phase::PastComma => Act::BeginTarget,
+        Phase::PastOwner | Phase::PastComma => Act::BeginTarget,
+        Phase::InHighest
+        | Phase::InIdentifier
+        | Phase::InPriority
+        | Phase::InOwner
+        | Phase::InTarget => Act::More,
         Phase::InName => Act::Stay,
-        Phase::PastName => Act::Off,
+        _ => Act::Off,
     }
 }
 
@@ -91,23 +73,10 @@ fn on_comma(phase: Phase) -> Act
     ensures { result ≡ on_comma phase }
 {
     match phase {
-        Phase::AtStart => Act::Off,
-        Phase::InWord(_) => Act::Off,
-        Phase::PastWord => Act::Off,
-        Phase::InHighest => Act::Off,
-        Phase::PastHighest => Act::Off,
-        Phase::BetweenRecords => Act::Off,
-        Phase::InIdentifier => Act::Off,
-        Phase::PastIdentifier => Act::Off,
-        Phase::InPriority => Act::Off,
-        Phase::PastPriority => Act::Off,
-        Phase::InOwner => Act::Off,
-        Phase::PastOwner => Act::Off,
         Phase::InTarget => Act::Aim(Phase::PastComma),
         Phase::PastTarget => Act::To(Phase::PastComma),
-        Phase::PastComma => Act::Off,
         Phase::InName => Act::Stay,
-        Phase::PastName => Act::Off,
+        _ => Act::Off,
     }
 }
 
@@ -116,23 +85,13 @@ fn on_semicolon(phase: Phase) -> Act
     ensures { result ≡ on_semicolon phase }
 {
     match phase {
-        Phase::AtStart => Act::Off,
-        Phase::InWord(_) => Act::Off,
-        Phase::PastWord => Act::Off,
         Phase::InHighest => Act::Head(Phase::BetweenRecords),
         Phase::PastHighest => Act::To(Phase::BetweenRecords),
-        Phase::BetweenRecords => Act::Off,
-        Phase::InIdentifier => Act::Off,
-        Phase::PastIdentifier => Act::Off,
-        Phase::InPriority => Act::Off,
-        Phase::PastPriority => Act::Off,
-        Phase::InOwner => Act::Off,
-        Phase::PastOwner => Act::Off,
         Phase::InTarget => Act::AimClose,
         Phase::PastTarget => Act::Close,
-        Phase::PastComma => Act::Off,
         Phase::InName => Act::Stay,
         Phase::PastName => Act::Close,
+        _ => Act::Off,
     }
 }
 
@@ -141,23 +100,10 @@ fn on_quote(phase: Phase) -> Act
     ensures { result ≡ on_quote phase }
 {
     match phase {
-        Phase::AtStart => Act::Off,
-        Phase::InWord(_) => Act::Off,
-        Phase::PastWord => Act::Off,
-        Phase::InHighest => Act::Off,
-        Phase::PastHighest => Act::Off,
-        Phase::BetweenRecords => Act::Off,
-        Phase::InIdentifier => Act::Off,
-        Phase::PastIdentifier => Act::Off,
-        Phase::InPriority => Act::Off,
-        Phase::PastPriority => Act::Off,
-        Phase::InOwner => Act::Off,
-        Phase::PastOwner => Act::Off,
         Phase::InTarget => Act::Aim(Phase::InName),
         Phase::PastTarget => Act::To(Phase::InName),
-        Phase::PastComma => Act::Off,
         Phase::InName => Act::To(Phase::PastName),
-        Phase::PastName => Act::Off,
+        _ => Act::Off,
     }
 }
 
@@ -168,21 +114,8 @@ fn on_letter(phase: Phase) -> Act
     match phase {
         Phase::AtStart => Act::Spell(0),
         Phase::InWord(k) => Act::Spell(k),
-        Phase::PastWord => Act::Off,
-        Phase::InHighest => Act::Off,
-        Phase::PastHighest => Act::Off,
-        Phase::BetweenRecords => Act::Off,
-        Phase::InIdentifier => Act::Off,
-        Phase::PastIdentifier => Act::Off,
-        Phase::InPriority => Act::Off,
-        Phase::PastPriority => Act::Off,
-        Phase::InOwner => Act::Off,
-        Phase::PastOwner => Act::Off,
-        Phase::InTarget => Act::Off,
-        Phase::PastTarget => Act::Off,
-        Phase::PastComma => Act::Off,
         Phase::InName => Act::Stay,
-        Phase::PastName => Act::Off,
+        _ => Act::Off,
     }
 }
 
@@ -191,23 +124,8 @@ fn on_other(phase: Phase) -> Act
     ensures { result ≡ on_other phase }
 {
     match phase {
-        Phase::AtStart => Act::Off,
-        Phase::InWord(_) => Act::Off,
-        Phase::PastWord => Act::Off,
-        Phase::InHighest => Act::Off,
-        Phase::PastHighest => Act::Off,
-        Phase::BetweenRecords => Act::Off,
-        Phase::InIdentifier => Act::Off,
-        Phase::PastIdentifier => Act::Off,
-        Phase::InPriority => Act::Off,
-        Phase::PastPriority => Act::Off,
-        Phase::InOwner => Act::Off,
-        Phase::PastOwner => Act::Off,
-        Phase::InTarget => Act::Off,
-        Phase::PastTarget => Act::Off,
-        Phase::PastComma => Act::Off,
         Phase::InName => Act::Stay,
-        Phase::PastName => Act::Off,
+        _ => Act::Off,
     }
 }
 

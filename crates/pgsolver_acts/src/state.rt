@@ -51,87 +51,97 @@ impl State {
     pub fn to(self, phase: Phase) -> State
         ensures { result ≡ to_phase phase self }
     {
-        State {
-            phase,
-            said: self.said,
-            highest: self.highest,
-            records: self.records,
-            edges: self.edges,
-            identifier: self.identifier,
-            priority: self.priority,
-            owner: self.owner,
-            begins: self.begins,
-            value: self.value,
-        }
+        State { phase, ..self }
     }
 
     // In a number whose value so far is given.
-    pub fn reading(mut self, phase: Phase, value: u16) -> State
+    pub fn reading(self, phase: Phase, value: u16) -> State
         ensures { result ≡ reading_on phase value self }
     {
-        self.value = value;
-        self.to(phase)
+        State {
+            phase,
+            value,
+            ..self
+        }
     }
 
     // N is read.
-    pub fn headed(mut self, phase: Phase) -> State
+    pub fn headed(self, phase: Phase) -> State
         ensures { result ≡ headed_on phase self }
     {
-        self.said = true;
-        self.highest = self.value;
-        self.value = 0;
-        self.to(phase)
+        State {
+            phase,
+            said: true,
+            highest: self.value,
+            value: 0,
+            ..self
+        }
     }
 
     // The identifier is read.
-    pub fn identified(mut self) -> State
+    pub fn identified(self) -> State
         ensures { result ≡ identified_on self }
     {
-        self.identifier = self.value;
-        self.priority = 0;
-        self.owner = 0;
-        self.value = 0;
-        self.to(Phase::PastIdentifier)
+        State {
+            phase: Phase::PastIdentifier,
+            identifier: self.value,
+            priority: 0,
+            owner: 0,
+            value: 0,
+            ..self
+        }
     }
 
     // The priority is read.
-    pub fn ranked(mut self) -> State
+    pub fn ranked(self) -> State
         ensures { result ≡ ranked_on self }
     {
-        self.priority = self.value;
-        self.owner = 0;
-        self.value = 0;
-        self.to(Phase::PastPriority)
+        State {
+            phase: Phase::PastPriority,
+            priority: self.value,
+            owner: 0,
+            value: 0,
+            ..self
+        }
     }
 
     // The owner is read.
-    pub fn owned(mut self) -> State
+    pub fn owned(self) -> State
         ensures { result ≡ owned_on self }
     {
-        self.owner = self.value;
-        self.value = 0;
-        self.to(Phase::PastOwner)
+        State {
+            phase: Phase::PastOwner,
+            owner: self.value,
+            value: 0,
+            ..self
+        }
     }
 
     // A target is read.
-    pub fn aimed(mut self, phase: Phase) -> State
+    pub fn aimed(self, phase: Phase) -> State
         ensures { result ≡ aimed_on phase self }
     {
-        self.edges = self.edges % 32768 + 1;
-        self.value = 0;
-        self.to(phase)
+        State {
+            phase,
+            edges: self.edges % 32768 + 1,
+            value: 0,
+            ..self
+        }
     }
 
     // The record is whole.
-    pub fn closed(mut self) -> State
+    pub fn closed(self) -> State
         ensures { result ≡ closed_on self }
     {
-        self.records = self.records % 32768 + 1;
-        self.begins = self.edges;
-        self.identifier = 0;
-        self.priority = 0;
-        self.owner = 0;
-        self.value = 0;
-        self.to(Phase::BetweenRecords)
+        State {
+            phase: Phase::BetweenRecords,
+            records: self.records % 32768 + 1,
+            identifier: 0,
+            priority: 0,
+            owner: 0,
+            begins: self.edges,
+            value: 0,
+            ..self
+        }
     }
 }

@@ -5,11 +5,11 @@ ghost use Rattle.parity_game.specs.Said.{said};
 ghost use Rattle.pgsolver_serial.specs.Stands.{Stands};
 ghost use Rattle.pgsolver_close.specs.Ending.{closing_of, FitClosing, EndsOn, Again};
 
-use parity_game::{Answer, BAD_SIZE, SHORT_WORK};
+use parity_game::{Answer, Refusal};
 use pgsolver_end::end::end_text;
 use pgsolver_finish::finish::Asks;
-use pgsolver_words::words::{found, give, place_found};
-use reading_rooms::{Fits, check_rooms, clear_work};
+use pgsolver_words::words::{found, give, outcome_found, place_found};
+use reading_rooms::{check_rooms, clear_work};
 
 // Where a reading is found in the words: what the text gets, and the outcome is there from now on.
 fn end_on(
@@ -32,7 +32,7 @@ fn end_on(
 {
     let place = place_found(state);
     let s = found(state);
-    let r = end_text(
+    match end_text(
         Asks::Game,
         s,
         place,
@@ -43,9 +43,16 @@ fn end_on(
         work,
         n,
         m,
-    );
-    give(state, r.number(), r.place(), *n, *m);
-    r
+    ) {
+        Ok(count) => {
+            give(state, 0, 0, *n, *m);
+            Ok(count)
+        }
+        Err(refusal) => {
+            give(state, refusal.number(), refusal.place(), *n, *m);
+            Err(refusal)
+        }
+    }
 }
 
 // An outcome that is there is given again, with its sizes.
@@ -57,7 +64,7 @@ fn end_again(state: &[u64], used: usize, work: &mut [u64], n: &mut u64, m: &mut 
     clear_work(work, used);
     *n = state[3];
     *m = state[4];
-    Answer::AtPlace(state[1], state[2] as usize)
+    outcome_found(state)
 }
 
 fn end_fitting(
@@ -102,20 +109,15 @@ pub fn read_end(
         targets.new work.new n.new m.new)
         (said result) }
 {
-    match check_rooms(
+    check_rooms(
         owners.len(),
         priorities.len(),
         offsets.len(),
         targets.len(),
         work.len(),
-    ) {
-        Fits::Sizes => Answer::Refused(BAD_SIZE),
-        Fits::Work => Answer::Refused(SHORT_WORK),
-        Fits::Fit => {
-            if state.len() < 32 {
-                return Answer::Refused(SHORT_WORK);
-            }
-            end_fitting(state, owners, priorities, offsets, targets, work, n, m)
-        }
+    )?;
+    if state.len() < 32 {
+        return Err(Refusal::ShortWork);
     }
+    end_fitting(state, owners, priorities, offsets, targets, work, n, m)
 }

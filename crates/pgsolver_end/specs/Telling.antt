@@ -1,8 +1,8 @@
 -- What a text says, and what stands in the rooms then.
-use Rattle.std.specs.Prelude.{Bool, true, false, List, ◌++◌, ◌≡◌, refl, ℕ, ◌+◌, min, ◌≤◌, length, drop, replicate}
+use Rattle.std.specs.Prelude.{Result, Ok, Err, Bool, true, false, List, ◌++◌, ◌≡◌, refl, ℕ, ◌+◌, min, ◌≤◌, length, drop, replicate}
 use Rattle.std.proofs.Common.{sym, ap, subst, ◌∙◌, arith, drop_at}
 use Rattle.std.proofs.lemmas.List.{length-replicate}
-use Rattle.rules.specs.Outcome.{Verdict, none, refused, ◌then◌}
+use Rattle.rules.specs.Outcome.{Verdict, none, ◌then◌}
 use Rattle.rules.specs.Pgsolver.{Header, unsaid, highest}
 use Rattle.rules.specs.Reading.{Limits, Rooms, check31, targets_in, tables_read, holding}
 use Rattle.grammar.specs.Machine.{Read, reading_of}
@@ -13,8 +13,9 @@ use Rattle.pgsolver_acts.specs.declared.state.State.{State}
 use Rattle.pgsolver_acts.specs.Shown.{is_said, said_of}
 use Rattle.pgsolver_step.specs.Portions.{limits_in}
 use Rattle.pgsolver_portion.specs.Reached.{BytesReached}
-use Rattle.pgsolver_end.specs.declared.tell.Told.{Told}
-use Rattle.pgsolver_end.specs.declared.tell.Told.TheVariants.{Whole, Refused}
+use Rattle.parity_game.specs.declared.refusal.Refusal.{Refusal}
+use Rattle.parity_game.specs.declared.refusal.Refusal.TheVariants.{BadText}
+use Rattle.parity_game.specs.Said.{verdict}
 use Rattle.pgsolver_end.specs.Ending.{may_end_on, RecordsFound, ends_early, ends_whole}
 
 -- the offsets are one more than the vertices that there is room for, and the work area is long enough
@@ -37,17 +38,17 @@ pub record InOrder (read : Read) (before after : Rooms) (n m : ℕ) : Type 0 whe
   pub few : length read.entries ≤ length before.owners
   pub room : targets_in read.entries ≤ length before.targets
 
-abbrev pub TellsAs : Read → Rooms → Rooms → Told → Type 0
-TellsAs read before after (Whole n m) = InOrder read before after n m
-TellsAs read before after (Refused k place) = text_checks read ≡ refused k place
+abbrev pub TellsAs : Read → Rooms → Rooms → Result (ℕ × ℕ) Refusal → Type 0
+TellsAs read before after (Ok (n, m)) = InOrder read before after n m
+TellsAs read before after (Err e) = text_checks read ≡ verdict (Err e)
 
 -- how many records and targets there are is within their rooms
-abbrev pub WithinAs : ℕ → ℕ → Told → Type 0
-WithinAs room edges (Whole n m) = (n ≤ room) × (m ≤ edges)
-WithinAs room edges (Refused k place) = Unit {0}
+abbrev pub WithinAs : ℕ → ℕ → Result (ℕ × ℕ) Refusal → Type 0
+WithinAs room edges (Ok (n, m)) = (n ≤ room) × (m ≤ edges)
+WithinAs room edges (Err e) = Unit {0}
 
 -- whatever bytes the state and the tables stand for, what these say; and always words that are not used stay
-pub record Tells (s : State) (place room : ℕ) (f t w : List ℕ) (r : Told) (f' t' w' : List ℕ) : Type 0 where
+pub record Tells (s : State) (place room : ℕ) (f t w : List ℕ) (r : Result (ℕ × ℕ) Refusal) (f' t' w' : List ℕ) : Type 0 where
   pub says :
       (mostBytes : ℕ) (bytes o p : List ℕ) →
       length o ≡ room →
@@ -129,7 +130,7 @@ module _ (l : Limits) (text : List ℕ) (s : State) (o p f t : List ℕ) (found 
 
 module _ (s : State) (place room : ℕ) (f t w : List ℕ) where
   -- the text may not end here
-  pub tells_early : may_end_on s.phase s.records ≡ false → Tells s place room f t w (Refused 30 place) f t w
+  pub tells_early : may_end_on s.phase s.records ≡ false → Tells s place room f t w (Err (BadText place)) f t w
   tells_early h =
       record {
         says = λ mostBytes bytes o p long read. ap text_checks (ends_early mostBytes bytes place s o p f t read h);
@@ -141,9 +142,9 @@ module _ (s : State) (place room : ℕ) (f t w : List ℕ) where
       (ends : m ≡ min s.edges (length t)) where
     -- the identifiers are not right
     pub tells_wrong :
-        (k : ℕ) → refused 31 k ≡ seen_checks n (header_from s.said s.highest) f → Tells s place room f t w (Refused 31 k)
+        (e : Refusal) → verdict (Err e) ≡ seen_checks n (header_from s.said s.highest) f → Tells s place room f t w (Err e)
         f t w
-    tells_wrong k e =
+    tells_wrong e is =
         record {
           says =
               λ mostBytes bytes o p long read.
@@ -152,8 +153,8 @@ module _ (s : State) (place room : ℕ) (f t w : List ℕ) where
               long
               counts
               ends
-              (refused 31 k)
-              e;
+              (verdict (Err e))
+              is;
           within = tt;
           behind = refl;
         }
@@ -164,7 +165,7 @@ module _ (s : State) (place room : ℕ) (f t w : List ℕ) where
         none ≡ seen_checks n (header_from s.said s.highest) f →
         room + length t ≤ length w →
         Orders n m room f t w f' t' w' →
-        Tells s place room f t w (Whole n m) f' t' w'
+        Tells s place room f t w (Ok (n, m)) f' t' w'
     tells_whole f' t' w' e area orders =
         record {
           says =

@@ -1,5 +1,5 @@
 -- The end of a text in the words of the rules: what it gives and leaves is what they say of the bytes that came.
-use Rattle.std.specs.Prelude.{not, ◌||◌, List, [], ◌++◌, ◌≡◌, refl, ℕ, suc, ◌+◌, ◌-◌, min, eqb, ltb, length, drop, replicate}
+use Rattle.std.specs.Prelude.{Result, Ok, Err, not, ◌||◌, List, [], ◌++◌, ◌≡◌, refl, ℕ, suc, ◌+◌, ◌-◌, min, eqb, ltb, length, drop, replicate}
 use Rattle.std.proofs.Common.{sym, ap, subst, ◌∙◌, add-one, arith, eqb-true, ltb-false, take_at, drop_at}
 use Rattle.std.proofs.lemmas.Bool.{not-false}
 use Rattle.std.proofs.lemmas.List.{length-replicate}
@@ -14,13 +14,13 @@ use Rattle.accepted.specs.Tables.{then_none, given_none}
 use Rattle.grammar.specs.Correct.{machine_reads}
 use Rattle.grammar.specs.Machine.{Run, Read, reading_of, end_of, nothing_read}
 use Rattle.arrange.specs.Laws.{rooms_of, AlikeRooms, alike_holding}
-use Rattle.parity_game.specs.Said.{refusal}
+use Rattle.parity_game.specs.Said.{refusal, refusal_of, verdict}
+use Rattle.parity_game.specs.Laws.{refused_outcome}
 use Rattle.pgsolver_acts.specs.declared.state.State.{State}
 use Rattle.pgsolver_step.specs.Steps.{Fitting}
 use Rattle.pgsolver_portion.specs.Reached.{BytesReached, PortionStopped}
 use Rattle.pgsolver_finish.specs.Finishing.{Area, Finishable, fronts, left, Finishes, Wiped}
-use Rattle.pgsolver_end.specs.declared.tell.Told.{Told}
-use Rattle.pgsolver_end.specs.declared.tell.Told.TheVariants.{Whole, Refused}
+use Rattle.parity_game.specs.declared.refusal.Refusal.{Refusal}
 use Rattle.pgsolver_end.specs.Telling.{InOrder, WithinAs, Tells}
 
 -- 9 and 10 are not given
@@ -104,7 +104,7 @@ left_behind (refused k p) n m r = zero_behind (reading_words r) r.work
 
 -- ---- from what is told to what is given and left
 
-module _ (asks : Rules.Asks) (s : State) (place : ℕ) (o p f t w : List ℕ) (x : Told) (f' t' w' : List ℕ)
+module _ (asks : Rules.Asks) (s : State) (place : ℕ) (o p f t w : List ℕ) (x : Result (ℕ × ℕ) Refusal) (f' t' w' : List ℕ)
     (fits : Fitted (rooms_of o p f t w)) (lf : length f' ≡ length f) (lt : length t' ≡ length t)
     (lw : length w' ≡ length w) (tells : Tells s place (length o) f t w x f' t' w') where
   abbrev before : Rooms
@@ -134,16 +134,16 @@ module _ (asks : Rules.Asks) (s : State) (place : ℕ) (o p f t w : List ℕ) (x
       drop (reading_words before) after.work ≡ drop (reading_words before) w
   onward after e = ap (λ (k : ℕ). drop k after.work) (sym used_same) ∙ e ∙ ap (λ (k : ℕ). drop k w') used_same ∙ tells.behind
 
-  said : (y : Told) → x ≡ y → Tells s place (length o) f t w y f' t' w'
-  said y is = subst (λ (z : Told). Tells s place (length o) f t w z f' t' w') is tells
+  said : (y : Result (ℕ × ℕ) Refusal) → x ≡ y → Tells s place (length o) f t w y f' t' w'
+  said y is = subst (λ (z : Result (ℕ × ℕ) Refusal). Tells s place (length o) f t w z f' t' w') is tells
 
   -- 30 or 31: zero everywhere
   pub ends_refused :
-      (k q : ℕ) (after : Written) →
-      x ≡ Refused k q →
+      (e : Refusal) (after : Written) →
+      x ≡ Err e →
       Wiped told after →
-      EndsText asks s place before after (refusal k q)
-  ends_refused k q after is wiped =
+      EndsText asks s place before after (refusal_of e)
+  ends_refused e after is wiped =
       record {
         told = λ mostBytes bytes read. gives mostBytes bytes read;
         behind =
@@ -154,27 +154,28 @@ module _ (asks : Rules.Asks) (s : State) (place : ℕ) (o p f t w : List ℕ) (x
       gives :
           (mostBytes : ℕ) (bytes : List ℕ) →
           BytesReached mostBytes bytes place s o p f t →
-          Rules.Told asks mostBytes bytes before after (refusal k q)
+          Rules.Told asks mostBytes bytes before after (refusal_of e)
       gives mostBytes bytes reached =
           let read = reading_of (limits_of mostBytes before) bytes in
           let tables = tables_read read.entries in
-          let stops : read_checks asks read.verdict read.header read.entries ≡ refused k q =
-          then_refused read.verdict (check31 read.header read.entries) (list_asked asks tables) k q
-          ((said (Refused k q) is).says mostBytes bytes o p refl reached) in
+          let stops : read_checks asks read.verdict read.header read.entries ≡ verdict (Err e) =
+          then_refused read.verdict (check31 read.header read.entries) (list_asked asks tables) (refusal_of e).number
+          (refusal_of e).place
+          ((said (Err e) is).says mostBytes bytes o p refl reached) in
           record {
             verdict = read.verdict;
             header = read.header;
             entries = read.entries;
             reads = machine_reads (limits_of mostBytes before) bytes reached.small;
-            gives = sym (ap (λ (v : Verdict). outcome v (answered 0)) stops);
+            gives = refused_outcome e _ (answered 0) (sym stops);
             leaves =
                 wiped ∙ ap (λ (r : Rooms). sized r 0 0) (alike_holding no_tables told before alike) ∙
                 sym (ap (λ (v : Verdict). written v tables before) stops);
           }
 
-  module _ (n m : ℕ) (is : x ≡ Whole n m) where
-    within : WithinAs (length o) (length t) (Whole n m)
-    within = (said (Whole n m) is).within
+  module _ (n m : ℕ) (is : x ≡ Ok (n, m)) where
+    within : WithinAs (length o) (length t) (Ok (n, m))
+    within = (said (Ok (n, m)) is).within
 
     pub ends_finishable : Finishable n m told
     ends_finishable =
@@ -208,7 +209,7 @@ module _ (asks : Rules.Asks) (s : State) (place : ℕ) (o p f t w : List ℕ) (x
         gives mostBytes bytes reached =
             let read = reading_of (limits_of mostBytes before) bytes in
             let tables = tables_read read.entries in
-            let here : InOrder read before told n m = (said (Whole n m) is).says mostBytes bytes o p refl reached in
+            let here : InOrder read before told n m = (said (Ok (n, m)) is).says mostBytes bytes o p refl reached in
             let sizes = tables_long read.entries in
             let passes : read_checks asks read.verdict read.header read.entries ≡ list_asked asks tables =
             then_passed read.verdict (check31 read.header read.entries) (list_asked asks tables) here.passes in

@@ -4,7 +4,7 @@ ghost use Rattle.arrange.specs.Laws.{rooms_of};
 ghost use Rattle.pgsolver_finish.specs.Finishing.{asks_in, written_of};
 ghost use Rattle.pgsolver_end.specs.Told.{Fitted, EndsText};
 
-use crate::tell::{Told, tell};
+use crate::tell::tell;
 use parity_game::Answer;
 use pgsolver_acts::state::State;
 use pgsolver_finish::finish::{Asks, finish, refuse};
@@ -30,12 +30,12 @@ pub fn end_text(
         (said result) }
 {
     match tell(state, place, owners.len(), offsets, targets, work) {
-        Told::Refused(number, at) => {
-            refuse(owners, priorities, offsets, targets, work, n, m);
-            Answer::AtPlace(number, at)
-        }
-        Told::Whole(records, edges) => finish(
+        Ok((records, edges)) => finish(
             asks, records, edges, owners, priorities, offsets, targets, work, n, m,
         ),
+        Err(refusal) => {
+            refuse(owners, priorities, offsets, targets, work, n, m);
+            Err(refusal)
+        }
     }
 }

@@ -1,13 +1,12 @@
 // Document 01's list where it is asked for, and what a refusal leaves.
 ghost use Rattle.std.specs.Prelude.{◌≡◌, ◌+◌, take};
-ghost use Rattle.rules.specs.Outcome.{outcome, answered};
 ghost use Rattle.rules.specs.Reading.{list_asked};
 ghost use Rattle.rules.specs.Tables.{tables_of};
-ghost use Rattle.parity_game.specs.Said.{said};
+ghost use Rattle.parity_game.specs.Said.{said, verdict};
 ghost use Rattle.arrange.specs.Laws.{rooms_of};
 ghost use Rattle.pgsolver_finish.specs.Finishing.{asks_in, Askable, Finishable, Area, Wiped, Finishes, written_of};
 
-use parity_game::Answer;
+use parity_game::{Answer, Checked};
 use reading_rooms::clear_rooms;
 
 // Whether document 01's list is asked too, or the text alone is read.
@@ -26,17 +25,14 @@ fn ask(
     priorities: &[u16],
     offsets: &[u16],
     targets: &[u16],
-) -> Answer
+) -> Checked
     requires { Askable n m owners.now priorities.now offsets.now targets.now }
-    ensures { said result
-        ≡ outcome
-        (list_asked (asks_in asks)
+    ensures { verdict result ≡ list_asked (asks_in asks)
         (tables_of (take n owners.now) (take n priorities.now)
-        (take (n + 1) offsets.now) (take m targets.now)))
-        (answered 0) }
+        (take (n + 1) offsets.now) (take m targets.now)) }
 {
     match asks {
-        Asks::Text => Answer::Answered(0),
+        Asks::Text => Ok(()),
         Asks::Game => table_checks::check_tables(
             &owners[0..n],
             &priorities[0..n],
@@ -97,12 +93,11 @@ pub fn finish(
         work.new n.new m.new)
         (said result) }
 {
-    let r = ask(asks, records, edges, owners, priorities, offsets, targets);
-    if r.number() != 0 {
+    if let Err(refusal) = ask(asks, records, edges, owners, priorities, offsets, targets) {
         refuse(owners, priorities, offsets, targets, work, n, m);
-        return r;
+        return Err(refusal);
     }
     *n = records as u64;
     *m = edges as u64;
-    r
+    Ok(0)
 }

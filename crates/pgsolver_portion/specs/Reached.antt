@@ -1,6 +1,6 @@
 -- What a state by value and the tables stand for: the bytes so far, none of them refused. One portion more is read by the law of
 -- a run over two parts.
-use Rattle.std.specs.Prelude.{List, [], ◌∷◌, ◌++◌, ◌≡◌, refl, ℕ, zero, suc, ◌+◌, ◌/◌, min, ◌≤◌, ◌<◌, length, get_or, replicate}
+use Rattle.std.specs.Prelude.{Result, Ok, Err, List, [], ◌∷◌, ◌++◌, ◌≡◌, refl, ℕ, zero, suc, ◌+◌, ◌/◌, min, ◌≤◌, ◌<◌, length, get_or, replicate}
 use Rattle.std.proofs.Common.{sym, ap, subst, ◌∙◌, zero-le, not-suc-le-zero, arith, length-append}
 use Rattle.std.proofs.Math.Decide.{dec_lt}
 use Rattle.std.proofs.lemmas.List.{length-replicate, get_or-replicate}
@@ -14,12 +14,11 @@ use Rattle.grammar.specs.Waiting.{Waits, in_text}
 use Rattle.reading_rooms.specs.Cleared.{TablesZero, zeros}
 use Rattle.pgsolver_acts.specs.declared.state.State.{State}
 use Rattle.pgsolver_acts.specs.Shown.{state_of}
-use Rattle.pgsolver_step.specs.declared.portion.Portion.{Portion}
-use Rattle.pgsolver_step.specs.declared.portion.Portion.TheVariants.{Reading, Stuck, Beyond}
+use Rattle.parity_game.specs.declared.refusal.Refusal.{Refusal}
+use Rattle.parity_game.specs.declared.refusal.Refusal.TheVariants.{BadText, BeyondLimit}
+use Rattle.parity_game.specs.Said.{refusal_of}
 use Rattle.pgsolver_step.specs.Steps.{Fitting, limits}
 use Rattle.pgsolver_step.specs.Portions.{Remains, Ends, limits_in, Within, Portions}
-use Rattle.pgsolver_portion.specs.declared.take.Taken.{Taken}
-use Rattle.pgsolver_portion.specs.declared.take.Taken.TheVariants.{On, Refused}
 
 -- the run over all bytes so far, within the limits that the rooms set
 abbrev pub run_over : ℕ → List ℕ → List ℕ → List ℕ → Run
@@ -43,21 +42,21 @@ pub record PortionBegins (s : State) (o p f t : List ℕ) : Type 0 where
   pub shown : s ≡ state_of at_first
   pub waits : Waits [] [] o p f t
 
-abbrev pub TakenAs : ℕ → List ℕ → ℕ → Taken → List ℕ → List ℕ → List ℕ → List ℕ → Type 0
-TakenAs mostBytes bytes place (On s) o p f t = BytesReached mostBytes bytes place s o p f t
-TakenAs mostBytes bytes place (Refused k q) o p f t = PortionStopped mostBytes bytes o t k q
+abbrev pub TakenAs : ℕ → List ℕ → ℕ → Result State Refusal → List ℕ → List ℕ → List ℕ → List ℕ → Type 0
+TakenAs mostBytes bytes place (Ok s) o p f t = BytesReached mostBytes bytes place s o p f t
+TakenAs mostBytes bytes place (Err e) o p f t = PortionStopped mostBytes bytes o t (refusal_of e).number (refusal_of e).place
 
 -- where bytes are left to read, the next place is at most the limit
-abbrev pub FitsAs : ℕ → ℕ → Taken → Type 0
-FitsAs mostBytes place (On s) = place ≤ mostBytes
-FitsAs mostBytes place (Refused k q) = Unit {0}
+abbrev pub FitsAs : ℕ → ℕ → Result State Refusal → Type 0
+FitsAs mostBytes place (Ok s) = place ≤ mostBytes
+FitsAs mostBytes place (Err e) = Unit {0}
 
-abbrev pub ClearAs : Taken → List ℕ → List ℕ → List ℕ → List ℕ → List ℕ → List ℕ → List ℕ → List ℕ → Type 0
-ClearAs (On s) o p f t o' p' f' t' = Unit {0}
-ClearAs (Refused k q) o p f t o' p' f' t' = TablesZero o p f t o' p' f' t'
+abbrev pub ClearAs : Result State Refusal → List ℕ → List ℕ → List ℕ → List ℕ → List ℕ → List ℕ → List ℕ → List ℕ → Type 0
+ClearAs (Ok s) o p f t o' p' f' t' = Unit {0}
+ClearAs (Err e) o p f t o' p' f' t' = TablesZero o p f t o' p' f' t'
 
 -- one portion more: whatever bytes the state and the tables stand for, then those and the portion's; a refusal clears the tables
-pub record Takes (mostBytes place : ℕ) (s : State) (text o p f t : List ℕ) (r : Taken) (o' p' f' t' : List ℕ) : Type 0 where
+pub record Takes (mostBytes place : ℕ) (s : State) (text o p f t : List ℕ) (r : Result State Refusal) (o' p' f' t' : List ℕ) : Type 0 where
   pub more :
       (bytes : List ℕ) →
       BytesReached mostBytes bytes place s o p f t →
@@ -149,14 +148,14 @@ limits_kept :
     limits_in mostBytes o t ≡ limits_in mostBytes o' t'
 limits_kept mostBytes o t o' t' lo lt = λ i. limits mostBytes (min 4096 (sym lo i)) (min 16384 (sym lt i))
 
-module _ (mostBytes place : ℕ) (s : State) (text o p f t : List ℕ) (r : Portion) (o' p' f' t' : List ℕ)
+module _ (mostBytes place : ℕ) (s : State) (text o p f t : List ℕ) (r : Result State Refusal) (o' p' f' t' : List ℕ)
     (small : (k : ℕ) → get_or text k 0 < 256) (lo : length o' ≡ length o) (lt : length t' ≡ length t)
     (read : Portions mostBytes place s text o p f t r o' p' f' t') where
   -- the run over the bytes so far and the portion is the portion's, from where they lead
   ends :
       (bytes : List ℕ) →
       BytesReached mostBytes bytes place s o p f t →
-      (x : Portion) →
+      (x : Result State Refusal) →
       r ≡ x →
       Ends (limits_in mostBytes o' t') (run_over mostBytes o' t' (bytes ++ text)) x o' p' f' t'
   ends bytes h x is =
@@ -170,7 +169,7 @@ module _ (mostBytes place : ℕ) (s : State) (text o p f t : List ℕ) (r : Port
       (λ (k : Limits). Ends k (run_from k 0 (live at_first) (bytes ++ text)) x o' p' f' t')
       (limits_kept mostBytes o t o' t' lo lt)
       (subst (λ (q : Run). Ends l q x o' p' f' t') (sym two)
-      (subst (λ (y : Portion). Ends l (run_from l place (live so_far.machine) text) y o' p' f' t') is
+      (subst (λ (y : Result State Refusal). Ends l (run_from l place (live so_far.machine) text) y o' p' f' t') is
       (read.agrees so_far.machine so_far.holds)))
 
   stops :
@@ -190,10 +189,10 @@ module _ (mostBytes place : ℕ) (s : State) (text o p f t : List ℕ) (r : Port
       }
 
   -- the portion is read
-  pub takes_on : (n : State) → r ≡ Reading n → Takes mostBytes place s text o p f t (On n) o' p' f' t'
+  pub takes_on : (n : State) → r ≡ Ok n → Takes mostBytes place s text o p f t (Ok n) o' p' f' t'
   takes_on n is =
       let fits : place ≤ mostBytes → place + length text ≤ mostBytes =
-      λ h. subst (λ (y : Portion). Within mostBytes (place + length text) y) is (read.within h) in
+      λ h. subst (λ (y : Result State Refusal). Within mostBytes (place + length text) y) is (read.within h) in
       record {
         more =
             λ bytes h.
@@ -201,7 +200,7 @@ module _ (mostBytes place : ℕ) (s : State) (text o p f t : List ℕ) (r : Port
               small = small_append bytes text h.small small;
               counted = omega (arith, h.counted, length-append bytes text);
               within = fits h.within;
-              remains = ends bytes h (Reading n) is;
+              remains = ends bytes h (Ok n) is;
             };
         fits = fits;
         clear = tt;
@@ -225,18 +224,17 @@ module _ (mostBytes place : ℕ) (s : State) (text o p f t : List ℕ) (r : Port
     et : length t'' ≡ length t'
     et = zeros_long t'' t' z.targets
 
-    pub takes_stuck : (k : ℕ) → r ≡ Stuck k → Takes mostBytes place s text o p f t (Refused 30 k) o'' p'' f'' t''
-    takes_stuck k is =
+    pub takes_refused : (e : Refusal) → r ≡ Err e → Takes mostBytes place s text o p f t (Err e) o'' p'' f'' t''
+    takes_refused e is =
         record {
-          more = λ bytes h. stops bytes o'' t'' 30 k eo et h (ends bytes h (Stuck k) is);
+          more = λ bytes h. stops bytes o'' t'' (refusal_of e).number (refusal_of e).place eo et h (ends bytes h (Err e) is);
           fits = λ h. tt;
           clear = cleared;
         }
 
-    pub takes_beyond : (k : ℕ) → r ≡ Beyond k → Takes mostBytes place s text o p f t (Refused 32 k) o'' p'' f'' t''
-    takes_beyond k is =
-        record {
-          more = λ bytes h. stops bytes o'' t'' 32 k eo et h (ends bytes h (Beyond k) is);
-          fits = λ h. tt;
-          clear = cleared;
-        }
+    pub takes_stuck : (k : ℕ) → r ≡ Err (BadText k) → Takes mostBytes place s text o p f t (Err (BadText k)) o'' p'' f'' t''
+    takes_stuck k is = takes_refused (BadText k) is
+
+    pub takes_beyond :
+        (k : ℕ) → r ≡ Err (BeyondLimit k) → Takes mostBytes place s text o p f t (Err (BeyondLimit k)) o'' p'' f'' t''
+    takes_beyond k is = takes_refused (BeyondLimit k) is

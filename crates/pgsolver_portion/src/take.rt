@@ -2,16 +2,10 @@
 ghost use Rattle.pgsolver_step.specs.Steps.{Fitting};
 ghost use Rattle.pgsolver_portion.specs.Reached.{Takes};
 
+use parity_game::Refusal;
 use pgsolver_acts::state::State;
-use pgsolver_step::portion::{Portion, read_portion};
+use pgsolver_step::portion::read_portion;
 use reading_rooms::clear_tables;
-
-#[derive(Clone, Copy)]
-pub enum Taken {
-    On(State),
-    // 30 or 32, and its place in the text.
-    Refused(u64, u64),
-}
 
 // A portion whose first byte stands at a place of the text.
 pub fn take_portion(
@@ -23,7 +17,7 @@ pub fn take_portion(
     priorities: &mut [u16],
     offsets: &mut [u16],
     targets: &mut [u16],
-) -> Taken
+) -> Result<State, Refusal>
     requires { Fitting owners.old priorities.old offsets.old }
     ensures { Takes most_bytes place state text.now owners.old priorities.old
         offsets.old targets.old result owners.new priorities.new
@@ -32,14 +26,10 @@ pub fn take_portion(
     match read_portion(
         text, place, most_bytes, state, owners, priorities, offsets, targets,
     ) {
-        Portion::Reading(s) => Taken::On(s),
-        Portion::Stuck(k) => {
+        Ok(next) => Ok(next),
+        Err(refusal) => {
             clear_tables(owners, priorities, offsets, targets);
-            Taken::Refused(30, k)
-        }
-        Portion::Beyond(k) => {
-            clear_tables(owners, priorities, offsets, targets);
-            Taken::Refused(32, k)
+            Err(refusal)
         }
     }
 }

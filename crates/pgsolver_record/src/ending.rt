@@ -26,7 +26,7 @@ pub fn read_end(
         targets.new kept.new work.new n.new m.new)
         (said result) }
 {
-    let unfit = check_end_rooms(
+    check_end_rooms(
         kept.len(),
         owners.len(),
         priorities.len(),
@@ -34,11 +34,8 @@ pub fn read_end(
         targets.len(),
         work.len(),
         state.len(),
-    );
-    if unfit != 0 {
-        return Answer::Refused(unfit);
-    }
+    )?;
     let r = pgsolver_close::read_end(state, owners, priorities, offsets, targets, work, n, m);
-    write_beside(r.number(), *n, priorities, kept);
+    write_beside(r, *n, priorities, kept);
     r
 }

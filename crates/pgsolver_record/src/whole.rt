@@ -26,20 +26,17 @@ pub fn read(
         kept.new work.new n.new m.new)
         (said result) }
 {
-    let unfit = check_record_rooms(
+    check_record_rooms(
         kept.len(),
         owners.len(),
         priorities.len(),
         offsets.len(),
         targets.len(),
         work.len(),
-    );
-    if unfit != 0 {
-        return Answer::Refused(unfit);
-    }
+    )?;
     let r = pgsolver::read(
         text, most_bytes, owners, priorities, offsets, targets, work, n, m,
     );
-    write_beside(r.number(), *n, priorities, kept);
+    write_beside(r, *n, priorities, kept);
     r
 }

@@ -1,13 +1,15 @@
 -- 9 and 10 before all else: what the check of the rooms says is what the rules ask of a call.
-use Rattle.std.specs.Prelude.{Bool, not, ◌||◌, ◌≡◌, refl, ℕ, ◌+◌, eqb, ltb, length}
+use Rattle.std.specs.Prelude.{Err, Bool, not, ◌||◌, ◌≡◌, refl, ℕ, ◌+◌, eqb, ltb, length}
 use Rattle.std.proofs.Common.{sym, ap, subst, ◌∙◌, arith, eqb-true, ltb-true, ltb-false, lt-ltb, le-ltb, ⊎_elim}
 use Rattle.std.proofs.lemmas.Bool.{not-false}
-use Rattle.rules.specs.Outcome.{Outcome, Verdict, none, refused, given, ◌then◌, Unless}
+use Rattle.rules.specs.Outcome.{Outcome, Verdict, none, refused, answered, given, ◌then◌, Unless}
 use Rattle.rules.specs.Portions.{LentBetween, lent_checks}
 use Rattle.basics.specs.Basics.{bool_cases, or_false_both}
 use Rattle.accepted.specs.Tables.{then_none, given_none}
 use Rattle.reading_rooms.specs.Said.{size_checks}
-use Rattle.parity_game.specs.Said.{refusal}
+use Rattle.parity_game.specs.declared.refusal.Refusal.{Refusal}
+use Rattle.parity_game.specs.Said.{refusal, refusal_of, verdict}
+use Rattle.parity_game.specs.Laws.{refused_outcome}
 use Rattle.pgsolver_serial.specs.Stands.{FitLent}
 
 -- the same number more on both sides
@@ -56,6 +58,13 @@ pub unless_unfit :
     {A : Type 0} (v : Verdict) (k : ℕ) (before : A) (Else : Type 0) → v ≡ refused k 0 → Unless v (refusal k 0) before before
     Else
 unless_unfit v k before Else e = subst (λ (x : Verdict). Unless x (refusal k 0) before before Else) (sym e) (refl, refl)
+
+pub unless_refused :
+    {A : Type 0} (v : Verdict) (e : Refusal) (before : A) (Else : Type 0) → verdict (Err e) ≡ v →
+    Unless v (refusal_of e) before before Else
+unless_refused v e before Else is =
+    subst (λ (x : Verdict). Unless x (refusal_of e) before before Else) is
+    (refused_outcome e (verdict (Err e)) (answered 0) refl, refl)
 
 pub unless_fit :
     {A : Type 0} (v : Verdict) (o : Outcome) (before after : A) (Else : Type 0) → v ≡ none → Else → Unless v o before after Else

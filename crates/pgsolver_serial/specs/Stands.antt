@@ -1,5 +1,5 @@
 -- What the words of a state and the tables stand for: the bytes so far, or an outcome that is there; and what one call makes of it.
-use Rattle.std.specs.Prelude.{List, [], ◌++◌, ◌≡◌, refl, ℕ, ◌+◌, min, ◌≤◌, length, get_or, drop}
+use Rattle.std.specs.Prelude.{Result, Ok, Err, List, [], ◌++◌, ◌≡◌, refl, ℕ, ◌+◌, min, ◌≤◌, length, get_or, drop}
 use Rattle.std.proofs.Common.{sym, ap, subst, ◌∙◌, arith, drop-drop}
 use Rattle.rules.specs.Outcome.{Outcome, none, refused, answered}
 use Rattle.rules.specs.Reading.{Limits}
@@ -7,11 +7,11 @@ use Rattle.rules.specs.Portions.{SoFar, reading, over, LentBetween, Meaning, lim
 use Rattle.grammar.specs.Machine.{live, ended}
 use Rattle.grammar.specs.SoFar.{run_so_far}
 use Rattle.reading_rooms.specs.Cleared.{TablesZero}
-use Rattle.parity_game.specs.Said.{refusal}
+use Rattle.parity_game.specs.Said.{refusal, refusal_of}
+use Rattle.parity_game.specs.Laws.{refused_outcome}
 use Rattle.pgsolver_acts.specs.declared.state.State.{State}
 use Rattle.pgsolver_step.specs.Steps.{Fitting}
-use Rattle.pgsolver_portion.specs.declared.take.Taken.{Taken}
-use Rattle.pgsolver_portion.specs.declared.take.Taken.TheVariants.{On, Refused}
+use Rattle.parity_game.specs.declared.refusal.Refusal.{Refusal}
 use Rattle.pgsolver_portion.specs.Reached.{BytesReached, PortionStopped, PortionBegins, begins_reached, Takes}
 use Rattle.pgsolver_words.specs.Words.{state_in, most_in, place_in, KeepsReading, Gives}
 
@@ -119,7 +119,7 @@ starts mostBytes x s o p f t s' o' p' f' t' same long begins keeps =
 
 -- ---- a portion
 
-module _ (portion s o p f t : List ℕ) (x : Taken) (o' p' f' t' s' : List ℕ) (same : SerialLengths o p f t o' p' f' t')
+module _ (portion s o p f t : List ℕ) (x : Result State Refusal) (o' p' f' t' s' : List ℕ) (same : SerialLengths o p f t o' p' f' t')
     (long : length s' ≡ length s)
     (takes : Takes (most_in s) (place_in s) (state_in s) portion o p f t x o' p' f' t') where
   abbrev before : LentBetween
@@ -133,8 +133,8 @@ module _ (portion s o p f t : List ℕ) (x : Taken) (o' p' f' t' s' : List ℕ) 
       λ i.
       record { bytes = most_in s; vertices = min 4096 (same.owners i); edges = min 16384 (same.targets i) }
 
-  told : (y : Taken) → x ≡ y → Takes (most_in s) (place_in s) (state_in s) portion o p f t y o' p' f' t'
-  told y is = subst (λ (z : Taken). Takes (most_in s) (place_in s) (state_in s) portion o p f t z o' p' f' t') is takes
+  told : (y : Result State Refusal) → x ≡ y → Takes (most_in s) (place_in s) (state_in s) portion o p f t y o' p' f' t'
+  told y is = subst (λ (z : Result State Refusal). Takes (most_in s) (place_in s) (state_in s) portion o p f t z o' p' f' t') is takes
 
   -- the most bytes are those in the words
   at_most :
@@ -150,7 +150,7 @@ module _ (portion s o p f t : List ℕ) (x : Taken) (o' p' f' t' s' : List ℕ) 
   -- the portion is read
   pub goes_on :
       (n : State) →
-      x ≡ On n →
+      x ≡ Ok n →
       KeepsReading (most_in s) (place_in s + length portion) n s s' →
       GoesOn portion before after (answered 0)
   goes_on n is keeps =
@@ -159,7 +159,7 @@ module _ (portion s o p f t : List ℕ) (x : Taken) (o' p' f' t' s' : List ℕ) 
             at_most (answered 0)
             (λ bytes h.
             let now : BytesReached (most_in s) (bytes ++ portion) (place_in s + length portion) n o' p' f' t' =
-            (told (On n) is).more bytes h.reached in
+            (told (Ok n) is).more bytes h.reached in
             let r = now.remains in
             record {
               verdict = none;
@@ -174,21 +174,27 @@ module _ (portion s o p f t : List ℕ) (x : Taken) (o' p' f' t' s' : List ℕ) 
 
   -- one of its bytes is refused
   pub goes_over :
-      (k q : ℕ) → x ≡ Refused k q → Gives k q 0 0 s s' → GoesOn portion before after (refusal k q)
-  goes_over k q is gives =
-      let zero : TablesZero o p f t o' p' f' t' = (told (Refused k q) is).clear in
+      (e : Refusal) →
+      x ≡ Err e →
+      Gives (refusal_of e).number (refusal_of e).place 0 0 s s' →
+      GoesOn portion before after (refusal_of e)
+  goes_over e is gives =
+      let k = (refusal_of e).number in
+      let q = (refusal_of e).place in
+      let plain : refusal_of e ≡ refusal k q = refused_outcome e (refused k q) (answered 0) refl in
+      let zero : TablesZero o p f t o' p' f' t' = (told (Err e) is).clear in
       record {
         further =
-            at_most (refusal k q)
+            at_most (refusal_of e)
             (λ bytes h.
-            let now : PortionStopped (most_in s) (bytes ++ portion) o' t' k q = (told (Refused k q) is).more bytes h.reached in
+            let now : PortionStopped (most_in s) (bytes ++ portion) o' t' k q = (told (Err e) is).more bytes h.reached in
             record {
               verdict = refused k q;
               so_far =
                   subst (λ (l : Limits). SoFar l (bytes ++ portion) (refused k q)) limits_same
                   (run_so_far (limits_with (most_in s) after) (bytes ++ portion) now.small (ended (refused k q)) now.runs);
               goes = (
-                refl,
+                plain,
                 record {
                   owners = zero.owners;
                   priorities = zero.priorities;
@@ -197,7 +203,7 @@ module _ (portion s o p f t : List ℕ) (x : Taken) (o' p' f' t' s' : List ℕ) 
                 },
                 record {
                   kind = gives.kind;
-                  gives = λ i. record { number = gives.says i; place = gives.at i; count = 0 };
+                  gives = (λ i. record { number = gives.says i; place = gives.at i; count = 0 }) ∙ sym plain;
                   vertices = gives.vertices;
                   edges = gives.edges;
                 },

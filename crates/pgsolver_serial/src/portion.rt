@@ -3,10 +3,10 @@ ghost use Rattle.rules.specs.Portions.{ReadsPortion, Portioned};
 ghost use Rattle.parity_game.specs.Said.{said};
 ghost use Rattle.pgsolver_serial.specs.Stands.{lent_of, Stands, FitLent, GoesOn};
 
-use parity_game::{Answer, BAD_SIZE, SHORT_WORK};
-use pgsolver_portion::take::{Taken, take_portion};
-use pgsolver_words::words::{found, give, keep, place_found};
-use reading_rooms::{Fits, check_rooms};
+use parity_game::Answer;
+use pgsolver_portion::take::take_portion;
+use pgsolver_words::words::{found, give, keep, outcome_found, place_found};
+use reading_rooms::check_rooms;
 
 // Where a reading is found in the words: it goes on, or its outcome is there from now on.
 fn go_on(
@@ -31,13 +31,13 @@ fn go_on(
     match take_portion(
         portion, place, most, s, owners, priorities, offsets, targets,
     ) {
-        Taken::On(next) => {
+        Ok(next) => {
             keep(state, most, place + portion.len() as u64, next);
-            Answer::Answered(0)
+            Ok(0)
         }
-        Taken::Refused(number, at) => {
-            give(state, number, at, 0, 0);
-            Answer::AtPlace(number, at as usize)
+        Err(refusal) => {
+            give(state, refusal.number(), refusal.place(), 0, 0);
+            Err(refusal)
         }
     }
 }
@@ -60,7 +60,7 @@ fn portion_fitting(
         (said result) }
 {
     if state[0] == 1 {
-        return Answer::AtPlace(state[1], state[2] as usize);
+        return outcome_found(state);
     }
     go_on(portion, state, owners, priorities, offsets, targets)
 }
@@ -81,15 +81,12 @@ pub fn read_portion(
         targets.new)
         (said result) }
 {
-    match check_rooms(
+    check_rooms(
         owners.len(),
         priorities.len(),
         offsets.len(),
         32,
         owners.len() + state.len(),
-    ) {
-        Fits::Sizes => Answer::Refused(BAD_SIZE),
-        Fits::Work => Answer::Refused(SHORT_WORK),
-        Fits::Fit => portion_fitting(portion, state, owners, priorities, offsets, targets),
-    }
+    )?;
+    portion_fitting(portion, state, owners, priorities, offsets, targets)
 }

@@ -3,10 +3,10 @@ ghost use Rattle.rules.specs.Portions.{StartsText};
 ghost use Rattle.parity_game.specs.Said.{said};
 ghost use Rattle.pgsolver_serial.specs.Stands.{lent_of, Stands, FitLent, Starts};
 
-use parity_game::{Answer, BAD_SIZE, SHORT_WORK};
+use parity_game::Answer;
 use pgsolver_portion::begin::begin;
 use pgsolver_words::words::keep;
-use reading_rooms::{Fits, check_rooms};
+use reading_rooms::check_rooms;
 
 // Where the rooms fit and the state is long enough.
 fn start_fitting(
@@ -44,18 +44,13 @@ pub fn read_start(
         targets.new)
         (said result) }
 {
-    match check_rooms(
+    check_rooms(
         owners.len(),
         priorities.len(),
         offsets.len(),
         32,
         owners.len() + state.len(),
-    ) {
-        Fits::Sizes => Answer::Refused(BAD_SIZE),
-        Fits::Work => Answer::Refused(SHORT_WORK),
-        Fits::Fit => {
-            start_fitting(most_bytes, state, owners, priorities, offsets, targets);
-            Answer::Answered(0)
-        }
-    }
+    )?;
+    start_fitting(most_bytes, state, owners, priorities, offsets, targets);
+    Ok(0)
 }

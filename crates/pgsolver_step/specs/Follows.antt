@@ -1,6 +1,6 @@
 -- The code's moves follow the machine's steps: what holds of a machine in each phase, and that each move shows what the
 -- step gives.
-use Rattle.std.specs.Prelude.{Bool, cond, List, [], ◌∷◌, ◌++◌, ◌≡◌, ℕ, suc, ◌+◌, ◌-◌, ◌*◌, ◌≤◌, ◌<◌, eqb, ltb, leb, get_or}
+use Rattle.std.specs.Prelude.{Result, Ok, Err, Bool, cond, List, [], ◌∷◌, ◌++◌, ◌≡◌, ℕ, suc, ◌+◌, ◌-◌, ◌*◌, ◌≤◌, ◌<◌, eqb, ltb, leb, get_or}
 use Rattle.std.proofs.Math.Bool.{true, false}
 use Rattle.std.proofs.Math.Path.{refl}
 use Rattle.std.proofs.Common.{sym, ap, subst, ◌∙◌, add-one, arith}
@@ -17,7 +17,9 @@ use Rattle.pgsolver_acts.specs.declared.state.Phase.TheVariants.{InWord, PastWor
 use Rattle.pgsolver_acts.specs.declared.acts.Act.TheVariants as Acts
 use Rattle.pgsolver_acts.specs.declared.acts.Act.TheVariants.{To}
 use Rattle.pgsolver_moves.specs.declared.moves.Move.{Move}
-use Rattle.pgsolver_moves.specs.declared.moves.Move.TheVariants.{On, Off, Over, Aim, Close, AimClose}
+use Rattle.pgsolver_moves.specs.declared.moves.Move.TheVariants.{On, Aim, Close, AimClose}
+use Rattle.pgsolver_moves.specs.declared.moves.Stop.{Stop}
+use Rattle.pgsolver_moves.specs.declared.moves.Stop.TheVariants.{Off, Over}
 use Rattle.pgsolver_acts.specs.Shown.{phase_of, state_of, counted, to_phase, reading_on, headed_on, identified_on, ranked_on}
 use Rattle.pgsolver_acts.specs.Shown.{owned_on}
 use Rattle.pgsolver_acts.specs.Shown.{aimed_on, is_said, said_of}
@@ -66,14 +68,14 @@ pub record Reaches (l : Limits) (w : Went) (c : State) (es : List Entry) (ts : L
   pub entries : next.entries ≡ es
   pub targets : next.current.targets ≡ ts
 
-abbrev pub Follows : Limits → Machine → Went → Move → Type 0
-Follows l s w (On c) = Reaches l w c s.entries s.current.targets
-Follows l s w Off = w ≡ off
-Follows l s w Over = w ≡ over
-Follows l s w (Aim c) =
+abbrev pub Follows : Limits → Machine → Went → Result Move Stop → Type 0
+Follows l s w (Ok (On c)) = Reaches l w c s.entries s.current.targets
+Follows l s w (Err Off) = w ≡ off
+Follows l s w (Err Over) = w ≡ over
+Follows l s w (Ok (Aim c)) =
     (targets_read s < l.edges) × Reaches l w c s.entries (s.current.targets ++ (s.value ∷ []))
-Follows l s w (Close c) = (Roomy l s × Aimed s) × Reaches l w c (s.entries ++ (s.current ∷ [])) []
-Follows l s w (AimClose c) =
+Follows l s w (Ok (Close c)) = (Roomy l s × Aimed s) × Reaches l w c (s.entries ++ (s.current ∷ [])) []
+Follows l s w (Ok (AimClose c)) =
     (Roomy l s × (targets_read s < l.edges)) × Reaches l w c (s.entries ++ (with_target s.current s.value ∷ [])) []
 
 -- ---- digits and letters
@@ -142,13 +144,13 @@ module _ (l : Limits) (few : l.vertices ≤ 4096) (short : l.edges ≤ 16384) (b
   stay p st = record { next = at p; goes = refl; shown = refl; standing = st; entries = refl; targets = refl }
 
   moved :
-      (p q : Machine.Phase) → Standing q l (at q) → Follows l (at p) (on (at q)) (On (to_phase (phase_of q) (state_of (at p))))
+      (p q : Machine.Phase) → Standing q l (at q) → Follows l (at p) (on (at q)) (Ok (On (to_phase (phase_of q) (state_of (at p)))))
   moved p q st = record { next = at q; goes = refl; shown = refl; standing = st; entries = refl; targets = refl }
 
   said :
       (p q : Machine.Phase) →
       Standing q l (headed q (at p)) →
-      Follows l (at p) (on (headed q (at p))) (On (headed_on (phase_of q) (state_of (at p))))
+      Follows l (at p) (on (headed q (at p))) (Ok (On (headed_on (phase_of q) (state_of (at p)))))
   said p q st =
       record { next = headed q (at p); goes = refl; shown = refl; standing = st; entries = refl; targets = refl }
 
@@ -156,7 +158,7 @@ module _ (l : Limits) (few : l.vertices ≤ 4096) (short : l.edges ≤ 16384) (b
       (p : Machine.Phase) →
       e.targets ≡ [] →
       Roomy l (at p) →
-      Follows l (at p) (on (identified (at p))) (On (identified_on (state_of (at p))))
+      Follows l (at p) (on (identified (at p))) (Ok (On (identified_on (state_of (at p)))))
   named p none room =
       record {
         next = identified (at p);
@@ -171,7 +173,7 @@ module _ (l : Limits) (few : l.vertices ≤ 4096) (short : l.edges ≤ 16384) (b
       (p : Machine.Phase) →
       e.targets ≡ [] →
       Roomy l (at p) →
-      Follows l (at p) (on (ranked (at p))) (On (ranked_on (state_of (at p))))
+      Follows l (at p) (on (ranked (at p))) (Ok (On (ranked_on (state_of (at p)))))
   placed p none room =
       record {
         next = ranked (at p);
@@ -186,7 +188,7 @@ module _ (l : Limits) (few : l.vertices ≤ 4096) (short : l.edges ≤ 16384) (b
       (p : Machine.Phase) →
       e.targets ≡ [] →
       Roomy l (at p) →
-      Follows l (at p) (on (owned (at p))) (On (owned_on (state_of (at p))))
+      Follows l (at p) (on (owned (at p))) (Ok (On (owned_on (state_of (at p)))))
   given p none room =
       record {
         next = owned (at p);
@@ -222,7 +224,7 @@ module _ (l : Limits) (few : l.vertices ≤ 4096) (short : l.edges ≤ 16384) (b
       (p q : Machine.Phase) →
       targets_read (at p) < l.edges →
       Standing q l (aimed q (at p)) →
-      Follows l (at p) (on (aimed q (at p))) (Aim (aimed_on (phase_of q) (state_of (at p))))
+      Follows l (at p) (on (aimed q (at p))) (Ok (Aim (aimed_on (phase_of q) (state_of (at p)))))
   struck p q room st = (
     room,
     record {
@@ -283,7 +285,7 @@ module _ (l : Limits) (few : l.vertices ≤ 4096) (short : l.edges ≤ 16384) (b
       (room : Bool) (p q : Machine.Phase) (d : ℕ) →
       d ≡ b - 48 →
       (room ≡ true → Standing q l (reading q (b - 48) (at p))) →
-      Follows l (at p) (begins room q (at p) b) (cond room (On (reading_on (phase_of q) d (state_of (at p)))) Over)
+      Follows l (at p) (begins room q (at p) b) (cond room (Ok (On (reading_on (phase_of q) d (state_of (at p))))) (Err Over))
   begun true p q d same st =
       record {
         next = reading q (b - 48) (at p);
@@ -298,7 +300,7 @@ module _ (l : Limits) (few : l.vertices ≤ 4096) (short : l.edges ≤ 16384) (b
   grew :
       (big : Bool) (p : Machine.Phase) (x : ℕ) →
       Standing p l (reading p x (at p)) →
-      Follows l (at p) (cond big over (on (reading p x (at p)))) (cond big Over (On (reading_on (phase_of p) x (state_of (at p)))))
+      Follows l (at p) (cond big over (on (reading p x (at p)))) (cond big (Err Over) (Ok (On (reading_on (phase_of p) x (state_of (at p))))))
   grew true p x st = refl
   grew false p x st =
       record { next = reading p x (at p); goes = refl; shown = refl; standing = st; entries = refl; targets = refl }
@@ -312,7 +314,7 @@ module _ (l : Limits) (few : l.vertices ≤ 4096) (short : l.edges ≤ 16384) (b
       subst
       (λ (d : ℕ).
       Follows l (at p) (more p (at p) b)
-      (cond (ltb highest_number (10 * v + d)) Over (On (reading_on (phase_of p) (10 * v + d) (state_of (at p))))))
+      (cond (ltb highest_number (10 * v + d)) (Err Over) (Ok (On (reading_on (phase_of p) (10 * v + d) (state_of (at p)))))))
       (sym same)
       (grew (ltb highest_number (longer v b)) p (longer v b) st)
 
@@ -321,7 +323,7 @@ module _ (l : Limits) (few : l.vertices ≤ 4096) (short : l.edges ≤ 16384) (b
       (past ≡ true → same ≡ false) →
       e.targets ≡ [] →
       Follows l (at p) (cond same (on (to (Machine.in_word (suc k)) (at p))) off)
-      (cond past Off (cond same (On (to_phase (InWord (k + 1)) (state_of (at p)))) Off))
+      (cond past (Err Off) (cond same (Ok (On (to_phase (InWord (k + 1)) (state_of (at p))))) (Err Off)))
   spelt true true p k differs none = let z : true ≡ false = differs refl in absurd (clash refl z)
   spelt true false p k differs none = refl
   spelt false true p k differs none =

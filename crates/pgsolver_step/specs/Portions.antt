@@ -1,6 +1,6 @@
 -- What a portion of a text leaves: the code's reading of its bytes and the machine's run over them agree.
 use mathlib.Core.List.{List, [], ◌∷◌, ◌++◌}
-use Rattle.std.specs.Prelude.{◌≡◌, refl, ℕ, suc, ◌+◌, min, ◌≤◌, ◌<◌, length, get_or, take}
+use Rattle.std.specs.Prelude.{Result, Ok, Err, ◌≡◌, refl, ℕ, suc, ◌+◌, min, ◌≤◌, ◌<◌, length, get_or, take}
 use Rattle.std.proofs.Common.{sym, subst, ◌∙◌, add-zero, add-one, arith, lt-ltb, le-ltb, take-suc, length-take-le}
 use Rattle.std.proofs.Math.Path.{ap}
 use Rattle.std.proofs.Math.ListN.{drop}
@@ -9,10 +9,11 @@ use Rattle.rules.specs.Outcome.{Verdict, refused}
 use Rattle.rules.specs.Reading.{Limits}
 use Rattle.grammar.specs.Machine.{Machine, Went, on, off, over, Run, live, ended, class_of, step_from, step_at, next, run_from}
 use Rattle.pgsolver_acts.specs.declared.state.State.{State}
-use Rattle.pgsolver_step.specs.declared.step.Step.{Step}
-use Rattle.pgsolver_step.specs.declared.step.Step.TheVariants.{On, Off, Over}
-use Rattle.pgsolver_step.specs.declared.portion.Portion.{Portion}
-use Rattle.pgsolver_step.specs.declared.portion.Portion.TheVariants.{Reading, Stuck, Beyond}
+use Rattle.parity_game.specs.declared.refusal.Refusal.{Refusal}
+use Rattle.parity_game.specs.declared.refusal.Refusal.TheVariants.{BadText, BeyondLimit}
+use Rattle.parity_game.specs.Said.{verdict}
+use Rattle.pgsolver_moves.specs.declared.moves.Stop.{Stop}
+use Rattle.pgsolver_moves.specs.declared.moves.Stop.TheVariants.{Off, Over}
 use Rattle.pgsolver_step.specs.Steps.{Fitting, LimitRoom, HoldsReading, Steps, limits}
 
 -- ---- what a portion promises
@@ -23,40 +24,49 @@ pub record Remains (l : Limits) (run : Run) (s : State) (o p f t : List ℕ) : T
   pub runs : run ≡ live machine
   pub holds : HoldsReading l machine s o p f t
 
-abbrev pub Ends : Limits → Run → Portion → List ℕ → List ℕ → List ℕ → List ℕ → Type 0
-Ends l run (Reading s) o p f t = Remains l run s o p f t
-Ends l run (Stuck k) o p f t = run ≡ ended (refused 30 k)
-Ends l run (Beyond k) o p f t = run ≡ ended (refused 32 k)
+abbrev pub Ends : Limits → Run → Result State Refusal → List ℕ → List ℕ → List ℕ → List ℕ → Type 0
+Ends l run (Ok s) o p f t = Remains l run s o p f t
+Ends l run (Err e) o p f t = run ≡ ended (verdict (Err e))
 
 -- the rooms are the limits, and no game is above document 01's
 abbrev pub limits_in : ℕ → List ℕ → List ℕ → Limits
 limits_in mostBytes o t = limits mostBytes (min 4096 (length o)) (min 16384 (length t))
 
 -- where bytes are left to read, the next place is at most the limit
-abbrev pub Within : ℕ → ℕ → Portion → Type 0
-Within mostBytes after (Reading s) = after ≤ mostBytes
-Within mostBytes after (Stuck k) = k < mostBytes
-Within mostBytes after (Beyond k) = k ≤ mostBytes
+abbrev pub Within : ℕ → ℕ → Result State Refusal → Type 0
+Within mostBytes after (Ok s) = after ≤ mostBytes
+Within mostBytes after (Err (BadText k)) = k < mostBytes
+Within mostBytes after (Err (BeyondLimit k)) = k ≤ mostBytes
+Within mostBytes after (Err e) = ⊥
+
+-- a portion is refused with 30 or 32, at a byte
+abbrev pub AtByte : Result State Refusal → Type 0
+AtByte (Ok s) = Unit {0}
+AtByte (Err (BadText k)) = Unit {0}
+AtByte (Err (BeyondLimit k)) = Unit {0}
+AtByte (Err e) = ⊥
 
 -- From place on: whatever machine the state shows, the run over the portion and the code's reading agree.
-pub record Portions (mostBytes place : ℕ) (s : State) (text o p f t : List ℕ) (r : Portion) (o' p' f' t' : List ℕ) : Type 0 where
+pub record Portions (mostBytes place : ℕ) (s : State) (text o p f t : List ℕ) (r : Result State Refusal) (o' p' f' t' : List ℕ) : Type 0 where
   pub agrees :
       (m : Machine) →
       HoldsReading (limits_in mostBytes o t) m s o p f t →
       Ends (limits_in mostBytes o t) (run_from (limits_in mostBytes o t) place (live m) text) r o' p' f' t'
   pub within : place ≤ mostBytes → Within mostBytes (place + length text) r
+  pub at_byte : AtByte r
 
 -- the limits of the rooms, under the names that the code has for them
 pub portions :
-    (mostBytes vertices edges place : ℕ) (s : State) (text o p f t : List ℕ) (r : Portion) (o' p' f' t' : List ℕ) →
+    (mostBytes vertices edges place : ℕ) (s : State) (text o p f t : List ℕ) (r : Result State Refusal) (o' p' f' t' : List ℕ) →
     vertices ≡ min 4096 (length o) →
     edges ≡ min 16384 (length t) →
     ((m : Machine) →
     HoldsReading (limits mostBytes vertices edges) m s o p f t →
     Ends (limits mostBytes vertices edges) (run_from (limits mostBytes vertices edges) place (live m) text) r o' p' f' t') →
     (place ≤ mostBytes → Within mostBytes (place + length text) r) →
+    AtByte r →
     Portions mostBytes place s text o p f t r o' p' f' t'
-portions mostBytes vertices edges place s text o p f t r o' p' f' t' few short agrees within =
+portions mostBytes vertices edges place s text o p f t r o' p' f' t' few short agrees within at_byte =
     record {
       agrees =
           subst
@@ -79,6 +89,7 @@ portions mostBytes vertices edges place s text o p f t r o' p' f' t' few short a
           short
           agrees);
       within = within;
+      at_byte = at_byte;
     }
 
 -- ---- runs
@@ -150,11 +161,11 @@ module _ (l : Limits) (k i : ℕ) (m q : Machine) (text : List ℕ) (below : i <
       goes
 
 -- a step at which a portion ends, with its place
-pub data Stops : Step → ℕ → Portion → Type 0 where
-  stuck : {k : ℕ} → Stops Off k (Stuck k)
-  beyond : {k : ℕ} → Stops Over k (Beyond k)
+pub data Stops : Stop → ℕ → Refusal → Type 0 where
+  stuck : {k : ℕ} → Stops Off k (BadText k)
+  beyond : {k : ℕ} → Stops Over k (BeyondLimit k)
 
-pub stops_within : (mostBytes after : ℕ) (x : Step) (k : ℕ) (e : Portion) → Stops x k e → k < mostBytes → Within mostBytes after e
+pub stops_within : (mostBytes after : ℕ) (x : Stop) (k : ℕ) (e : Refusal) → Stops x k e → k < mostBytes → Within mostBytes after (Err e)
 stops_within mostBytes after _ k _ stuck early = early
 stops_within mostBytes after _ k _ beyond early = omega arith
 
@@ -217,16 +228,16 @@ module _ (mostBytes vertices edges place : ℕ) (s₀ : State) (text o₀ p₀ f
       next_on lim (place + i) q byte n (step_within lim (place + i) q byte (on n) (omega (arith, passed.place_now)) goes)
 
   told :
-      (r x : Step) (o' p' f' t' : List ℕ) →
+      (r x : Result State Stop) (o' p' f' t' : List ℕ) →
       r ≡ x →
       Steps vertices edges s byte o p f t r o' p' f' t' →
       Steps vertices edges s byte o p f t x o' p' f' t'
-  told r x o' p' f' t' is said = subst (λ (y : Step). Steps vertices edges s byte o p f t y o' p' f' t') is said
+  told r x o' p' f' t' is said = subst (λ (y : Result State Stop). Steps vertices edges s byte o p f t y o' p' f' t') is said
 
   -- one byte more, at which the step goes on
   pub passed_more :
-      (r : Step) (n : State) (o' p' f' t' : List ℕ) →
-      r ≡ On n →
+      (r : Result State Stop) (n : State) (o' p' f' t' : List ℕ) →
+      r ≡ Ok n →
       at < mostBytes →
       length o' ≡ length o →
       length p' ≡ length p →
@@ -235,7 +246,7 @@ module _ (mostBytes vertices edges place : ℕ) (s₀ : State) (text o₀ p₀ f
       Steps vertices edges s byte o p f t r o' p' f' t' →
       BytesPassed mostBytes vertices edges place s₀ text o₀ p₀ f₀ t₀ n (at + 1) (i + 1) o' p' f' t'
   passed_more r n o' p' f' t' is early lo lp lf lt said =
-      let steps = told r (On n) o' p' f' t' is said in
+      let steps = told r (Ok n) o' p' f' t' is said in
       let room = passed.room in
       record {
         up_to = omega arith;
@@ -269,16 +280,16 @@ module _ (mostBytes vertices edges place : ℕ) (s₀ : State) (text o₀ p₀ f
 
   -- the step leaves the grammar or passes a limit
   pub passed_stops :
-      (r x : Step) (e : Portion) (o' p' f' t' : List ℕ) →
+      (r : Result State Stop) (x : Stop) (e : Refusal) (o' p' f' t' : List ℕ) →
       Stops x at e →
-      r ≡ x →
+      r ≡ Err x →
       at < mostBytes →
       Steps vertices edges s byte o p f t r o' p' f' t' →
       (m : Machine) →
       HoldsReading lim m s₀ o₀ p₀ f₀ t₀ →
-      Ends lim (run_from lim place (live m) text) e o' p' f' t'
+      Ends lim (run_from lim place (live m) text) (Err e) o' p' f' t'
   passed_stops r _ _ o' p' f' t' stuck is early said m h =
-      let steps = told r Off o' p' f' t' is said in
+      let steps = told r (Err Off) o' p' f' t' is said in
       let now = passed.agrees m h in
       let q = now.machine in
       run_stops lim place i m q text below now.runs (refused 30 at)
@@ -286,7 +297,7 @@ module _ (mostBytes vertices edges place : ℕ) (s₀ : State) (text o₀ p₀ f
       (step_within lim (place + i) q byte off (omega (arith, passed.place_now)) (steps mostBytes q now.holds)) ∙
       ap (λ (x : ℕ). ended (refused 30 x)) (sym passed.place_now))
   passed_stops r _ _ o' p' f' t' beyond is early said m h =
-      let steps = told r Over o' p' f' t' is said in
+      let steps = told r (Err Over) o' p' f' t' is said in
       let now = passed.agrees m h in
       let q = now.machine in
       run_stops lim place i m q text below now.runs (refused 32 at)

@@ -1,5 +1,5 @@
 -- What one byte leaves: the machine that the state shows, and what waits for it in the tables.
-use Rattle.std.specs.Prelude.{Bool, cond, List, [], ◌∷◌, ◌++◌, ◌≡◌, ℕ, ◌+◌, min, ◌≤◌, ◌<◌, ltb, length, get_or, set}
+use Rattle.std.specs.Prelude.{Result, Ok, Err, Bool, cond, List, [], ◌∷◌, ◌++◌, ◌≡◌, ℕ, ◌+◌, min, ◌≤◌, ◌<◌, ltb, length, get_or, set}
 use Rattle.std.proofs.Common.{⊎_elim, sym, ap, subst, ◌∙◌, arith, ltb-true, ltb-false, length-append}
 use Rattle.rules.specs.Pgsolver.{Entry, with_target}
 use Rattle.rules.specs.Reading.{Limits, targets_in}
@@ -9,8 +9,8 @@ use Rattle.basics.specs.Basics.{bool_cases}
 use Rattle.pgsolver_acts.specs.declared.state.State.{State}
 use Rattle.pgsolver_moves.specs.declared.moves.Move.{Move}
 use Rattle.pgsolver_moves.specs.declared.moves.Move.TheVariants as Moves
-use Rattle.pgsolver_step.specs.declared.step.Step.{Step}
-use Rattle.pgsolver_step.specs.declared.step.Step.TheVariants.{On, Off, Over}
+use Rattle.pgsolver_moves.specs.declared.moves.Stop.{Stop}
+use Rattle.pgsolver_moves.specs.declared.moves.Stop.TheVariants.{Off, Over}
 use Rattle.pgsolver_acts.specs.Shown.{state_of}
 use Rattle.pgsolver_acts.specs.Acts.{act_on}
 use Rattle.pgsolver_moves.specs.Moves.{move_of}
@@ -53,17 +53,17 @@ pub record Continues (l : Limits) (w : Went) (s : State) (o p f t : List ℕ) : 
   pub goes : w ≡ on next
   pub holds : HoldsReading l next s o p f t
 
-abbrev pub Stepped : Limits → Went → Step → List ℕ → List ℕ → List ℕ → List ℕ → Type 0
-Stepped l w (On s) o p f t = Continues l w s o p f t
-Stepped l w Off o p f t = w ≡ off
-Stepped l w Over o p f t = w ≡ over
+abbrev pub Stepped : Limits → Went → Result State Stop → List ℕ → List ℕ → List ℕ → List ℕ → Type 0
+Stepped l w (Ok s) o p f t = Continues l w s o p f t
+Stepped l w (Err Off) o p f t = w ≡ off
+Stepped l w (Err Over) o p f t = w ≡ over
 
 abbrev pub limits : ℕ → ℕ → ℕ → Limits
 limits bytes vertices edges = record { bytes = bytes; vertices = vertices; edges = edges }
 
 -- One byte: whatever machine the state shows, its step and the code's agree.
 abbrev pub Steps :
-    ℕ → ℕ → State → ℕ → List ℕ → List ℕ → List ℕ → List ℕ → Step → List ℕ → List ℕ → List ℕ → List ℕ → Type 0
+    ℕ → ℕ → State → ℕ → List ℕ → List ℕ → List ℕ → List ℕ → Result State Stop → List ℕ → List ℕ → List ℕ → List ℕ → Type 0
 Steps vertices edges s b o p f t r o' p' f' t' =
     (bytes : ℕ) (m : Machine) →
     HoldsReading (limits bytes vertices edges) m s o p f t →
@@ -133,7 +133,7 @@ closes_waits es e o p f t o' p' f' h some few closes =
     (bool_cases (ltb e.identifier (length o)))
 
 module _ (vertices edges b : ℕ) (s : State) (o p f t : List ℕ) (room : LimitRoom vertices edges o p f t) where
-  abbrev move_on : Move
+  abbrev move_on : Result Move Stop
   move_on = move_of (act_on (class_of b) s.phase) s b vertices edges
 
   module _ (bytes : ℕ) (m : Machine) (h : HoldsReading (limits bytes vertices edges) m s o p f t) where
@@ -143,32 +143,36 @@ module _ (vertices edges b : ℕ) (s : State) (o p f t : List ℕ) (room : Limit
     abbrev went : Went
     went = step_from m.phase lim m b (class_of b)
 
-    followed : (x : Move) → move_on ≡ x → Follows lim m went x
+    followed : (x : Result Move Stop) → move_on ≡ x → Follows lim m went x
     followed x is =
-        subst (λ (y : Move). Follows lim m went y) is
+        subst (λ (y : Result Move Stop). Follows lim m went y) is
         (subst (λ (c : State). Follows lim m went (move_of (act_on (class_of b) c.phase) c b vertices edges)) (sym h.shown)
         (follows lim room.few room.short b m h.standing))
 
-  pub steps_on : (n : State) → move_on ≡ Moves.On n → Steps vertices edges s b o p f t (On n) o p f t
+  pub steps_on : (n : State) → move_on ≡ Ok (Moves.On n) → Steps vertices edges s b o p f t (Ok n) o p f t
   steps_on n is bytes m h =
       reached (limits bytes vertices edges) (went bytes m h) n m.entries m.current.targets o p f t
-      (followed bytes m h (Moves.On n) is)
+      (followed bytes m h (Ok (Moves.On n)) is)
       h.waits
 
-  pub steps_off : move_on ≡ Moves.Off → Steps vertices edges s b o p f t Off o p f t
-  steps_off is bytes m h = followed bytes m h Moves.Off is
+  pub steps_off : move_on ≡ Err Off → Steps vertices edges s b o p f t (Err Off) o p f t
+  steps_off is bytes m h = followed bytes m h (Err Off) is
 
-  pub steps_over : move_on ≡ Moves.Over → Steps vertices edges s b o p f t Over o p f t
-  steps_over is bytes m h = followed bytes m h Moves.Over is
+  pub steps_over : move_on ≡ Err Over → Steps vertices edges s b o p f t (Err Over) o p f t
+  steps_over is bytes m h = followed bytes m h (Err Over) is
+
+  pub steps_stop : (e : Stop) → move_on ≡ Err e → Steps vertices edges s b o p f t (Err e) o p f t
+  steps_stop Off is = steps_off is
+  steps_stop Over is = steps_over is
 
   pub steps_aim :
       (n : State) (t' : List ℕ) →
-      move_on ≡ Moves.Aim n →
+      move_on ≡ Ok (Moves.Aim n) →
       t' ≡ set t s.edges s.value →
-      Steps vertices edges s b o p f t (On n) o p f t'
+      Steps vertices edges s b o p f t (Ok n) o p f t'
   steps_aim n t' is written bytes m h =
       let l = limits bytes vertices edges in
-      let y = followed bytes m h (Moves.Aim n) is in
+      let y = followed bytes m h (Ok (Moves.Aim n)) is in
       let at : t' ≡ set t (state_of m).edges m.value =
       written ∙ ap (λ (c : State). set t c.edges c.value) h.shown in
       reached l (went bytes m h) n m.entries (m.current.targets ++ (m.value ∷ [])) o p f t' y.1
@@ -178,25 +182,25 @@ module _ (vertices edges b : ℕ) (s : State) (o p f t : List ℕ) (room : Limit
 
   pub steps_close :
       (n : State) (o' p' f' : List ℕ) →
-      move_on ≡ Moves.Close n →
+      move_on ≡ Ok (Moves.Close n) →
       Closes s o p f o' p' f' →
-      Steps vertices edges s b o p f t (On n) o' p' f' t
+      Steps vertices edges s b o p f t (Ok n) o' p' f' t
   steps_close n o' p' f' is closes bytes m h =
       let l = limits bytes vertices edges in
-      let y = followed bytes m h (Moves.Close n) is in
+      let y = followed bytes m h (Ok (Moves.Close n)) is in
       reached l (went bytes m h) n (m.entries ++ (m.current ∷ [])) [] o' p' f' t y.1
       (closes_waits m.entries m.current o p f t o' p' f' h.waits y.0.1 (omega (arith, y.0.0, room.within))
       (subst (λ (c : State). Closes c o p f o' p' f') h.shown closes))
 
   pub steps_aim_close :
       (n : State) (o' p' f' t' : List ℕ) →
-      move_on ≡ Moves.AimClose n →
+      move_on ≡ Ok (Moves.AimClose n) →
       t' ≡ set t s.edges s.value →
       Closes s o p f o' p' f' →
-      Steps vertices edges s b o p f t (On n) o' p' f' t'
+      Steps vertices edges s b o p f t (Ok n) o' p' f' t'
   steps_aim_close n o' p' f' t' is written closes bytes m h =
       let l = limits bytes vertices edges in
-      let y = followed bytes m h (Moves.AimClose n) is in
+      let y = followed bytes m h (Ok (Moves.AimClose n)) is in
       let e = with_target m.current m.value in
       let at : t' ≡ set t (state_of m).edges m.value =
       written ∙ ap (λ (c : State). set t c.edges c.value) h.shown in

@@ -1,5 +1,5 @@
 -- What waits in the tables, with one target more and with one record more.
-use Rattle.std.specs.Prelude.{cond, List, [], ◌∷◌, ◌++◌, ◌⊎◌, ◌≡◌, refl, ℕ, suc, ◌+◌, ◌%◌, min, ◌≤◌, ◌<◌, ltb, eqb, length, get_or, take, set}
+use Rattle.std.specs.Prelude.{cond, List, [], ◌∷◌, ◌++◌, ◌≡◌, refl, ℕ, suc, ◌+◌, ◌%◌, min, ◌≤◌, ◌<◌, ltb, eqb, length, get_or, take, set}
 use Rattle.std.proofs.Common.{append_assoc, append-nil, ⊎_elim, sym, ap, subst, ◌∙◌, arith, eqb-true, ltb-true, ltb-false, lt-ltb, le-ltb, length-append, length-set, take-suc-set, get_or-set_same, get_or-set_other}
 use Rattle.std.proofs.lemmas.Bool.{eqb-false}
 use Rattle.std.proofs.Math.ListN.{get_or-append}

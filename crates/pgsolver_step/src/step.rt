@@ -5,17 +5,8 @@ ghost use Rattle.pgsolver_step.specs.Steps.{Fitting, LimitRoom, Closes, Steps};
 ghost use Rattle.pgsolver_step.specs.Waited.{word_next};
 
 use pgsolver_acts::state::State;
-use pgsolver_moves::moves::{Move, advance};
+use pgsolver_moves::moves::{Move, Stop, advance};
 use reading_rooms::SEEN;
-
-#[derive(Clone, Copy)]
-pub enum Step {
-    On(State),
-    // No text of the grammar can follow.
-    Off,
-    // A limit is passed.
-    Over,
-}
 
 // A target, where there is room for it.
 fn aim(targets: &mut [u16], at: u16, value: u16)
@@ -31,7 +22,7 @@ fn aim(targets: &mut [u16], at: u16, value: u16)
 fn capped(owner: u16) -> u8
     ensures { result ≡ min 255 owner }
 {
-    if owner < 255 { owner as u8 } else { 255 }
+    owner.min(255) as u8
 }
 
 // What an identifier's word becomes when it is seen: how often, up to twice, stands above where its targets begin.
@@ -70,28 +61,26 @@ pub fn read_byte(
     priorities: &mut [u16],
     offsets: &mut [u16],
     targets: &mut [u16],
-) -> Step
+) -> Result<State, Stop>
     requires { LimitRoom vertices edges owners.old priorities.old offsets.old targets.old }
     ensures { Steps vertices edges s b owners.old priorities.old offsets.old
         targets.old result owners.new priorities.new offsets.new
         targets.new }
 {
-    match advance(s, b, vertices, edges) {
-        Move::On(next) => Step::On(next),
-        Move::Off => Step::Off,
-        Move::Over => Step::Over,
+    match advance(s, b, vertices, edges)? {
+        Move::On(next) => Ok(next),
         Move::Aim(next) => {
             aim(targets, s.edges, s.value);
-            Step::On(next)
+            Ok(next)
         }
         Move::Close(next) => {
             close(owners, priorities, offsets, s);
-            Step::On(next)
+            Ok(next)
         }
         Move::AimClose(next) => {
             aim(targets, s.edges, s.value);
             close(owners, priorities, offsets, s);
-            Step::On(next)
+            Ok(next)
         }
     }
 }

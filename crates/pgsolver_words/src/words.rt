@@ -1,28 +1,23 @@
 // A reading or an outcome written into the first 13 words, and a reading found there again.
-ghost use Rattle.std.specs.Prelude.{◌≡◌, ◌%◌, ◌≤◌, length};
-ghost use Rattle.pgsolver_words.specs.Words.{state_in, place_in, flag, KeepsReading, Gives};
+ghost use Rattle.std.specs.Prelude.{◌≡◌, ◌%◌, ◌≤◌, length, get_or};
+ghost use Rattle.parity_game.specs.Said.{said, refusal};
+ghost use Rattle.pgsolver_words.specs.Words.{state_in, place_in, KeepsReading, Gives};
 
 use crate::phases::{phase_in, phase_word};
+use parity_game::{Answer, Refusal};
 use pgsolver_acts::state::State;
-
-fn flag(said: bool) -> u64
-    ensures { result ≡ flag said }
-{
-    if said { 1 } else { 0 }
-}
 
 // Where a reading is.
 pub fn keep(words: &mut [u64], most_bytes: u64, place: u64, state: State)
     requires { 32 ≤ length words.old }
     ensures { KeepsReading most_bytes place state words.old words.new }
 {
-    let phase = state.phase;
     let kept = [
         0u64,
         most_bytes,
         place,
-        phase_word(phase),
-        flag(state.said),
+        phase_word(state.phase),
+        u64::from(state.said),
         state.highest as u64,
         state.records as u64,
         state.edges as u64,
@@ -56,9 +51,8 @@ pub fn found(words: &[u64]) -> State
     requires { 32 ≤ length words.now }
     ensures { result ≡ state_in words.now }
 {
-    let phase = phase_in(words[3]);
     State {
-        phase,
+        phase: phase_in(words[3]),
         said: words[4] == 1,
         highest: low(words[5]),
         records: low(words[6]),
@@ -76,7 +70,16 @@ pub fn place_found(words: &[u64]) -> u64
     requires { 32 ≤ length words.now }
     ensures { result ≡ place_in words.now }
 {
-    let place = words[2];
-    let most = words[1];
-    if place < most { place } else { most }
+    words[2].min(words[1])
+}
+
+// The outcome that is there, given again: an answer, or its number and place once more.
+pub fn outcome_found(words: &[u64]) -> Answer
+    requires { 32 ≤ length words.now }
+    ensures { said result ≡ refusal (get_or words.now 1 0) (get_or words.now 2 0) }
+{
+    match (words[1], words[2]) {
+        (0, 0) => Ok(0),
+        (number, place) => Err(Refusal::Again(number, place)),
+    }
 }

@@ -25,8 +25,8 @@ fn targets_length(targets: &[u16]) -> usize
     ensures { result ≡ after_each targets.now }
 {
     let mut sum = 0;
-    for e in 0..targets.len() {
-        sum += digits(targets[e] as u64) + 1;
+    for &t in targets {
+        sum += digits(t as u64) + 1;
     }
     sum
 }

@@ -9,7 +9,7 @@ ghost use Rattle.rules.specs.Writing.{Writes};
 ghost use Rattle.parity_game.specs.Said.{said};
 
 use length::text_length;
-use parity_game::{Answer, NO_VERTEX, SHORT_TEXT};
+use parity_game::{Answer, Refusal};
 use pgsolver_put::put::put_text;
 
 // Writes the text of accepted tables. The count is its length.
@@ -28,12 +28,12 @@ pub fn write(
         (said result) }
 {
     if owners.len() == 0 {
-        return Answer::Refused(NO_VERTEX);
+        return Err(Refusal::NoVertex);
     }
     let needed = text_length(owners, priorities, offsets, targets);
     if text.len() < needed {
-        return Answer::AtPlace(SHORT_TEXT, needed);
+        return Err(Refusal::ShortText(needed));
     }
     let written = put_text(owners, priorities, offsets, targets, text);
-    Answer::Answered(written as u64)
+    Ok(written as u64)
 }

@@ -1,4 +1,4 @@
--- The line as the code's own types give it: what was needed or that it was too much, and the winners where an engine told them.
+-- The line as the code gives it: what was needed or that it was too much, and the winners where an engine told them.
 use Rattle.std.specs.Prelude.{Bool, true, false, List, ◌++◌, ℕ, ◌+◌, ◌≤◌, length}
 use Rattle.std.proofs.Common.{arith, Fits}
 use Rattle.std.specs.Int.{w64}
@@ -6,25 +6,25 @@ use Rattle.rules.specs.Counting.{Set}
 use Rattle.rules.specs.Decimal.{decimal}
 use Rattle.rules.specs.Printing.{space, newline, dash, file_word, winner_digits}
 use Rattle.grammar.specs.Decimals.{decimal_short}
-use Rattle.printing.specs.declared.line.Counted.{Counted}
-use Rattle.printing.specs.declared.line.Counted.TheVariants.{Needed, Over}
+use Rattle.std.specs.declared.option.Option.{Option}
+use Rattle.std.specs.declared.option.Option.TheVariants.{None, Some}
 use Rattle.putting.specs.Winners.{winners_long}
 
-abbrev pub counted_bytes : Counted → List ℕ
-counted_bytes (Needed k) = decimal k
-counted_bytes Over = dash
+abbrev pub counted_bytes : Option ℕ → List ℕ
+counted_bytes (Some k) = decimal k
+counted_bytes None = dash
 
 -- an engine kept its budget
-abbrev pub decided_by : Counted → Counted → Bool
-decided_by (Needed k) rounds = true
-decided_by Over (Needed k) = true
-decided_by Over Over = false
+abbrev pub decided_by : Option ℕ → Option ℕ → Bool
+decided_by (Some k) rounds = true
+decided_by None (Some k) = true
+decided_by None None = false
 
 abbrev pub winners_bytes : Bool → ℕ → Set → List ℕ
 winners_bytes true n odd = winner_digits n odd
 winners_bytes false n odd = dash
 
-abbrev pub line_bytes : ℕ → Set → Counted → Counted → List ℕ
+abbrev pub line_bytes : ℕ → Set → Option ℕ → Option ℕ → List ℕ
 line_bytes n odd calls rounds =
     file_word ++
     (space ++

@@ -4,4 +4,4 @@
 
 mod line;
 
-pub use line::{Counted, refused_line, solved_line};
+pub use line::{refused_line, solved_line};

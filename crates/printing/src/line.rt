@@ -7,13 +7,6 @@ ghost use Rattle.printing.specs.Line.{counted_bytes, decided_by, winners_bytes, 
 
 use putting::{put_number, put_winners, put_word};
 
-// What an engine needed, or that it was more than its budget.
-#[derive(Clone, Copy)]
-pub enum Counted {
-    Needed(u64),
-    Over,
-}
-
 // `file refused`, the number and the place.
 pub fn refused_line(number: u64, place: u64, out: &mut [u8]) -> usize
     requires { 64 ≤ length out.old }
@@ -26,28 +19,22 @@ pub fn refused_line(number: u64, place: u64, out: &mut [u8]) -> usize
     put_word(b"\n", out, at)
 }
 
-// The count, or `-`.
-fn put_counted(counted: Counted, out: &mut [u8], at: usize) -> usize
+// What an engine needed, or `-` where that was more than its budget.
+fn put_counted(counted: Option<u64>, out: &mut [u8], at: usize) -> usize
     requires { at + 20 ≤ length out.old }
     ensures { Puts at (counted_bytes counted) out.old out.new result × (result ≤ at + 20) }
 {
     match counted {
-        Counted::Needed(count) => put_number(count, out, at),
-        Counted::Over => put_word(b"-", out, at),
+        Some(count) => put_number(count, out, at),
+        None => put_word(b"-", out, at),
     }
 }
 
 // Whether an engine kept its budget.
-fn decided(calls: Counted, rounds: Counted) -> bool
+fn decided(calls: Option<u64>, rounds: Option<u64>) -> bool
     ensures { result ≡ decided_by calls rounds }
 {
-    match calls {
-        Counted::Needed(_) => true,
-        Counted::Over => match rounds {
-            Counted::Needed(_) => true,
-            Counted::Over => false,
-        },
-    }
+    calls.is_some() || rounds.is_some()
 }
 
 // The winners, or `-` where there are none to tell.
@@ -63,7 +50,13 @@ fn put_decided(told: bool, n: usize, odd: &[u64], out: &mut [u8], at: usize) -> 
 }
 
 // `file`, the winners, the calls and the rounds. Where an engine kept its budget, `odd` is Odd's set.
-pub fn solved_line(n: usize, odd: &[u64], calls: Counted, rounds: Counted, out: &mut [u8]) -> usize
+pub fn solved_line(
+    n: usize,
+    odd: &[u64],
+    calls: Option<u64>,
+    rounds: Option<u64>,
+    out: &mut [u8],
+) -> usize
     requires { (n ≤ 64 * length odd.now) × (n + 64 ≤ length out.old) }
     ensures { Puts 0 (line_bytes n (set_of odd.now) calls rounds) out.old out.new result }
 {

@@ -157,3 +157,11 @@ module _ {owners priorities offsets targets : List ℕ} {s budget at many made :
                 other;
             wins = accepted_rounds_entries t ended.reached.accepted made solved;
           })
+
+      -- the same where the code has the place of what Even won
+      pub run_found_at :
+          {won : ℕ} →
+          won ≡ held_at (length owners) (length targets) s + s →
+          WinnersFound (tables_of owners priorities offsets targets) (won_in (tables_of owners priorities offsets targets))
+          (entries_in (tables_of owners priorities offsets targets)) s won w3
+      run_found_at is = rw is run_found

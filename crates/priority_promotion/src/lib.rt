@@ -5,4 +5,4 @@
 
 mod door;
 
-pub use door::solve_priority_promotion;
+pub use door::{PriorityPromotion, solve_priority_promotion};

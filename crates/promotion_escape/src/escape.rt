@@ -6,22 +6,20 @@ ghost use Rattle.promotion_escape.specs.Highest.{Climbed, HighestOf, HighestLeve
 
 use parity_game::VertexIndex;
 use promotion_levels::level_at;
-use walk::{Members, Next};
+use walk::Members;
 
 // From level `best` up to the first that does not hold w, or to level k.
 fn climb(s: usize, work: &[u64], levels: usize, k: usize, w: VertexIndex, best: usize) -> usize
     requires { Climbable s levels k w.0 best work.now }
     ensures { Climbed (sets_from s s levels work.now) k w.0 best result }
 {
-    let mut level = best;
-    while level < k {
+    for level in best..k {
         let at = level_at(levels, s, level);
         if !sets::contains(&work[at..at + s], w.0) {
             return level;
         }
-        level += 1;
     }
-    level
+    k
 }
 
 // Up from `best` along the edges of v that leave level k. One test of both levels: most edges do not lead higher.
@@ -72,18 +70,13 @@ pub fn best_escape(
 {
     let mut highest = 0;
     let mut walk = Members::new(work, held, s);
-    loop {
-        if highest == k {
-            return highest;
-        }
-        let next = walk.next(work, held, s);
-        let Next::Member(index, rest) = next else {
-            return highest;
+    while highest < k {
+        let Some(v) = walk.next(work, held, s) else {
+            break;
         };
-        let v = index.0;
-        if owners[v] != alpha {
-            highest = best_of(offsets, targets, s, work, levels, k, index, highest);
+        if owners[v.0] != alpha {
+            highest = best_of(offsets, targets, s, work, levels, k, v, highest);
         }
-        walk = rest;
     }
+    highest
 }

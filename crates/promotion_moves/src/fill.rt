@@ -4,7 +4,7 @@ ghost use Rattle.promotion_moves.specs.Filling.{Fillable, Filled, FillAll, Fille
 use area::NO_ENTRY;
 use parity_game::VertexIndex;
 use successors::inside::lowest_inside;
-use walk::{Members, Next};
+use walk::Members;
 
 // v, of R, takes its lowest-numbered successor in R where it is own and has no entry.
 fn fill_entry(
@@ -49,12 +49,7 @@ pub fn assign_missing_strategies(
         work.old work.new }
 {
     let mut walk = Members::new(work, heads, s);
-    loop {
-        let next = walk.next(work, heads, s);
-        let Next::Member(v, rest) = next else {
-            return;
-        };
+    while let Some(v) = walk.next(work, heads, s) {
         fill_entry(owners, offsets, targets, alpha, s, work, held, entries, v);
-        walk = rest;
     }
 }

@@ -3,7 +3,8 @@ ghost use Rattle.std.specs.Prelude.{◌≡◌};
 ghost use Rattle.promotion_open.specs.Opening.{is_open_in};
 ghost use Rattle.promotion_escape.specs.Escapes.{Openable};
 
-use walk::{Members, Next};
+use parity_game::VertexIndex;
+use walk::Members;
 
 // An opponent's head of R, of those at `heads`, has an edge into the last level, at `below`, or an own one has none
 // into R, at `held`. No other vertex of R opens it.
@@ -23,13 +24,7 @@ pub fn is_open(
         work.now }
 {
     let mut walk = Members::new(work, heads, s);
-    'vertices: loop {
-        let next = walk.next(work, heads, s);
-        let Next::Member(index, rest) = next else {
-            return false;
-        };
-        walk = rest;
-        let v = index.0;
+    'vertices: while let Some(VertexIndex(v)) = walk.next(work, heads, s) {
         let own = owners[v] == alpha;
         let place = if own { held } else { below };
         for e in offsets[v] as usize..offsets[v + 1] as usize {
@@ -46,4 +41,5 @@ pub fn is_open(
             return true;
         }
     }
+    false
 }

@@ -3,7 +3,8 @@ ghost use Rattle.std.specs.Prelude.{ℕ};
 ghost use Rattle.promotion_sets.specs.Forgetting.{Forgettable, Forgotten};
 
 use area::NO_ENTRY;
-use walk::{Members, Next};
+use parity_game::VertexIndex;
+use walk::Members;
 
 // Every member of the set loses its entry.
 pub fn forget(s: usize, work: &mut [u64], set: usize, entries: usize)
@@ -12,13 +13,7 @@ pub fn forget(s: usize, work: &mut [u64], set: usize, entries: usize)
         Forgotten n set entries work.old work.new }
 {
     let mut walk = Members::new(work, set, s);
-    loop {
-        let next = walk.next(work, set, s);
-        let Next::Member(member, rest) = next else {
-            return;
-        };
-        let v = member.0;
+    while let Some(VertexIndex(v)) = walk.next(work, set, s) {
         work[entries + v] = NO_ENTRY;
-        walk = rest;
     }
 }

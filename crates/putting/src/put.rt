@@ -9,10 +9,9 @@ pub fn put_word(word: &[u8], out: &mut [u8], at: usize) -> usize
     requires { Fits at word.now out.old }
     ensures { Puts at word.now out.old out.new result }
 {
-    for i in 0..word.len() {
-        out[at + i] = word[i];
-    }
-    at + word.len()
+    let end = at + word.len();
+    out[at..end].copy_from_slice(word);
+    end
 }
 
 // Decimal digits: those of a tenth of the value, and one more.

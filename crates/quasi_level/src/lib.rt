@@ -7,5 +7,5 @@ mod passes;
 mod places;
 
 pub use level::{attract_top, give_up, highest_at, settle, size_at, turn_over};
-pub use passes::{Passes, Sharp};
+pub use passes::{Passes, Sharp, Stage};
 pub use places::next_level;

@@ -1,8 +1,8 @@
 // How sharp an answer is, and how the passes of a solver stand: first passes at half the opponent's precision until one
 // finds nothing, then one at full precision, then passes at half again until one finds nothing.
-ghost use Rattle.std.specs.Prelude.{◌≡◌};
+ghost use Rattle.std.specs.Prelude.{◌≡◌, eqb};
 ghost use Rattle.separation.specs.Stages.{precision_at};
-ghost use Rattle.quasi_level.specs.Standing.{Began, AfterFound, AfterNothing, LevelEnded};
+ghost use Rattle.quasi_level.specs.Standing.{stage_number, Began, AfterFound, AfterNothing, LevelEnded};
 
 // An answer keeps all dominions of its own player, and drops all of the other's, whatever their size.
 #[derive(Clone, Copy)]
@@ -11,11 +11,22 @@ pub struct Sharp {
     pub drops: bool,
 }
 
-// The stage: 0 the first passes, 1 the pass at full precision, 2 the last passes, 3 the end. And how sharp what is left
-// of V is.
+// What the next pass is.
+#[derive(Clone, Copy, Debug, PartialEq, Eq)]
+pub enum Stage {
+    // One of the first passes.
+    Half,
+    // The pass at full precision.
+    Full,
+    // One of the last passes.
+    HalfAgain,
+    Done,
+}
+
+// The stage, and how sharp what is left of V is.
 #[derive(Clone, Copy)]
 pub struct Passes {
-    pub stage: usize,
+    pub stage: Stage,
     pub keeps: bool,
     pub drops: bool,
 }
@@ -25,28 +36,28 @@ impl Passes {
     pub fn new(half: usize) -> Passes
         ensures { Began half result }
     {
-        if half == 0 {
-            return Passes {
-                stage: 1,
-                keeps: true,
-                drops: false,
-            };
-        }
+        let stage = if half == 0 { Stage::Full } else { Stage::Half };
         Passes {
-            stage: 0,
+            stage,
             keeps: true,
             drops: false,
         }
     }
 
+    pub fn is_done(self) -> bool
+        ensures { result ≡ eqb (stage_number self.stage) 3 }
+    {
+        matches!(self.stage, Stage::Done)
+    }
+
     // The precision of the next pass.
     pub fn precision(self, half: usize, full: usize) -> usize
-        ensures { result ≡ precision_at self.stage half full }
+        ensures { result ≡ precision_at (stage_number self.stage) half full }
     {
-        if self.stage == 1 {
-            return full;
+        match self.stage {
+            Stage::Full => full,
+            _ => half,
         }
-        half
     }
 
     // After a pass that found something, the last passes follow the one at full precision.
@@ -54,23 +65,14 @@ impl Passes {
         ensures { AfterFound self sub half result }
     {
         let keeps = self.keeps && sub.drops;
-        if self.stage == 0 {
-            return Passes {
-                stage: 0,
-                keeps: keeps,
-                drops: false,
-            };
-        }
-        if half == 0 {
-            return Passes {
-                stage: 3,
-                keeps: keeps,
-                drops: false,
-            };
-        }
+        let stage = match self.stage {
+            Stage::Half => Stage::Half,
+            _ if half == 0 => Stage::Done,
+            _ => Stage::HalfAgain,
+        };
         Passes {
-            stage: 2,
-            keeps: keeps,
+            stage,
+            keeps,
             drops: false,
         }
     }
@@ -79,26 +81,18 @@ impl Passes {
     pub fn after_nothing(self, sub: Sharp, half: usize) -> Passes
         ensures { AfterNothing self sub half result }
     {
-        if sub.keeps {
-            return Passes {
-                stage: 3,
-                keeps: self.keeps,
-                drops: true,
-            };
-        }
-        if self.stage == 0 {
-            return Passes {
-                stage: 1,
-                keeps: self.keeps,
-                drops: false,
-            };
-        }
+        let stage = match self.stage {
+            _ if sub.keeps => Stage::Done,
+            Stage::Half => Stage::Full,
+            _ => Stage::Done,
+        };
         Passes {
-            stage: 3,
-            keeps: self.keeps,
-            drops: false,
+            stage,
+            drops: sub.keeps,
+            ..self
         }
     }
+
     // How sharp what is left of V is at the end: a precision that was cut to the size of V was full.
     pub fn sharpness(self, mine: usize, full: usize, size: usize) -> Sharp
         ensures { LevelEnded self mine full size result }

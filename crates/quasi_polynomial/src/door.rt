@@ -74,10 +74,7 @@ pub fn solve_quasi_polynomial(
 {
     let n = owners.len();
     let m = targets.len();
-    let r = check_lent(n, m, even.len(), odd.len(), work.len());
-    if r.number() != 0 {
-        return r;
-    }
+    check_lent(n, m, even.len(), odd.len(), work.len())?;
     let w = opinion_words(n, m);
     let high = first_height(kept[HIGHEST] as usize);
     run(
@@ -90,5 +87,5 @@ pub fn solve_quasi_polynomial(
         odd,
         &mut work[0..w],
     );
-    Answer::Answered(0)
+    Ok(0)
 }

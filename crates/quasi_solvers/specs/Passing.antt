@@ -1,5 +1,5 @@
 -- From piece to piece of a solver: what each needs of those before it, and what the solver leaves by each way out.
-use Rattle.std.specs.Prelude.{Bool, true, ◌&&◌, not, List, ◌⊎◌, ◌≡◌, refl, ℕ, zero, suc, ◌+◌, ◌-◌, ◌*◌, ◌/◌, ◌%◌, ◌≤◌, ◌<◌, min, eqb, length}
+use Rattle.std.specs.Prelude.{Bool, true, ◌&&◌, not, List, ◌≡◌, refl, ℕ, zero, suc, ◌+◌, ◌-◌, ◌*◌, ◌/◌, ◌%◌, ◌≤◌, ◌<◌, min, eqb, length}
 use Rattle.std.proofs.Math.Bool.{false}
 use Rattle.std.proofs.Common.{inl, inr, ⊎_elim, ap₂, ◌∙◌, mul-le-mul_left, mul-add, mul-one, add-one, arith, eq-eqb, eqb-true}
 use Rattle.std.proofs.Math.Path.{sym, ap, subst, fun_ext}
@@ -31,9 +31,11 @@ use Rattle.highest_priority.specs.Parts.{highest_of}
 use Rattle.quasi_level.specs.Level.{next_level, on_level, Held, HeldUnder, OpinionReady, OpinionStays, TopCut}
 use Rattle.quasi_level.specs.Level.{Droppable, FoundSome, Settled, GaveUp, TurnedOver}
 use Rattle.quasi_level.specs.Pieces.{stays_on, stays_under, level_stays}
-use Rattle.quasi_level.specs.Standing.{Began, LevelEnded}
+use Rattle.quasi_level.specs.Standing.{stage_number, Began, LevelEnded}
 use Rattle.quasi_level.specs.declared.passes.Passes.{Passes}
 use Rattle.quasi_level.specs.declared.passes.Sharp.{Sharp}
+use Rattle.quasi_level.specs.declared.passes.Stage.{Stage}
+use Rattle.quasi_level.specs.declared.passes.Stage.TheVariants.{Half, Full, HalfAgain, Done}
 use Rattle.quasi_solvers.specs.Calling.{OpinionCalled, SmallDominions}
 
 -- ---- numbers
@@ -269,15 +271,25 @@ module _ {t : Tables} {a : Player} {base height : ℕ} {w₀ : List ℕ} (called
 
 -- ---- the passes
 
+-- the test for the last stage
+pub still_early : (stage : Stage) → eqb (stage_number stage) 3 ≡ false → stage_number stage < 3
+still_early Half e = omega arith
+still_early Full e = omega arith
+still_early HalfAgain e = omega arith
+still_early Done e = absurd (eqb-false 3 3 e refl)
+
+pub not_early : (stage : Stage) → eqb (stage_number stage) 3 ≡ true → stage_number stage < 3 → ⊥
+not_early stage e l = let last : stage_number stage ≡ 3 = eqb-true (stage_number stage) 3 e in omega arith
+
 -- how the passes stand over the work area
 pub record PassesGoing (t : Tables) (a : Player) (base mine full half : ℕ) (w₀ : List ℕ) (passes : Passes) (w : List ℕ) : Type 0 where
   pub stays : OpinionStays t base w₀ w
   pub standing :
-      StagesStanding (game_of t) a mine full half (on_level t base w₀) passes.stage passes.keeps passes.drops (on_level t base w)
+      StagesStanding (game_of t) a mine full half (on_level t base w₀) (stage_number passes.stage) passes.keeps passes.drops (on_level t base w)
 
 -- what falls from pass to pass: the size of V, and the stages that are left
 abbrev pub to_go : ℕ → ℕ → List ℕ → Passes → ℕ
-to_go n base w passes = 4 * size_at n base w + (3 - passes.stage)
+to_go n base w passes = 4 * size_at n base w + (3 - stage_number passes.stage)
 
 module _ {t : Tables} {a : Player} {base height : ℕ} {w₀ : List ℕ} (called : OpinionCalled t a base height w₀)
     {s : ℕ} (size : s ≡ words (vertices t)) {p : ℕ} (top : Top (game_of t) (on_level t base w₀) (parity p) p)
@@ -430,7 +442,7 @@ module _ {t : Tables} {a : Player} {base height : ℕ} {w₀ : List ℕ} (called
           below₀ : OpinionStays t base w₀ w₂
           below₀ = stays_on going.stays (stays_under (omega arith) stays₂)
 
-          module _ (early : passes.stage < 3) {w₃ : List ℕ} {r : Passes} where
+          module _ (early : stage_number passes.stage < 3) {w₃ : List ℕ} {r : Passes} where
             left : FoundSome t (opponent a) base w₂ w₃ sub passes half r → (v : ℕ) →
                 on_level t base w₃ v ≡ without (on_level t base w) (attractor (game_of t) (opponent a) (on_level t base w) S) v
             left f v =
@@ -440,7 +452,7 @@ module _ {t : Tables} {a : Player} {base height : ℕ} {w₀ : List ℕ} (called
             -- **A pass leads on.**
             pub going_on :
                 half ≡ full / 2 →
-                k ≡ precision_at passes.stage half full →
+                k ≡ precision_at (stage_number passes.stage) half full →
                 Settled t (opponent a) base w₂ w₃ sub passes half r →
                 PassesGoing t a base mine full half w₀ r w₃
             unfolding game_of
@@ -450,10 +462,10 @@ module _ {t : Tables} {a : Player} {base height : ℕ} {w₀ : List ℕ} (called
                   standing =
                       subst
                       (λ (X : Set).
-                      StagesStanding (game_of t) a mine full half (on_level t base w₀) r.stage r.keeps r.drops X)
+                      StagesStanding (game_of t) a mine full half (on_level t base w₀) (stage_number r.stage) r.keeps r.drops X)
                       (sym (fun_ext (left f)))
                       (rw (f.stand.stage, f.stand.keeps, f.stand.drops)
-                      (stage_found (omega arith) passes.stage sub.keeps sub.drops early going.standing
+                      (stage_found (omega arith) (stage_number passes.stage) sub.keeps sub.drops early going.standing
                       (rw at at pass)));
                 }
             going_on halved at (inr f) =
@@ -463,10 +475,10 @@ module _ {t : Tables} {a : Player} {base height : ℕ} {w₀ : List ℕ} (called
                       rw f.same
                       (subst
                       (λ (X : Set).
-                      StagesStanding (game_of t) a mine full half (on_level t base w₀) r.stage r.keeps r.drops X)
+                      StagesStanding (game_of t) a mine full half (on_level t base w₀) (stage_number r.stage) r.keeps r.drops X)
                       (sym (fun_ext level₂))
                       (rw (f.stand.stage, f.stand.keeps, f.stand.drops)
-                      (stage_nothing (omega arith) passes.stage sub.keeps sub.drops early going.standing
+                      (stage_nothing (omega arith) (stage_number passes.stage) sub.keeps sub.drops early going.standing
                       (rw at at pass)
                       (λ v. sym (next_set v) ∙ f.nothing v))));
                 }
@@ -487,7 +499,7 @@ module _ {t : Tables} {a : Player} {base height : ℕ} {w₀ : List ℕ} (called
                 Settled t (opponent a) base w₂ w₃ sub passes half r →
                 to_go (vertices t) base w₃ r < to_go (vertices t) base w passes
             going_less (inl f) =
-                let rises = stage_found_rises passes.stage sub.keeps half early in
+                let rises = stage_found_rises (stage_number passes.stage) sub.keeps half early in
                 let stage = f.stand.stage in
                 let B = attractor (game_of t) (opponent a) (on_level t base w) S in
                 let found : S f.vertex ≡ true = sym (next_set f.vertex) ∙ f.member in
@@ -508,7 +520,7 @@ module _ {t : Tables} {a : Player} {base height : ℕ} {w₀ : List ℕ} (called
                 let larger = size_at_lem (vertices t) base w below in
                 omega arith
             going_less (inr f) =
-                let rises = stage_nothing_rises passes.stage sub.keeps half early in
+                let rises = stage_nothing_rises (stage_number passes.stage) sub.keeps half early in
                 let stage = f.stand.stage in
                 let alike : (v : ℕ) → on_level t base w₃ v ≡ on_level t base w v =
                 λ v. ap (λ (x : List ℕ). on_level t base x v) f.same ∙ level₂ v in
@@ -521,7 +533,7 @@ module _ {t : Tables} {a : Player} {base height : ℕ} {w₀ : List ℕ} (called
       -- **At the end V is what the solver gives.**
       pub going_ends :
           {own other size' : ℕ} {r : Sharp} →
-          (passes.stage < 3 → ⊥) →
+          (stage_number passes.stage < 3 → ⊥) →
           size' ≡ size_at (vertices t) base w₀ →
           mine ≡ min own size' →
           full ≡ min other size' →
@@ -530,7 +542,7 @@ module _ {t : Tables} {a : Player} {base height : ℕ} {w₀ : List ℕ} (called
       unfolding game_of
       going_ends {own} {other} {size'} {r} late counted cut₁ cut₂ ended =
           let st = going.standing in
-          let last : passes.stage ≡ 3 = omega (arith, st.known, late) in
+          let last : stage_number passes.stage ≡ 3 = omega (arith, st.known, late) in
           let few = count_le (vertices t) (on_level t base w₀) in
           let counts = vertices_in called size in
           record {

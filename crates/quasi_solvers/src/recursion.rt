@@ -2,7 +2,7 @@
 // dominions of its own player of at most that player's precision are in, all of the opponent's of at most the
 // opponent's are out. What it gives back says where it did better. A solver gives up at precision 0, not 1: a vertex
 // that leads to itself is a dominion of one vertex.
-ghost use Rattle.std.specs.Prelude.{◌≡◌, min};
+ghost use Rattle.std.specs.Prelude.{◌≡◌};
 ghost use Rattle.rules.specs.Game.{Even, Odd};
 ghost use Rattle.rules.specs.Tables.{tables_of};
 ghost use Rattle.quasi_solvers.specs.Calling.{OpinionCalled, SmallDominions};
@@ -10,12 +10,6 @@ ghost use Rattle.quasi_solvers.specs.Calling.{OpinionCalled, SmallDominions};
 use quasi_level::{
     Passes, Sharp, attract_top, give_up, highest_at, next_level, settle, size_at, turn_over,
 };
-
-fn least(a: usize, b: usize) -> usize
-    ensures { result ≡ min a b }
-{
-    if a < b { a } else { b }
-}
 
 // Every priority in V is below `height`, which is odd; each call below has a lower one.
 #[cycle(solve_even_solve_odd)]
@@ -37,7 +31,7 @@ pub fn solve_even(
 {
     let s = parity_game::set_words(owners.len());
     let size = size_at(owners.len(), s, work, base);
-    let e = least(even, size);
+    let e = even.min(size);
     if e == 0 {
         return give_up(size, s, work, base);
     }
@@ -58,10 +52,10 @@ pub fn solve_even(
         );
         return turn_over(s, work, base, turned);
     }
-    let o = least(odd, size);
+    let o = odd.min(size);
     let half = o / 2;
     let mut passes = Passes::new(half);
-    while passes.stage < 3 {
+    while !passes.is_done() {
         let k = passes.precision(half, o);
         attract_top(owners, priorities, offsets, targets, p, s, work, base);
         let r = solve_odd(owners, priorities, offsets, targets, work, up, p.0, e, k);
@@ -90,7 +84,7 @@ pub fn solve_odd(
 {
     let s = parity_game::set_words(owners.len());
     let size = size_at(owners.len(), s, work, base);
-    let o = least(odd, size);
+    let o = odd.min(size);
     if o == 0 {
         return give_up(size, s, work, base);
     }
@@ -111,10 +105,10 @@ pub fn solve_odd(
         );
         return turn_over(s, work, base, turned);
     }
-    let e = least(even, size);
+    let e = even.min(size);
     let half = e / 2;
     let mut passes = Passes::new(half);
-    while passes.stage < 3 {
+    while !passes.is_done() {
         let k = passes.precision(half, e);
         attract_top(owners, priorities, offsets, targets, p, s, work, base);
         let r = solve_even(owners, priorities, offsets, targets, work, up, p.0, k, o);

@@ -1,12 +1,13 @@
-// 9 and 10 before all else, by the lengths of what is lent: the number given, or 0 where all fit.
+// 9 and 10 before all else, by the lengths of what is lent.
 ghost use Rattle.std.specs.Prelude.{◌≡◌};
 ghost use Rattle.rules.specs.Outcome.{◌then◌};
+ghost use Rattle.parity_game.specs.Said.{verdict};
 ghost use Rattle.reading_rooms.specs.Said.{size_checks};
-ghost use Rattle.reading_kept.specs.Rooms.{number_said, kept_size, state_size};
+ghost use Rattle.reading_kept.specs.Rooms.{kept_size, state_size};
 
 use kept_numbers::KEPT;
-use parity_game::{BAD_SIZE, SHORT_WORK};
-use reading_rooms::{Fits, check_rooms};
+use parity_game::{Checked, Refusal};
+use reading_rooms::check_rooms;
 
 // 9 for a kept that is not 258 long, then the tables and the work area.
 pub fn check_record_rooms(
@@ -16,17 +17,13 @@ pub fn check_record_rooms(
     offsets: usize,
     targets: usize,
     work: usize,
-) -> u64
-    ensures { number_said result ≡ (kept_size kept then size_checks owners priorities offsets targets work) }
+) -> Checked
+    ensures { verdict result ≡ (kept_size kept then size_checks owners priorities offsets targets work) }
 {
     if kept != KEPT {
-        return BAD_SIZE;
+        return Err(Refusal::BadSize);
     }
-    match check_rooms(owners, priorities, offsets, targets, work) {
-        Fits::Sizes => BAD_SIZE,
-        Fits::Work => SHORT_WORK,
-        Fits::Fit => 0,
-    }
+    check_rooms(owners, priorities, offsets, targets, work)
 }
 
 // At the end 10 is also a state that is too short.
@@ -38,16 +35,13 @@ pub fn check_end_rooms(
     targets: usize,
     work: usize,
     state: usize,
-) -> u64
-    ensures { number_said result
+) -> Checked
+    ensures { verdict result
         ≡ ((kept_size kept then size_checks owners priorities offsets targets work) then state_size state) }
 {
-    let r = check_record_rooms(kept, owners, priorities, offsets, targets, work);
-    if r != 0 {
-        return r;
-    }
+    check_record_rooms(kept, owners, priorities, offsets, targets, work)?;
     if state < 32 {
-        return SHORT_WORK;
+        return Err(Refusal::ShortWork);
     }
-    0
+    Ok(())
 }

@@ -1,22 +1,9 @@
 -- What the checks at the two ends of reading say, in the words of the rules: 9 and 10 for the rooms, 31 for the identifiers.
 use Rattle.std.specs.Prelude.{Bool, true, false, not, ◌||◌, List, ◌≡◌, refl, ℕ, ◌+◌, eqb, ltb, length, get_or}
-use Rattle.rules.specs.Outcome.{Verdict, none, refused, given, given_at, ◌then◌}
+use Rattle.rules.specs.Outcome.{Verdict, given, given_at, ◌then◌}
 use Rattle.rules.specs.Pgsolver.{Header, unsaid, highest}
 use Rattle.rules.specs.Reading.{Rooms, room_checks, wrong_highest}
 use Rattle.grammar.specs.Waiting.{seen}
-use Rattle.reading_rooms.specs.declared.checks.Fits.{Fits}
-use Rattle.reading_rooms.specs.declared.checks.Fits.TheVariants.{Fit, Sizes, Work}
-use Rattle.reading_rooms.specs.declared.checks.Identifiers.{Identifiers}
-use Rattle.reading_rooms.specs.declared.checks.Identifiers.TheVariants.{Right, Wrong}
-
-abbrev pub fits_said : Fits → Verdict
-fits_said Fit = none
-fits_said Sizes = refused 9 0
-fits_said Work = refused 10 0
-
-abbrev pub identifiers_said : Identifiers → Verdict
-identifiers_said Right = none
-identifiers_said (Wrong p) = refused 31 p
 
 -- 9 and 10 go by the lengths alone
 abbrev pub size_checks : ℕ → ℕ → ℕ → ℕ → ℕ → Verdict

@@ -1,22 +1,6 @@
 // What a refusal leaves: every entry of the tables and every word of the work area that was used becomes 0.
 ghost use Rattle.std.specs.Prelude.{◌++◌, ◌≡◌, ◌≤◌, length, drop, replicate};
-ghost use Rattle.reading_rooms.specs.Cleared.{TablesZero, AllZero, zeros};
-
-fn clear_bytes(bytes: &mut [u8])
-    ensures { bytes.new ≡ zeros bytes.old }
-{
-    for i in 0..bytes.len() {
-        bytes[i] = 0;
-    }
-}
-
-fn clear_numbers(numbers: &mut [u16])
-    ensures { numbers.new ≡ zeros numbers.old }
-{
-    for i in 0..numbers.len() {
-        numbers[i] = 0;
-    }
-}
+ghost use Rattle.reading_rooms.specs.Cleared.{TablesZero, AllZero};
 
 // The first `used` words of the work area become 0.
 pub fn clear_work(work: &mut [u64], used: usize)
@@ -36,10 +20,10 @@ pub fn clear_tables(
     ensures { TablesZero owners.old priorities.old offsets.old targets.old
         owners.new priorities.new offsets.new targets.new }
 {
-    clear_bytes(owners);
-    clear_numbers(priorities);
-    clear_numbers(offsets);
-    clear_numbers(targets);
+    owners.fill(0);
+    priorities.fill(0);
+    offsets.fill(0);
+    targets.fill(0);
 }
 
 pub fn clear_rooms(

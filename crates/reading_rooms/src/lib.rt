@@ -5,5 +5,5 @@
 mod checks;
 mod clear;
 
-pub use checks::{Fits, Identifiers, SEEN, check_identifiers, check_rooms};
+pub use checks::{SEEN, check_identifiers, check_rooms};
 pub use clear::{clear_rooms, clear_tables, clear_work};

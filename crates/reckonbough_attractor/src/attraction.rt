@@ -49,23 +49,24 @@ pub fn reckonbough_attractor(
 {
     let n = n as usize;
     let m = m as usize;
-    let r = record::check_record(n, m, owners, priorities, offsets, targets, kept);
-    if r.number() != 0 {
-        return tell(r, place, count);
+    match record::check_record(n, m, owners, priorities, offsets, targets, kept) {
+        Ok(()) => {
+            let alpha = Player::from_index(player);
+            let done = attractor_door::attractor(
+                &owners[..n],
+                &priorities[..n],
+                &offsets[..n + 1],
+                &targets[..m],
+                alpha,
+                within,
+                target,
+                res,
+                strategy,
+                distances,
+                work,
+            );
+            tell(done, place, count)
+        }
+        Err(refused) => tell(Err(refused), place, count),
     }
-    let alpha = Player::from_index(player);
-    let done = attractor_door::attractor(
-        &owners[0..n],
-        &priorities[0..n],
-        &offsets[0..n + 1],
-        &targets[0..m],
-        alpha,
-        within,
-        target,
-        res,
-        strategy,
-        distances,
-        work,
-    );
-    tell(done, place, count)
 }

@@ -38,21 +38,22 @@ pub fn reckonbough_show_loop(
     let n = n as usize;
     let m = m as usize;
     *path_length = 0;
-    let r = record::check_record(n, m, owners, priorities, offsets, targets, kept);
-    if r.number() != 0 {
-        return tell(r, place, count);
+    match record::check_record(n, m, owners, priorities, offsets, targets, kept) {
+        Ok(()) => {
+            let done = show_loop::show_loop(
+                &owners[..n],
+                &priorities[..n],
+                &offsets[..n + 1],
+                &targets[..m],
+                kept,
+                vertex,
+                path,
+                cycle,
+                work,
+                path_length,
+            );
+            tell(done, place, count)
+        }
+        Err(refused) => tell(Err(refused), place, count),
     }
-    let done = show_loop::show_loop(
-        &owners[0..n],
-        &priorities[0..n],
-        &offsets[0..n + 1],
-        &targets[0..m],
-        kept,
-        vertex,
-        path,
-        cycle,
-        work,
-        path_length,
-    );
-    tell(done, place, count)
 }

@@ -33,18 +33,19 @@ pub fn reckonbough_solitaire(
 {
     let n = n as usize;
     let m = m as usize;
-    let r = record::check_record(n, m, owners, priorities, offsets, targets, kept);
-    if r.number() != 0 {
-        return tell(r, place, count);
+    match record::check_record(n, m, owners, priorities, offsets, targets, kept) {
+        Ok(()) => {
+            let done = solitaire_game::solve_solitaire_game(
+                &owners[..n],
+                &priorities[..n],
+                &offsets[..n + 1],
+                &targets[..m],
+                kept,
+                set,
+                work,
+            );
+            tell(done, place, count)
+        }
+        Err(refused) => tell(Err(refused), place, count),
     }
-    let done = solitaire_game::solve_solitaire_game(
-        &owners[0..n],
-        &priorities[0..n],
-        &offsets[0..n + 1],
-        &targets[0..m],
-        kept,
-        set,
-        work,
-    );
-    tell(done, place, count)
 }

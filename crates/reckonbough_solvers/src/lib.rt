@@ -3,5 +3,6 @@
 // through the last two references. None has a `requires`.
 #![tactic(auto)]
 
+mod door;
 pub mod promotion;
 pub mod recursion;

@@ -5,7 +5,8 @@ ghost use Rattle.rules.specs.Solver.{Lent, Solves};
 ghost use Rattle.rules.specs.Tables.{game_of};
 ghost use Rattle.telling.specs.Doors.{told};
 
-use telling::tell;
+use crate::door::{solve, tell};
+use priority_promotion::PriorityPromotion;
 
 pub fn reckonbough_priority_promotion(
     n: u64,
@@ -47,23 +48,9 @@ pub fn reckonbough_priority_promotion(
         (after_rounds (game_of t) (rounds_needed (game_of t))).entries before after
         (told result place.new count.new))) }
 {
-    let n = n as usize;
-    let m = m as usize;
-    let r = record::check_record(n, m, owners, priorities, offsets, targets, kept);
-    if r.number() != 0 {
-        return tell(r, place, count);
-    }
-    let done = priority_promotion::solve_priority_promotion(
-        &owners[0..n],
-        &priorities[0..n],
-        &offsets[0..n + 1],
-        &targets[0..m],
-        kept,
-        budget,
-        even,
-        odd,
-        strategy,
-        work,
+    let solved = solve::<PriorityPromotion>(
+        n as usize, m as usize, owners, priorities, offsets, targets, kept, budget, even, odd,
+        strategy, work,
     );
-    tell(done, place, count)
+    tell(solved, place, count)
 }

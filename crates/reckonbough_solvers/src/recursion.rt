@@ -5,7 +5,8 @@ ghost use Rattle.rules.specs.Tables.{game_of};
 ghost use Rattle.rules.specs.Zielonka.{zielonka};
 ghost use Rattle.telling.specs.Doors.{told};
 
-use telling::tell;
+use crate::door::{solve, tell};
+use zielonka::Zielonka;
 
 pub fn reckonbough_zielonka(
     n: u64,
@@ -47,23 +48,9 @@ pub fn reckonbough_zielonka(
         (zielonka (game_of t)).entries before after
         (told result place.new count.new))) }
 {
-    let n = n as usize;
-    let m = m as usize;
-    let r = record::check_record(n, m, owners, priorities, offsets, targets, kept);
-    if r.number() != 0 {
-        return tell(r, place, count);
-    }
-    let done = zielonka::solve_zielonka(
-        &owners[0..n],
-        &priorities[0..n],
-        &offsets[0..n + 1],
-        &targets[0..m],
-        kept,
-        budget,
-        even,
-        odd,
-        strategy,
-        work,
+    let solved = solve::<Zielonka>(
+        n as usize, m as usize, owners, priorities, offsets, targets, kept, budget, even, odd,
+        strategy, work,
     );
-    tell(done, place, count)
+    tell(solved, place, count)
 }

@@ -23,11 +23,8 @@ pub fn reckonbough_check_tables(
         (tables_of owners.now priorities.now offsets.now targets.now))
         (answered 0) }
 {
-    tell(
-        table_checks::check_tables(owners, priorities, offsets, targets),
-        place,
-        count,
-    )
+    let checked = table_checks::check_tables(owners, priorities, offsets, targets);
+    tell(checked.and(Ok(0)), place, count)
 }
 
 pub fn reckonbough_compact(
@@ -57,17 +54,18 @@ pub fn reckonbough_compact(
 {
     let n = n as usize;
     let m = m as usize;
-    let r = record::check_record(n, m, owners, priorities, offsets, targets, kept);
-    if r.number() != 0 {
-        return tell(r, place, count);
+    match record::check_record(n, m, owners, priorities, offsets, targets, kept) {
+        Ok(()) => {
+            let done = compaction::compact(
+                &owners[..n],
+                &priorities[..n],
+                &offsets[..n + 1],
+                &targets[..m],
+                new_priorities,
+                new_kept,
+            );
+            tell(done, place, count)
+        }
+        Err(refused) => tell(Err(refused), place, count),
     }
-    let done = compaction::compact(
-        &owners[0..n],
-        &priorities[0..n],
-        &offsets[0..n + 1],
-        &targets[0..m],
-        new_priorities,
-        new_kept,
-    );
-    tell(done, place, count)
 }

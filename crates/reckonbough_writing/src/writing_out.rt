@@ -28,16 +28,17 @@ pub fn reckonbough_write(
 {
     let n = n as usize;
     let m = m as usize;
-    let r = record::check_record(n, m, owners, priorities, offsets, targets, kept);
-    if r.number() != 0 {
-        return tell(r, place, count);
+    match record::check_record(n, m, owners, priorities, offsets, targets, kept) {
+        Ok(()) => {
+            let done = pgsolver_writer::write(
+                &owners[..n],
+                &priorities[..n],
+                &offsets[..n + 1],
+                &targets[..m],
+                text,
+            );
+            tell(done, place, count)
+        }
+        Err(refused) => tell(Err(refused), place, count),
     }
-    let done = pgsolver_writer::write(
-        &owners[0..n],
-        &priorities[0..n],
-        &offsets[0..n + 1],
-        &targets[0..m],
-        text,
-    );
-    tell(done, place, count)
 }

@@ -1,11 +1,11 @@
 -- What a door that takes a record goes by. It calls `check_record` first and tells its refusal; past that it lends its own
 -- function the first n, n, n + 1 and m entries, which are accepted tables, with kept numbers that are a fresh count of them.
-use Rattle.std.specs.Prelude.{◌≡◌, refl, ℕ, ◌+◌, ◌-◌, take, drop}
+use Rattle.std.specs.Prelude.{◌≡◌, refl, ℕ, Result, ◌+◌, ◌-◌, take, drop}
 use Rattle.std.proofs.Common.{sym, ap, subst, ◌∙◌}
 use Rattle.rules.specs.Outcome.{Outcome, Verdict, none, refused, outcome, answered, Unless}
 use Rattle.rules.specs.Record.{Record, record_checks, tables_in, fresh_count, ByRecord}
 use Rattle.rules.specs.Tables.{Tables, tables_of, Accepted}
-use Rattle.parity_game.specs.declared.answer.Answer.{Answer}
+use Rattle.parity_game.specs.declared.refusal.Refusal.{Refusal}
 use Rattle.parity_game.specs.Said.{said}
 use Rattle.parity_game.specs.Laws.{zero_none}
 use Rattle.theory.specs.Edits.{Roomy, passing}
@@ -27,9 +27,9 @@ unless_refused :
 unless_refused none x Else h = absurd (h refl)
 unless_refused (refused k p) x Else h = (refl, refl)
 
--- `if r.number() != 0 { return tell(r, ..); }`: nothing was written, and the refusal is told
+-- what `check_record` refuses is told, and nothing was written
 pub refused_first :
-    {A : Type 0} {k : ℕ} {o : Outcome} (r : Record) (x : A) (Does : Outcome → Tables → Type 0) (a : Answer) →
+    {A : Type 0} {k : ℕ} {o : Outcome} (r : Record) (x : A) (Does : Outcome → Tables → Type 0) (a : Result ℕ Refusal) →
     (k ≡ 0 → ⊥) →
     k ≡ (said a).number →
     said a ≡ outcome (record_checks r) (answered 0) →
@@ -43,7 +43,7 @@ refused_first {o = o} r x Does a h number e tells =
 
 -- past that test the record passes
 pub passed :
-    {k : ℕ} (r : Record) (a : Answer) →
+    {k : ℕ} (r : Record) (a : Result ℕ Refusal) →
     k ≡ 0 →
     k ≡ (said a).number →
     said a ≡ outcome (record_checks r) (answered 0) →
@@ -63,7 +63,7 @@ passed_kept r ok = rw (part_front r.n r.priorities) (passing r ok).fresh
 
 -- and what the door's function does with the tables lent, the door does with the record's
 pub done_past :
-    {A : Type 0} {o : Outcome} (r : Record) (before after : A) (Does : Outcome → Tables → Type 0) (a : Answer) →
+    {A : Type 0} {o : Outcome} (r : Record) (before after : A) (Does : Outcome → Tables → Type 0) (a : Result ℕ Refusal) →
     record_checks r ≡ none →
     Does (said a) (lent_tables r) →
     said a ≡ o →

@@ -1,14 +1,16 @@
 -- What callers of the record's checks go by: number 0 is kept for answers, 1 to 8 look at no kept numbers, and what a fresh count
 -- gives.
-use Rattle.std.specs.Prelude.{not, ◌||◌, List, [], ◌≡◌, refl, ℕ, ◌+◌, ◌-◌, eqb, ltb, length, take, drop}
+use Rattle.std.specs.Prelude.{Err, not, ◌||◌, List, [], ◌≡◌, refl, ℕ, ◌+◌, ◌-◌, eqb, ltb, length, take, drop}
 use Rattle.std.proofs.Common.{ap, ◌∙◌, arith, eq-eqb, ne_eqb}
 use Rattle.std.proofs.Math.Nat.{sub-zero}
-use Rattle.rules.specs.Outcome.{Outcome, Verdict, none, refused, outcome, answered, ◌then◌}
+use Rattle.rules.specs.Outcome.{Outcome, Verdict, none, refused, outcome, answered}
 use Rattle.rules.specs.Record.{Record, record_of, room2, room3, size_checks, record_tables, kept_check, check47, record_checks, tables_in, same_list}
 use Rattle.rules.specs.Record.{fresh_count, kept_room, fresh_checks, kept_by, CountsFresh}
 use Rattle.rules.specs.Tables.{tables_of, check1, table_checks}
 use Rattle.parity_game.specs.Laws.{Numbered, numbered_then, numbered_given, numbered_check1, numbered_tables}
-use Rattle.parity_game.specs.Said.{refusal}
+use Rattle.parity_game.specs.declared.refusal.Refusal.{Refusal}
+use Rattle.parity_game.specs.Said.{refusal, refusal_of, verdict}
+use Rattle.parity_game.specs.Laws.{refused_outcome}
 
 -- a record without its kept numbers
 abbrev pub unkept : Record → Record
@@ -57,6 +59,12 @@ fresh_refused r o e n = record { gives = e; leaves = left (fresh_checks r) (λ z
     left : (v : Verdict) → ((outcome v (answered 0)).number ≡ 0 → ⊥) → r.kept ≡ kept_by v r
     left none h = absurd (h refl)
     left (refused k p) h = refl
+
+pub fresh_stopped : (r : Record) (e : Refusal) → verdict (Err e) ≡ record_tables r → CountsFresh r r.kept (refusal_of e)
+unfolding fresh_checks
+fresh_stopped r e was =
+    let all : verdict (Err e) ≡ fresh_checks r = rw (← was) refl in
+    record { gives = refused_outcome e (fresh_checks r) (answered 0) all; leaves = rw (← all) refl }
 
 pub fresh_written :
     (r : Record) (kept : List ℕ) →

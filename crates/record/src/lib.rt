@@ -4,18 +4,17 @@
 #![tactic(auto)]
 
 ghost use Rattle.std.specs.Prelude.{[], ◌≡◌};
-ghost use Rattle.rules.specs.Outcome.{outcome, answered, ◌then◌};
+ghost use Rattle.rules.specs.Outcome.{◌then◌};
 ghost use Rattle.rules.specs.Record.{record_of, room2, room3, record_tables, record_checks, tables_in, CountsFresh};
 ghost use Rattle.rules.specs.Tables.{check1, table_checks};
-ghost use Rattle.parity_game.specs.Said.{said};
+ghost use Rattle.parity_game.specs.Said.{said, verdict};
 ghost use Rattle.theory.specs.Edits.{Roomy};
 
 pub use kept_numbers::KEPT;
-use parity_game::{
-    Answer, BAD_SIZE, MOST_EDGES, MOST_VERTICES, TABLE_LENGTHS, TOO_MANY_EDGES, TOO_MANY_VERTICES,
-};
+use parity_game::{Answer, Checked, MOST_EDGES, MOST_VERTICES, Refusal};
 
 // 1 to 3, by the sizes and the room.
+#[tactic(auto, unfolding(rules::specs::Tables::check1, rules::specs::Record::room2, rules::specs::Record::room3))]
 fn check_sizes(
     n: usize,
     m: usize,
@@ -23,29 +22,19 @@ fn check_sizes(
     priorities: usize,
     offsets: usize,
     targets: usize,
-) -> Answer
-    ensures { said result
-        ≡ outcome (check1 n then room2 n owners priorities offsets then room3 m targets) (answered 0) }
+) -> Checked
+    ensures { verdict result ≡ check1 n then room2 n owners priorities offsets then room3 m targets }
 {
     if MOST_VERTICES < n {
-        return Answer::Refused(TOO_MANY_VERTICES);
+        return Err(Refusal::TooManyVertices);
     }
-    if owners < n {
-        return Answer::Refused(TABLE_LENGTHS);
+    if owners < n || priorities < n || offsets < n + 1 {
+        return Err(Refusal::TableLengths);
     }
-    if priorities < n {
-        return Answer::Refused(TABLE_LENGTHS);
+    if MOST_EDGES < m || targets < m {
+        return Err(Refusal::TooManyEdges);
     }
-    if offsets < n + 1 {
-        return Answer::Refused(TABLE_LENGTHS);
-    }
-    if MOST_EDGES < m {
-        return Answer::Refused(TOO_MANY_EDGES);
-    }
-    if targets < m {
-        return Answer::Refused(TOO_MANY_EDGES);
-    }
-    Answer::Answered(0)
+    Ok(())
 }
 
 // 1 to 8 of the entries that count.
@@ -56,25 +45,23 @@ fn check_fronts(
     priorities: &[u16],
     offsets: &[u16],
     targets: &[u16],
-) -> Answer
+) -> Checked
     requires { Roomy (record_of n m owners.now priorities.now offsets.now targets.now []) }
-    ensures { said result
-        ≡ outcome
-        (table_checks
+    ensures { verdict result ≡ table_checks
         (tables_in
         (record_of n m owners.now priorities.now offsets.now
-        targets.now [])))
-        (answered 0) }
+        targets.now [])) }
 {
     table_checks::check_tables(
-        &owners[0..n],
-        &priorities[0..n],
-        &offsets[0..n + 1],
-        &targets[0..m],
+        &owners[..n],
+        &priorities[..n],
+        &offsets[..n + 1],
+        &targets[..m],
     )
 }
 
 // 1 to 8, which look at no kept numbers.
+#[tactic(auto, unfolding(rules::specs::Record::record_tables))]
 pub fn check_room(
     n: usize,
     m: usize,
@@ -82,28 +69,23 @@ pub fn check_room(
     priorities: &[u16],
     offsets: &[u16],
     targets: &[u16],
-) -> Answer
-    ensures { said result
-        ≡ outcome
-        (record_tables
-        (record_of n m owners.now priorities.now offsets.now targets.now []))
-        (answered 0) }
+) -> Checked
+    ensures { verdict result ≡ record_tables
+        (record_of n m owners.now priorities.now offsets.now targets.now []) }
 {
-    let r = check_sizes(
+    check_sizes(
         n,
         m,
         owners.len(),
         priorities.len(),
         offsets.len(),
         targets.len(),
-    );
-    if r.number() != 0 {
-        return r;
-    }
+    )?;
     check_fronts(n, m, owners, priorities, offsets, targets)
 }
 
 // 1 to 8, then 47.
+#[tactic(auto, unfolding(rules::specs::Record::record_tables, rules::specs::Record::record_checks))]
 pub fn check_record(
     n: usize,
     m: usize,
@@ -112,19 +94,13 @@ pub fn check_record(
     offsets: &[u16],
     targets: &[u16],
     kept: &[u64],
-) -> Answer
-    ensures { said result
-        ≡ outcome
-        (record_checks
+) -> Checked
+    ensures { verdict result ≡ record_checks
         (record_of n m owners.now priorities.now offsets.now targets.now
-        kept.now))
-        (answered 0) }
+        kept.now) }
 {
-    let r = check_room(n, m, owners, priorities, offsets, targets);
-    if r.number() != 0 {
-        return r;
-    }
-    kept_numbers::check_kept(&priorities[0..n], kept)
+    check_room(n, m, owners, priorities, offsets, targets)?;
+    kept_numbers::check_kept(&priorities[..n], kept)
 }
 
 // Writes a fresh count of the tables, for every input.
@@ -143,13 +119,10 @@ pub fn fresh_count(
         kept.new
         (said result) }
 {
-    let r = check_room(n, m, owners, priorities, offsets, targets);
-    if r.number() != 0 {
-        return r;
-    }
+    check_room(n, m, owners, priorities, offsets, targets)?;
     if kept.len() != KEPT {
-        return Answer::Refused(BAD_SIZE);
+        return Err(Refusal::BadSize);
     }
-    kept_numbers::write_fresh(&priorities[0..n], kept);
-    Answer::Answered(0)
+    kept_numbers::write_fresh(&priorities[..n], kept);
+    Ok(0)
 }

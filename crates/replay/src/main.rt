@@ -7,20 +7,20 @@ mod said;
 mod text;
 
 use record::KEPT;
-use replay_solvers::{solitaire_differs, solver_differs};
+use replay_solvers::{Solver, solitaire_differs, solver_differs};
 use std::io;
 use std::io::Read;
 
 // The list, or as much of it as this room holds.
 const MOST_BYTES: usize = 65536;
 
-// On one line: where the next begins, and 1 for each solver that differs.
+// On one line: where the next begins, and which solvers differ.
 #[derive(Clone, Copy)]
 struct Line {
     next: usize,
-    zielonka: u64,
-    promotion: u64,
-    solitaire: u64,
+    zielonka: bool,
+    promotion: bool,
+    solitaire: bool,
 }
 
 // The game of a line against what stands after its tables.
@@ -35,7 +35,8 @@ fn judge(
 ) -> Line {
     let mut kept = [0u64; KEPT];
     let n = owners.len();
-    record::fresh_count(
+    // tables that this refuses are refused by each solver too
+    let _ = record::fresh_count(
         n,
         targets.len(),
         owners,
@@ -45,8 +46,24 @@ fn judge(
         &mut kept,
     );
     let answer = said::read_said(list, from, n);
-    let zielonka = solver_differs(false, owners, priorities, offsets, targets, &kept, answer);
-    let promotion = solver_differs(true, owners, priorities, offsets, targets, &kept, answer);
+    let zielonka = solver_differs(
+        Solver::Zielonka,
+        owners,
+        priorities,
+        offsets,
+        targets,
+        &kept,
+        answer,
+    );
+    let promotion = solver_differs(
+        Solver::Promotion,
+        owners,
+        priorities,
+        offsets,
+        targets,
+        &kept,
+        answer,
+    );
     let solitaire = solitaire_differs(owners, priorities, offsets, targets, &kept, answer);
     Line {
         next: end,
@@ -83,9 +100,9 @@ fn replay_line(list: &[u8], from: usize) -> Line {
     if n > 12 || m > 48 {
         return Line {
             next: end,
-            zielonka: 1,
-            promotion: 1,
-            solitaire: 1,
+            zielonka: true,
+            promotion: true,
+            solitaire: true,
         };
     }
     replay_game(
@@ -120,9 +137,9 @@ fn main(rt: HostRuntime) -> io::Result<()> {
     for _ in 0..games {
         let line = replay_line(list, at);
         at = line.next;
-        zielonka = zielonka.wrapping_add(line.zielonka);
-        promotion = promotion.wrapping_add(line.promotion);
-        solitaire = solitaire.wrapping_add(line.solitaire);
+        zielonka = zielonka.wrapping_add(line.zielonka as u64);
+        promotion = promotion.wrapping_add(line.promotion as u64);
+        solitaire = solitaire.wrapping_add(line.solitaire as u64);
     }
     print(&rt, "games: ", games)?;
     print(&rt, "Zielonka differs on ", zielonka)?;

@@ -8,50 +8,33 @@ pub struct Read {
     pub next: usize,
 }
 
-// What a digit stands for.
-fn digit(c: u8) -> u64
-    ensures { result < 16 }
-{
-    (c % 16) as u64
-}
-
 // The digits from a place on, and the byte after them; only the low 16 bits are kept.
 pub fn number(list: &[u8], from: usize) -> Read
     ensures { result.value < 65536 }
 {
-    let mut value: u64 = 0;
-    let mut at = from;
-    while at < list.len() {
-        let c = list[at];
-        at += 1;
-        if c < b'0' || c > b'9' {
+    let mut low: u16 = 0;
+    let mut next = from.max(list.len());
+    for (i, &c) in list.iter().enumerate().skip(from) {
+        if !c.is_ascii_digit() {
+            next = i + 1;
             break;
         }
-        value = (value * 10 + digit(c)) % 65536;
+        low = low.wrapping_mul(10).wrapping_add((c - b'0') as u16);
     }
     Read {
-        value: value,
-        next: at,
+        value: low as u64,
+        next,
     }
 }
 
-// Fills a slice; gives where the text goes on.
-fn numbers(list: &[u8], from: usize, into: &mut [u16]) -> usize {
+// Fills a slice with what `of` makes of each number; gives where the text goes on.
+fn fill<T: Copy, F: Fn(u64) -> T>(list: &[u8], from: usize, into: &mut [T], of: F) -> usize
+    requires { F.IsAlwaysCallable of }
+{
     let mut at = from;
-    for i in 0..into.len() {
+    for entry in into.iter_mut() {
         let t = number(list, at);
-        into[i] = t.value as u16;
-        at = t.next;
-    }
-    at
-}
-
-// The same for bytes.
-fn bytes(list: &[u8], from: usize, into: &mut [u8]) -> usize {
-    let mut at = from;
-    for i in 0..into.len() {
-        let t = number(list, at);
-        into[i] = (t.value % 256) as u8;
+        *entry = of(t.value);
         at = t.next;
     }
     at
@@ -66,10 +49,10 @@ pub fn tables(
     offsets: &mut [u16],
     targets: &mut [u16],
 ) -> usize {
-    let at = bytes(list, from, owners);
-    let at = numbers(list, at, priorities);
-    let at = numbers(list, at, offsets);
-    numbers(list, at, targets)
+    let at = fill(list, from, owners, |t| (t % 256) as u8);
+    let at = fill(list, at, priorities, |t| (t % 65536) as u16);
+    let at = fill(list, at, offsets, |t| (t % 65536) as u16);
+    fill(list, at, targets, |t| (t % 65536) as u16)
 }
 
 // The vertices below n that have the mark.
@@ -96,24 +79,15 @@ pub fn is_dash(list: &[u8], at: usize) -> bool {
 
 // Where the next line begins.
 pub fn line_end(list: &[u8], from: usize) -> usize {
-    let mut at = from;
-    while at < list.len() {
-        let c = list[at];
-        at += 1;
+    for (i, &c) in list.iter().enumerate().skip(from) {
         if c == b'\n' {
-            break;
+            return i + 1;
         }
     }
-    at
+    from.max(list.len())
 }
 
 // How many lines there are.
 pub fn lines(list: &[u8]) -> u64 {
-    let mut found: u64 = 0;
-    for i in 0..list.len() {
-        if list[i] == b'\n' {
-            found = found.wrapping_add(1);
-        }
-    }
-    found
+    list.iter().filter(|&&c| c == b'\n').count() as u64
 }

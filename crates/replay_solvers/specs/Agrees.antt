@@ -1,4 +1,4 @@
--- What 0 means of the oracle's words: the record passes, each set is the rules' bit by bit, and the count is what the rules need;
+-- What no difference means of the oracle's words: the record passes, each set is the rules' bit by bit, and the count is what the rules need;
 -- or two owners differ, and nothing else is wrong. And that the doors' contracts give it.
 use Rattle.std.specs.Prelude.{Bool, true, false, not, ◌||◌, List, [], ◌∷◌, ◌≡◌, refl, ℕ, ◌+◌, eqb, ltb, length, get_or, take}
 use Rattle.std.proofs.Common.{sym, ap, subst, ◌∙◌, arith}
@@ -19,6 +19,8 @@ use Rattle.parity_game.specs.Laws.{Numbered}
 use Rattle.record.specs.Laws.{numbered_record}
 use Rattle.solver.specs.Promises.{answered_holds, answered_count}
 use Rattle.solitaire_game.specs.Promises.{not_refused}
+use Rattle.replay_solvers.specs.declared.differs.Solver.{Solver}
+use Rattle.replay_solvers.specs.declared.differs.Solver.TheVariants.{Zielonka, Promotion}
 
 -- the budget of both solvers here
 abbrev pub budget : ℕ
@@ -29,19 +31,24 @@ abbrev pub played : Record → Game
 played r = game_of (tables_in r)
 
 -- the rounds or calls that the rules need, and the sets that they give
-abbrev pub needs : Bool → Game → ℕ
-needs true g = rounds_needed g
-needs false g = (zielonka g).calls
+abbrev pub needs : Solver → Game → ℕ
+needs Promotion g = rounds_needed g
+needs Zielonka g = (zielonka g).calls
 
-abbrev pub won : Bool → Game → Player → Set
-won true g = (after_rounds g (rounds_needed g)).won
-won false g = (zielonka g).won
+abbrev pub won : Solver → Game → Player → Set
+won Promotion g = (after_rounds g (rounds_needed g)).won
+won Zielonka g = (zielonka g).won
 
-pub record Says (promotion : Bool) (r : Record) (even odd : List ℕ) (count : ℕ) : Type 0 where
+-- what a solver counts, of calls and rounds
+abbrev pub made_by : Solver → ℕ → ℕ → ℕ
+made_by Zielonka calls rounds = calls
+made_by Promotion calls rounds = rounds
+
+pub record Says (solver : Solver) (r : Record) (even odd : List ℕ) (count : ℕ) : Type 0 where
   pub passes : record_checks r ≡ none
-  pub even_set : Holds (vertices (tables_in r)) (won promotion (played r) Even) even
-  pub odd_set : Holds (vertices (tables_in r)) (won promotion (played r) Odd) odd
-  pub counted : count ≡ needs promotion (played r)
+  pub even_set : Holds (vertices (tables_in r)) (won solver (played r) Even) even
+  pub odd_set : Holds (vertices (tables_in r)) (won solver (played r) Odd) odd
+  pub counted : count ≡ needs solver (played r)
 
 -- the record passes but two owners differ, or the set is the rules' for the one owner
 abbrev pub SaysSolitaire : Bool → Record → List ℕ → Type 0
@@ -65,15 +72,15 @@ answered_by (refused k p) o before after Else n u e =
 
 -- **what a solver's door promises of an answer**
 pub door_says :
-    (promotion : Bool) (r : Record) (before after : Lent) (o : Outcome) (entries : Tables → ℕ → ℕ) →
+    (solver : Solver) (r : Record) (before after : Lent) (o : Outcome) (entries : Tables → ℕ → ℕ) →
     ByRecord r o before after
-    (λ t. Solves budget t (needs promotion (game_of t)) (won promotion (game_of t)) (entries t) before after o) →
+    (λ t. Solves budget t (needs solver (game_of t)) (won solver (game_of t)) (entries t) before after o) →
     o.number ≡ 0 →
-    Says promotion r after.even after.odd o.count
-door_says promotion r before after o entries u e =
+    Says solver r after.even after.odd o.count
+door_says solver r before after o entries u e =
     let (ok, s) =
     answered_by (record_checks r) o before after
-    (Solves budget (tables_in r) (needs promotion (played r)) (won promotion (played r)) (entries (tables_in r)) before after o)
+    (Solves budget (tables_in r) (needs solver (played r)) (won solver (played r)) (entries (tables_in r)) before after o)
     (numbered_record r) u e in
     record {
       passes = ok;
@@ -88,30 +95,30 @@ single [] x long e = absurd (omega (arith, long))
 single (y ∷ []) x long e = ap (λ (z : ℕ). z ∷ []) e
 single (y ∷ (z ∷ xs)) x long e = absurd (omega (arith, long))
 
--- of a flag that is known
+-- of a solver that is known
 pub says_of :
-    {b promotion : Bool} {r : Record} {even odd : List ℕ} {count : ℕ} →
-    b ≡ promotion →
-    Says promotion r even odd count →
+    {b solver : Solver} {r : Record} {even odd : List ℕ} {count : ℕ} →
+    b ≡ solver →
+    Says solver r even odd count →
     Says b r even odd count
-says_of {r = r} {even} {odd} {count} e s = subst (λ (x : Bool). Says x r even odd count) (sym e) s
+says_of {r = r} {even} {odd} {count} e s = subst (λ (x : Solver). Says x r even odd count) (sym e) s
 
 -- the same of the oracle's words, where they are equal
 pub says_words :
-    {promotion : Bool} {r : Record} {even odd : List ℕ} {count x y wanted : ℕ} →
-    Says promotion r even odd count →
+    {solver : Solver} {r : Record} {even odd : List ℕ} {count x y wanted : ℕ} →
+    Says solver r even odd count →
     length even ≡ 1 →
     length odd ≡ 1 →
     get_or even 0 0 ≡ x →
     get_or odd 0 0 ≡ y →
     count ≡ wanted →
-    Says promotion r (x ∷ []) (y ∷ []) wanted
-says_words {promotion} {r} {even} {odd} {count} {x} {y} s long-even long-odd is-even is_odd same =
+    Says solver r (x ∷ []) (y ∷ []) wanted
+says_words {solver} {r} {even} {odd} {count} {x} {y} s long-even long-odd is-even is_odd same =
     record {
       passes = s.passes;
       even_set =
-          subst (Holds (vertices (tables_in r)) (won promotion (played r) Even)) (single even x long-even is-even) s.even_set;
-      odd_set = subst (Holds (vertices (tables_in r)) (won promotion (played r) Odd)) (single odd y long-odd is_odd) s.odd_set;
+          subst (Holds (vertices (tables_in r)) (won solver (played r) Even)) (single even x long-even is-even) s.even_set;
+      odd_set = subst (Holds (vertices (tables_in r)) (won solver (played r) Odd)) (single odd y long-odd is_odd) s.odd_set;
       counted = sym same ∙ s.counted;
     }
 

@@ -1,13 +1,19 @@
 // Each solver's door on one game, and what it gave against the oracle's words.
-ghost use Rattle.std.specs.Prelude.{cond, ◌∷◌, [], ◌≡◌, length};
+ghost use Rattle.std.specs.Prelude.{false, ◌∷◌, [], ◌≡◌, length};
 ghost use Rattle.rules.specs.Record.{record_of};
-ghost use Rattle.replay_solvers.specs.Agrees.{Says, SaysSolitaire};
+ghost use Rattle.replay_solvers.specs.Agrees.{Says, SaysSolitaire, made_by};
 
 use oracle::Said;
 
-// What priority promotion gives, or Zielonka: the number, and through the last reference the count.
+#[derive(Clone, Copy, Debug, PartialEq, Eq)]
+pub enum Solver {
+    Zielonka,
+    Promotion,
+}
+
+// What a solver gives: the number, and through the last reference the count.
 fn solve(
-    promotion: bool,
+    solver: Solver,
     owners: &[u8],
     priorities: &[u16],
     offsets: &[u16],
@@ -20,7 +26,7 @@ fn solve(
     count: &mut u64,
 ) -> u64
     ensures { result ≡ 0 →
-        Says promotion
+        Says solver
         (record_of (length owners.now) (length targets.now) owners.now
         priorities.now offsets.now targets.now kept.now)
         even.new odd.new count.new }
@@ -28,16 +34,16 @@ fn solve(
     let n = owners.len() as u64;
     let m = targets.len() as u64;
     let mut place = 0;
-    if promotion {
-        return reckonbough_solvers::promotion::reckonbough_priority_promotion(
+    match solver {
+        Solver::Zielonka => reckonbough_solvers::recursion::reckonbough_zielonka(
             n, m, owners, priorities, offsets, targets, kept, 1000000, even, odd, strategy, work,
             &mut place, count,
-        );
+        ),
+        Solver::Promotion => reckonbough_solvers::promotion::reckonbough_priority_promotion(
+            n, m, owners, priorities, offsets, targets, kept, 1000000, even, odd, strategy, work,
+            &mut place, count,
+        ),
     }
-    reckonbough_solvers::recursion::reckonbough_zielonka(
-        n, m, owners, priorities, offsets, targets, kept, 1000000, even, odd, strategy, work,
-        &mut place, count,
-    )
 }
 
 // The number that the checker gives.
@@ -71,28 +77,31 @@ fn check(
     )
 }
 
-// What the oracle says was needed: rounds, or calls.
-fn needed(promotion: bool, said: Said) -> u64
-    ensures { result ≡ cond promotion said.rounds said.calls }
+// What the oracle says was needed: calls, or rounds.
+fn needed(solver: Solver, said: Said) -> u64
+    ensures { result ≡ made_by solver said.calls said.rounds }
 {
-    if promotion { said.rounds } else { said.calls }
+    match solver {
+        Solver::Zielonka => said.calls,
+        Solver::Promotion => said.rounds,
+    }
 }
 
-// 0 where the solver's sets and count are the rules', its answer gets yes, and the oracle says the same of both.
+// No only where the solver's sets and count are the rules', its answer gets yes, and the oracle says the same of both.
 pub fn solver_differs(
-    promotion: bool,
+    solver: Solver,
     owners: &[u8],
     priorities: &[u16],
     offsets: &[u16],
     targets: &[u16],
     kept: &[u64],
     said: Said,
-) -> u64
-    ensures { result ≡ 0 →
-        Says promotion
+) -> bool
+    ensures { result ≡ false →
+        Says solver
         (record_of (length owners.now) (length targets.now) owners.now
         priorities.now offsets.now targets.now kept.now)
-        (said.even ∷ []) (said.odd ∷ []) (cond promotion said.rounds said.calls) }
+        (said.even ∷ []) (said.odd ∷ []) (made_by solver said.calls said.rounds) }
 {
     let mut even = [0u64; 1];
     let mut odd = [0u64; 1];
@@ -101,21 +110,21 @@ pub fn solver_differs(
     let mut made = 0;
     let n = owners.len();
     if n > 12 {
-        return 1;
+        return true;
     }
     let strategy: &mut [u16] = &mut entries[0..n];
     let number = solve(
-        promotion, owners, priorities, offsets, targets, kept, &mut even, &mut odd, strategy,
+        solver, owners, priorities, offsets, targets, kept, &mut even, &mut odd, strategy,
         &mut work, &mut made,
     );
     let checked = check(
         owners, priorities, offsets, targets, kept, &even, &odd, strategy, &mut work,
     );
-    let wanted = needed(promotion, said);
+    let wanted = needed(solver, said);
     oracle::differs(number, made, checked, even[0], odd[0], wanted, said)
 }
 
-// 0 where two owners are refused for that, or the set is the rules', and the oracle says the same.
+// No only where two owners are refused for that, or the set is the rules', and the oracle says the same.
 pub fn solitaire_differs(
     owners: &[u8],
     priorities: &[u16],
@@ -123,8 +132,8 @@ pub fn solitaire_differs(
     targets: &[u16],
     kept: &[u64],
     said: Said,
-) -> u64
-    ensures { result ≡ 0 →
+) -> bool
+    ensures { result ≡ false →
         SaysSolitaire said.two_owners
         (record_of (length owners.now) (length targets.now) owners.now
         priorities.now offsets.now targets.now kept.now)

@@ -10,6 +10,8 @@ use Rattle.theory.specs.Chosen.{chosen_links}
 use Rattle.theory.specs.Links.{Linked}
 use Rattle.theory.specs.Walks.{Relation}
 use Rattle.predecessors.specs.Table.{SoundEdges}
+use Rattle.search_rows.specs.declared.Rows.{Rows}
+use Rattle.search_links.specs.declared.links.Graph.{Graph as Lent}
 
 pub record Graph : Type 0 where
   pub priorities : List ℕ
@@ -22,12 +24,20 @@ abbrev pub graph : List ℕ → List ℕ → List ℕ → List ℕ → ℕ → G
 graph priorities offsets targets entries top =
     record { priorities = priorities; offsets = offsets; targets = targets; entries = entries; top = top }
 
+-- the graph that the code is lent
+abbrev pub graph_of : Lent → Graph
+graph_of g = graph g.priorities.now g.offsets.now g.targets.now g.entries.now g.p
+
 -- its vertices and its edges
 abbrev pub size : Graph → ℕ
 size G = length G.priorities
 
 abbrev pub edge_count : Graph → ℕ
 edge_count G = length G.targets
+
+-- where the search keeps what it knows
+abbrev pub rows_of : Graph → Rows
+rows_of G = record { n = size G; m = edge_count G }
 
 abbrev pub priority : Graph → ℕ → ℕ
 priority G v = get_or G.priorities v 0

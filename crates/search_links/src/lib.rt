@@ -4,4 +4,4 @@
 
 mod links;
 
-pub use links::{is_fresh, keeps, opens};
+pub use links::Graph;

@@ -9,9 +9,7 @@ pub fn clear(words: &mut [u64], at: usize, s: usize)
     requires { at + s ≤ length words.old }
     ensures { Cleared at s words.old words.new }
 {
-    for i in 0..s {
-        words[at + i] = 0;
-    }
+    words[at..at + s].fill(0);
 }
 
 // A set becomes another, of as many words.
@@ -19,9 +17,7 @@ pub fn copy_from(set: &mut [u64], from: &[u64])
     requires { length set.old ≡ length from.now }
     ensures { set.new ≡ from.now }
 {
-    for i in 0..from.len() {
-        set[i] = from[i];
-    }
+    set.copy_from_slice(from);
 }
 
 // All bits of the first words become 1.
@@ -29,9 +25,7 @@ fn fill_words(set: &mut [u64], full: usize)
     requires { full ≤ length set.old }
     ensures { Filled (64 * full) set.old set.new }
 {
-    for i in 0..full {
-        set[i] = 18446744073709551615;
-    }
+    set[..full].fill(u64::MAX);
 }
 
 // The vertices below n come in: whole words, then what is left of the last one.

@@ -1,6 +1,6 @@
 -- The binary operations part way: the first i words of the part at `into` are combined, digit by digit, and all else is as it was.
 -- One invariant and three laws serve every word operation that works on each digit apart.
-use Rattle.std.specs.Prelude.{List, ◌≡◌, refl, ℕ, ◌+◌, ◌/◌, ◌%◌, ◌≤◌, ◌<◌, length, get_or, set}
+use Rattle.std.specs.Prelude.{List, ◌≡◌, refl, ℕ, ◌+◌, ◌/◌, ◌%◌, ◌^◌, ◌≤◌, ◌<◌, length, get_or, set}
 use Rattle.std.proofs.Math.Logic.{inl, inr}
 use Rattle.std.proofs.Common.{⊎_elim, sym, ◌∙◌, zero-le, not-suc-le-zero, arith, length-set, get_or-set_same, get_or-set_other, get_or-drop}
 use Rattle.std.proofs.Math.Path.{ap, ap₂}
@@ -12,6 +12,10 @@ use Rattle.set_bits.specs.After.{Combined, Parts}
 -- the digits of w are f of those of x and y
 abbrev pub Digitwise : (ℕ → ℕ → ℕ) → ℕ → ℕ → ℕ → Type 0
 Digitwise f w x y = (k : ℕ) → k < 64 → digit w k ≡ f (digit x k) (digit y k)
+
+-- whatever a function of two words answers by `post`, each digit of it follows the law
+abbrev pub Follows : (ℕ → ℕ → ℕ) → (ℕ → ℕ → ℕ → Type 0) → Type 0
+Follows law post = (x y w : ℕ) → x < 2 ^ 64 → y < 2 ^ 64 → post x y w → Digitwise law w x y
 
 pub record Upto (f : ℕ → ℕ → ℕ) (into from s i : ℕ) (before after : List ℕ) : Type 0 where
   pub within : i ≤ s

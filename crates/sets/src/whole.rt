@@ -9,8 +9,8 @@ pub fn is_empty(set: &[u64]) -> bool
     ensures { result ≡ not (some (64 * length set.now) (set_of set.now)) }
 {
     let mut any: u64 = 0;
-    for i in 0..set.len() {
-        any |= set[i];
+    for &word in set {
+        any |= word;
     }
     any == 0
 }
@@ -21,8 +21,8 @@ pub fn size(set: &[u64]) -> usize
     ensures { result ≡ size set.now }
 {
     let mut n: usize = 0;
-    for i in 0..set.len() {
-        n += u64::count_ones(set[i]) as usize;
+    for word in set {
+        n += word.count_ones() as usize;
     }
     n
 }

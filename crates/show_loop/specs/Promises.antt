@@ -1,7 +1,7 @@
 -- What a reader may conclude of `show_loop`, from its contract alone: past the checks it answers exactly where the one owner
 -- wins the vertex by demand 2, and gives 46 exactly where there is no run; and two results that meet the contract differ in the
 -- run alone.
-use Rattle.std.specs.Prelude.{true, false, List, ◌⊎◌, ◌≡◌, ℕ, length}
+use Rattle.std.specs.Prelude.{true, false, List, ◌≡◌, ℕ, length}
 use Rattle.std.proofs.Common.{⊎_elim, sym, ap, ◌∙◌, arith}
 use Rattle.rules.specs.Game.{opponent}
 use Rattle.rules.specs.Loop.{Run, LentRun, loop_checks, check46, LoopShown, LoopLeaves, ShowsLoop}

@@ -1,10 +1,9 @@
 -- From the lists that were written to the rules: a run, or a vertex outside the solitaire set; and what the public function
 -- leaves.
 use Rattle.std.proofs.Math.Bool.{true}
-use Rattle.std.specs.Prelude.{false, ◌⊎◌, ◌≡◌, refl, ℕ, ◌+◌, ◌-◌, ◌*◌, ◌/◌, ◌%◌, ◌≤◌, ◌<◌, length, take, drop, replicate}
+use Rattle.std.specs.Prelude.{false, Option, Some, None, MatchOption, ◌≡◌, refl, ℕ, ◌+◌, ◌-◌, ◌*◌, ◌/◌, ◌%◌, ◌≤◌, ◌<◌, length, take, drop, replicate}
 use mathlib.Core.List.{List, []}
-use Rattle.std.proofs.Common.{inl, inr, sym, ap, subst, ◌∙◌, arith, eqb-true, length-take}
-use Rattle.std.proofs.Math.Logic.{⊎_elim}
+use Rattle.std.proofs.Common.{sym, ap, subst, ◌∙◌, arith, eqb-true, length-take}
 use Rattle.std.proofs.Math.ListN.{get_or}
 use Rattle.rules.specs.Game.{everywhere, parity, player_of}
 use Rattle.rules.specs.Loop.{Run, LentRun, loop_checks, check46, LoopLeaves, ShowsLoop}
@@ -31,6 +30,7 @@ use Rattle.search_rows.specs.Rows.{behind}
 use Rattle.search_links.specs.Graph.{Graph, graph, game_in, Leads, SoundGraph, keeping}
 use Rattle.search_links.specs.Leading.{link, leads}
 use Rattle.subgame.specs.Parity.{predecessor_rows, graph_sound, game_of_lem}
+use Rattle.show_loop.specs.declared.lists.Lengths.{Lengths}
 use Rattle.loop_search.specs.Finding.{Unled}
 use Rattle.solitaire_game.specs.Running.{rows_fit, sole_owner_small}
 use Rattle.show_loop.specs.Checks.{LoopPassed}
@@ -55,11 +55,12 @@ pub record RunWritten (t : Tables) (v : ℕ) (path path' cycle cycle' : List ℕ
   pub path_length_lem : on ≡ length vs
   pub cycle_length : round ≡ length ws
 
-pub record LoopRan (t : Tables) (v : ℕ) (work work' path path' cycle cycle' : List ℕ) (on round : ℕ) : Type 0 where
+pub record LoopRan (t : Tables) (v : ℕ) (work work' path path' cycle cycle' : List ℕ) (found : Option Lengths) : Type 0 where
   pub zeros : work' ≡ replicate (length work) 0
   pub ran :
-      ((solitaire (game_of t) (sole_owner t) v ≡ false) × (path' ≡ path) × (cycle' ≡ cycle) × (on ≡ 0)) ⊎
-      RunWritten t v path path' cycle cycle' on round
+      MatchOption found
+      ((solitaire (game_of t) (sole_owner t) v ≡ false) × (path' ≡ path) × (cycle' ≡ cycle))
+      (λ l. RunWritten t v path path' cycle cycle' l.path l.cycle)
 
 -- the graph of the tables, without entries
 abbrev graph_of : Tables → ℕ → Graph
@@ -189,19 +190,15 @@ module _ (t : Tables) (v : ℕ) (path cycle w₀ : List ℕ) (given : LoopRunnab
         }
 
     pub run_ran :
-        (w₂ work' path' cycle' : List ℕ) (on round : ℕ) →
-        Went t.priorities t.offsets t.targets [] owner v w₁ w₂ path path' cycle cycle' on round →
+        (w₂ work' path' cycle' : List ℕ) (found : Option Lengths) →
+        Went t.priorities t.offsets t.targets [] owner v w₁ w₂ path path' cycle cycle' found →
         work' ≡ replicate (length w₀) 0 →
-        LoopRan t v w₀ work' path path' cycle cycle' on round
-    run_ran w₂ work' path' cycle' on round w zeros =
-        record {
-          zeros = zeros;
-          ran =
-              ⊎_elim
-              (λ (unled, p, c, z). inl (unled_outside t given.accepted owner is v unled, p, c, z))
-              (λ (p, odd, wrote). inr (wrote_run t given.accepted owner is v p odd wrote))
-              w.went;
-        }
+        LoopRan t v w₀ work' path path' cycle cycle' found
+    run_ran w₂ work' path' cycle' None w zeros =
+        let (unled, p, c) = w.went in
+        record { zeros = zeros; ran = (unled_outside t given.accepted owner is v unled, p, c) }
+    run_ran w₂ work' path' cycle' (Some l) w zeros =
+        let (p, odd, wrote) = w.went in record { zeros = zeros; ran = wrote_run t given.accepted owner is v p odd wrote }
 
 -- ---- the public function
 
@@ -267,38 +264,29 @@ shows_run t v path cycle work path' cycle' work' k on round accepted passed w is
     admits q = rw q
 
 -- what `run` gives, told: no path is 46, and a path an answer
-module _ (t : Tables) (v : ℕ) (path cycle work path' cycle' zeros before : List ℕ) (k on round : ℕ)
+module _ (t : Tables) (v : ℕ) (path cycle work path' cycle' zeros before : List ℕ) (k : ℕ)
     (accepted : Accepted t)
-    (passed : loop_checks t v (lent_of path cycle work k) ≡ none)
-    (r : LoopRan t v before zeros path path' cycle cycle' on round) where
-  some_path : RunWritten t v path path' cycle cycle' on round → 0 < on
-  some_path w = let some = path_some w.run.leads in omega (arith, w.path_length_lem)
+    (passed : loop_checks t v (lent_of path cycle work k) ≡ none) where
+  some_path : (on round : ℕ) → RunWritten t v path path' cycle cycle' on round → 0 < on
+  some_path on round w = let some = path_some w.run.leads in omega (arith, w.path_length_lem)
 
   pub told_none :
-      (work' : List ℕ) → work' ≡ cleared t work → on ≡ 0 →
+      LoopRan t v before zeros path path' cycle cycle' None →
+      (work' : List ℕ) → work' ≡ cleared t work →
       ShowsLoop t v (lent_of path cycle work k) (lent_of path' cycle' work' 0) (refusal 46 v)
-  told_none work' is z =
-      ⊎_elim
-      (λ (outside, p, c, zero). rw (p, c) (shows_none t v path cycle work work' k passed outside is))
-      (λ w. absurd (let some = some_path w in omega arith))
-      r.ran
+  told_none r work' is = let (outside, p, c) = r.ran in rw (p, c) (shows_none t v path cycle work work' k passed outside is)
 
-  pub told_run :
-      (work' : List ℕ) → work' ≡ cleared t work → (on ≡ 0 → ⊥) →
-      ShowsLoop t v (lent_of path cycle work k) (lent_of path' cycle' work' on) (answered (on + round))
-  told_run work' is d =
-      ⊎_elim
-      (λ (outside, p, c, zero). absurd (d zero))
-      (λ w. shows_run t v path cycle work path' cycle' work' k on round accepted passed w is)
-      r.ran
+  module _ (l : Lengths) (r : LoopRan t v before zeros path path' cycle cycle' (Some l)) where
+    pub told_run :
+        (work' : List ℕ) → work' ≡ cleared t work →
+        ShowsLoop t v (lent_of path cycle work k) (lent_of path' cycle' work' l.path) (answered (l.path + l.cycle))
+    told_run work' is = shows_run t v path cycle work path' cycle' work' k l.path l.cycle accepted passed r.ran is
 
-  pub told_few : (on ≡ 0 → ⊥) → on + round ≤ 8192
-  unfolding game_of
-  told_few d =
-      ⊎_elim
-      (λ (outside, p, c, zero). absurd (d zero))
-      (λ w. omega (arith, w.run.few, w.path_length_lem, w.cycle_length, (accepted_sound t accepted).few_vertices))
-      r.ran
+    pub told_few : l.path + l.cycle ≤ 8192
+    unfolding game_of
+    told_few =
+        omega
+        (arith, r.ran.run.few, r.ran.path_length_lem, r.ran.cycle_length, (accepted_sound t accepted).few_vertices)
 
 -- past the checks the first W words are what the run asks for
 pub run_ready :

@@ -1,5 +1,5 @@
 -- From the way that the search left to the two lists.
-use Rattle.std.specs.Prelude.{List, ◌∷◌, ◌⊎◌, ◌≡◌, refl, ℕ, suc, ◌+◌, ◌-◌, ◌*◌, ◌%◌, ◌≤◌, ◌<◌, length, get_or, drop}
+use Rattle.std.specs.Prelude.{List, ◌∷◌, ◌⊎◌, Option, Some, None, MatchOption, ◌≡◌, refl, ℕ, suc, ◌+◌, ◌-◌, ◌*◌, ◌%◌, ◌≤◌, ◌<◌, length, get_or, drop}
 use Rattle.std.proofs.Common.{inl, inr, ap, ◌∙◌, arith}
 use Rattle.std.proofs.Math.ListN.{get_or-append}
 use Rattle.rules.specs.Loop.{Path, alone, next}
@@ -12,6 +12,7 @@ use Rattle.search_links.specs.Graph.{Graph, graph, game_in, Leads}
 use Rattle.breadth_first.specs.Following.{Followable, Followed}
 use Rattle.breadth_first.specs.Spreading.{way_words, way_once}
 use Rattle.breadth_first.specs.SearchBegins.{Roundable, Rounded, Round}
+use Rattle.show_loop.specs.declared.lists.Lengths.{Lengths}
 use Rattle.loop_search.specs.Finding.{SearchReady, Led, Unled, Seekable, WayMet, Sought}
 
 pub record LoopWritable (priorities offsets targets entries : List ℕ) (p : ℕ) (work : List ℕ) (v : ℕ)
@@ -50,12 +51,12 @@ pub record Goable (priorities offsets targets entries : List ℕ) (parity : ℕ)
 
 -- no priority of the parity has a way, and nothing is written; or one has, and both lists are
 pub record Went (priorities offsets targets entries : List ℕ) (parity v : ℕ) (work work' path path' cycle cycle' : List ℕ)
-    (on round : ℕ) : Type 0 where
+    (found : Option Lengths) : Type 0 where
   pub long : length work' ≡ length work
   pub went :
-      (((j : ℕ) → j < 128 → Unled priorities offsets targets entries (2 * j + parity) v) × (path' ≡ path) × (cycle' ≡ cycle) ×
-      (on ≡ 0)) ⊎
-      ((p : ℕ) × (p % 2 ≡ parity) × Wrote priorities offsets targets entries p v path path' cycle cycle' on round)
+      MatchOption found
+      (((j : ℕ) → j < 128 → Unled priorities offsets targets entries (2 * j + parity) v) × (path' ≡ path) × (cycle' ≡ cycle))
+      (λ l. (p : ℕ) × (p % 2 ≡ parity) × Wrote priorities offsets targets entries p v path path' cycle cycle' l.path l.cycle)
 
 pub path_some : {R : Relation} {v u : ℕ} {vs : List ℕ} → Path R v u vs → 0 < length vs
 path_some alone = omega arith
@@ -177,16 +178,16 @@ module _ (priorities offsets targets entries : List ℕ) (p : ℕ) (w₀ : List 
 module _ (priorities offsets targets entries : List ℕ) (parity : ℕ) (w₀ : List ℕ) (v : ℕ) (path cycle : List ℕ)
     (given : Goable priorities offsets targets entries parity w₀ v path cycle)
     (w₁ : List ℕ) (p : ℕ) (sought : Sought priorities offsets targets entries parity v w₀ w₁ p) where
-  pub went_none : 255 < p → Went priorities offsets targets entries parity v w₀ w₁ path path cycle cycle 0 0
-  went_none high = record { long = sought.long; went = go sought.met }
+  pub went_none : 255 < p → Went priorities offsets targets entries parity v w₀ w₁ path path cycle cycle None
+  went_none high = record { long = sought.long; went = (go sought.met, refl, refl) }
     where
       go :
           ((p ≡ 256) × ((j : ℕ) → j < 128 → Unled priorities offsets targets entries (2 * j + parity) v)) ⊎
           WayMet priorities offsets targets entries parity v w₁ p →
-          (((j : ℕ) → j < 128 → Unled priorities offsets targets entries (2 * j + parity) v) × (path ≡ path) ×
-          (cycle ≡ cycle) × (◌≡◌ {A = ℕ} 0 0)) ⊎
-          ((q : ℕ) × (q % 2 ≡ parity) × Wrote priorities offsets targets entries q v path path cycle cycle 0 0)
-      go (inl (is, none)) = inl (none, refl, refl, refl)
+          (j : ℕ) →
+          j < 128 →
+          Unled priorities offsets targets entries (2 * j + parity) v
+      go (inl (is, none)) = none
       go (inr met) = absurd (omega (arith, met.low))
 
   pub way_met : p ≤ 255 → WayMet priorities offsets targets entries parity v w₁ p
@@ -206,8 +207,8 @@ module _ (priorities offsets targets entries : List ℕ) (parity : ℕ) (w₀ : 
 
   pub went_there :
       p ≤ 255 →
-      (w₂ path' cycle' : List ℕ) (on round : ℕ) →
+      (w₂ path' cycle' : List ℕ) (l : Lengths) →
       length w₂ ≡ length w₁ →
-      Wrote priorities offsets targets entries p v path path' cycle cycle' on round →
-      Went priorities offsets targets entries parity v w₀ w₂ path path' cycle cycle' on round
-  went_there low w₂ path' cycle' on round long w = record { long = long ∙ sought.long; went = inr (p, (way_met low).side, w) }
+      Wrote priorities offsets targets entries p v path path' cycle cycle' l.path l.cycle →
+      Went priorities offsets targets entries parity v w₀ w₂ path path' cycle cycle' (Some l)
+  went_there low w₂ path' cycle' l long w = record { long = long ∙ sought.long; went = (p, (way_met low).side, w) }

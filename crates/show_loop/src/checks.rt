@@ -1,26 +1,23 @@
 // The refusals 10, 11, 44 and 45. None writes anything.
 ghost use Rattle.std.specs.Prelude.{◌≡◌, ◌≤◌, length};
-ghost use Rattle.rules.specs.Outcome.{outcome, answered};
-ghost use Rattle.parity_game.specs.Said.{said};
+ghost use Rattle.parity_game.specs.Said.{verdict};
 ghost use Rattle.show_loop.specs.Checks.{asked_checks, lent_by};
 
-use parity_game::{Answer, NO_SUCH_VERTEX, SHORT_LIST};
+use parity_game::{Checked, Refusal};
 
 // 44 and 45.
-fn check_asked(n: usize, vertex: u64, path: usize, cycle: usize) -> Answer
+#[tactic(auto, unfolding(rules::specs::Loop::check44, rules::specs::Loop::check45))]
+fn check_asked(n: usize, vertex: u64, path: usize, cycle: usize) -> Checked
     requires { n ≤ 4096 }
-    ensures { said result ≡ outcome (asked_checks n vertex path cycle) (answered 0) }
+    ensures { verdict result ≡ asked_checks n vertex path cycle }
 {
     if n as u64 <= vertex {
-        return Answer::AtPlace(NO_SUCH_VERTEX, vertex as usize);
+        return Err(Refusal::NoSuchVertex(vertex));
     }
-    if path < 2 * n {
-        return Answer::Refused(SHORT_LIST);
+    if path < 2 * n || cycle < 2 * n {
+        return Err(Refusal::ShortList);
     }
-    if cycle < 2 * n {
-        return Answer::Refused(SHORT_LIST);
-    }
-    Answer::Answered(0)
+    Ok(())
 }
 
 // All of them, by the lengths of what is lent, for accepted tables with m edges.
@@ -31,18 +28,12 @@ pub fn check_lent(
     path: usize,
     cycle: usize,
     work: usize,
-) -> Answer
+) -> Checked
     requires { (length owners.now ≤ 4096) × (m ≤ 16384) }
-    ensures { said result ≡ outcome (lent_by owners.now m vertex path cycle work) (answered 0) }
+    ensures { verdict result ≡ lent_by owners.now m vertex path cycle work }
 {
     let n = owners.len();
-    let r = parity_game::check_work(n, m, work);
-    if r.number() != 0 {
-        return r;
-    }
-    let r = solitaire_game::check_owners_equal(owners);
-    if r.number() != 0 {
-        return r;
-    }
+    parity_game::check_work(n, m, work)?;
+    solitaire_game::check_owners_equal(owners)?;
     check_asked(n, vertex, path, cycle)
 }

@@ -9,7 +9,7 @@ ghost use Rattle.show_loop.specs.Running.{LoopRunnable, LoopRan, lent_of};
 
 use crate::checks::check_lent;
 use crate::lists::{Lengths, write_run};
-use parity_game::{Answer, NO_LOOP, VertexIndex};
+use parity_game::{Answer, Refusal, VertexIndex};
 use solitaire_game::sole_owner;
 
 // The work itself, in W words, which are left 0.
@@ -23,21 +23,21 @@ fn run(
     path: &mut [u16],
     cycle: &mut [u16],
     work: &mut [u64],
-) -> Lengths
+) -> Option<Lengths>
     requires { LoopRunnable (tables_of owners.now priorities.now offsets.now targets.now) v path.old
         cycle.old work.old × (kept.now ≡ fresh_count priorities.now) }
     ensures { LoopRan (tables_of owners.now priorities.now offsets.now
         targets.now) v work.old work.new path.old path.new
-        cycle.old cycle.new result.path result.cycle }
+        cycle.old cycle.new result }
 {
     let owner = sole_owner(owners);
     predecessors::build(offsets, targets, owners.len(), work);
-    let r = write_run(
+    let found = write_run(
         priorities,
         offsets,
         targets,
         kept,
-        &targets[0..0],
+        &[],
         owner as u16,
         work,
         v,
@@ -45,7 +45,7 @@ fn run(
         cycle,
     );
     sets::clear(work, 0, work.len());
-    r
+    found
 }
 
 pub fn show_loop(
@@ -71,13 +71,10 @@ pub fn show_loop(
 {
     *path_length = 0;
     let m = targets.len();
-    let r = check_lent(owners, m, vertex, path.len(), cycle.len(), work.len());
-    if r.number() != 0 {
-        return r;
-    }
+    check_lent(owners, m, vertex, path.len(), cycle.len(), work.len())?;
     let w = parity_game::work_words(owners.len(), m);
     let v = vertex as usize;
-    let found = run(
+    let Some(found) = run(
         owners,
         priorities,
         offsets,
@@ -87,11 +84,10 @@ pub fn show_loop(
         path,
         cycle,
         &mut work[0..w],
-    );
-    if found.path == 0 {
-        return Answer::AtVertex(NO_LOOP, VertexIndex(v));
-    }
+    ) else {
+        return Err(Refusal::NoLoop(VertexIndex(v)));
+    };
     let both = found.path as u64 + found.cycle as u64;
     *path_length = found.path as u64;
-    Answer::Answered(both)
+    Ok(both)
 }

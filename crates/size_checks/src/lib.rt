@@ -3,58 +3,50 @@
 
 ghost use Rattle.std.specs.Prelude.{◌≡◌, ◌≤◌};
 ghost use Rattle.rules.specs.Tables.{check1, check2, check3};
-ghost use Rattle.rules.specs.Outcome.{outcome, answered, ◌then◌};
-ghost use Rattle.parity_game.specs.Said.{said};
+ghost use Rattle.rules.specs.Outcome.{◌then◌};
+ghost use Rattle.parity_game.specs.Said.{verdict};
 
-use parity_game::{
-    Answer, MOST_EDGES, MOST_VERTICES, TABLE_LENGTHS, TOO_MANY_EDGES, TOO_MANY_VERTICES,
-};
+use parity_game::{Checked, MOST_EDGES, MOST_VERTICES, Refusal};
 
 // 1: no more than 4,096 vertices.
-fn check_vertices(n: usize) -> Answer
-    ensures { said result ≡ outcome (check1 n) (answered 0) }
+fn check_vertices(n: usize) -> Checked
+    ensures { verdict result ≡ check1 n }
 {
     if MOST_VERTICES < n {
-        return Answer::Refused(TOO_MANY_VERTICES);
+        return Err(Refusal::TooManyVertices);
     }
-    Answer::Answered(0)
+    Ok(())
 }
 
 // 2: as many priorities as vertices, and one offset more.
-fn check_counts(n: usize, priorities: usize, offsets: usize) -> Answer
+fn check_counts(n: usize, priorities: usize, offsets: usize) -> Checked
     requires { n ≤ 4096 }
-    ensures { said result ≡ outcome (check2 n priorities offsets) (answered 0) }
+    ensures { verdict result ≡ check2 n priorities offsets }
 {
     if priorities != n {
-        return Answer::Refused(TABLE_LENGTHS);
+        return Err(Refusal::TableLengths);
     }
     if offsets != n + 1 {
-        return Answer::Refused(TABLE_LENGTHS);
+        return Err(Refusal::TableLengths);
     }
-    Answer::Answered(0)
+    Ok(())
 }
 
 // 3: no more than 16,384 edges.
-fn check_edges(m: usize) -> Answer
-    ensures { said result ≡ outcome (check3 m) (answered 0) }
+fn check_edges(m: usize) -> Checked
+    ensures { verdict result ≡ check3 m }
 {
     if MOST_EDGES < m {
-        return Answer::Refused(TOO_MANY_EDGES);
+        return Err(Refusal::TooManyEdges);
     }
-    Answer::Answered(0)
+    Ok(())
 }
 
 // 1 to 3: the sizes.
-pub fn check_lengths(n: usize, priorities: usize, offsets: usize, m: usize) -> Answer
-    ensures { said result ≡ outcome (check1 n then check2 n priorities offsets then check3 m) (answered 0) }
+pub fn check_lengths(n: usize, priorities: usize, offsets: usize, m: usize) -> Checked
+    ensures { verdict result ≡ check1 n then check2 n priorities offsets then check3 m }
 {
-    let r = check_vertices(n);
-    if r.number() != 0 {
-        return r;
-    }
-    let r = check_counts(n, priorities, offsets);
-    if r.number() != 0 {
-        return r;
-    }
+    check_vertices(n)?;
+    check_counts(n, priorities, offsets)?;
     check_edges(m)
 }

@@ -63,10 +63,7 @@ pub fn solve_solitaire_game(
         (said result) }
 {
     let m = targets.len();
-    let r = check_lent(owners, m, set.len(), work.len());
-    if r.number() != 0 {
-        return r;
-    }
+    check_lent(owners, m, set.len(), work.len())?;
     let w = parity_game::work_words(owners.len(), m);
     run(
         owners,
@@ -77,5 +74,5 @@ pub fn solve_solitaire_game(
         set,
         &mut work[0..w],
     );
-    Answer::Answered(0)
+    Ok(0)
 }

@@ -34,7 +34,7 @@ pub fn mark_good(
         offsets,
         targets,
         kept,
-        &targets[0..0],
+        &[],
         owner as u16,
         work,
         row,

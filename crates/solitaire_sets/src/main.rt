@@ -29,7 +29,7 @@ fn report(
     let mut count = 0;
     let n = owners.len();
     let m = targets.len();
-    record::fresh_count(n, m, owners, priorities, offsets, targets, &mut kept);
+    let _ = record::fresh_count(n, m, owners, priorities, offsets, targets, &mut kept);
     reckonbough_solitaire::solitaire::reckonbough_solitaire(
         n as u64, m as u64, owners, priorities, offsets, targets, &kept, &mut set, &mut work,
         &mut place, &mut count,

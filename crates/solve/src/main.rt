@@ -2,7 +2,6 @@
 // engine, and prints one line. What the line says is proved of the functions that `main` calls.
 #![tactic(auto)]
 
-use arguments::Asked;
 use std::env::FillError;
 use std::io;
 use std::io::Read;
@@ -39,7 +38,7 @@ fn main(rt: HostRuntime) -> io::Result<()> {
     let length = rt.arg(1, &mut first).unwrap_or(0);
     let given = 1 + is_given(&rt, 1) as usize + is_given(&rt, 2) as usize;
     match arguments::ask(given, &first[0..length]) {
-        Asked::Budget(budget) => print_text(&rt, budget),
-        Asked::Wrong => print_refused(&rt),
+        Some(budget) => print_text(&rt, budget),
+        None => print_refused(&rt),
     }
 }

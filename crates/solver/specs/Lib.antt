@@ -2,6 +2,7 @@
 -- what follows from a contract.
 pub use Rattle.solver_start.specs.Preparing
 -- contracts: what the functions ask for and leave
+pub mod Unsolved
 pub mod Outputs
 -- laws: what other crates cite
 pub mod Running

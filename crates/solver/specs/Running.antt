@@ -1,6 +1,6 @@
 -- A run of a solver under a budget, which needs so many calls or rounds for its sets and entries: what it asks for and leaves,
 -- and how it makes an answer.
-use Rattle.std.specs.Prelude.{Bool, true, false, List, ◌≡◌, refl, ℕ, ◌-◌, ◌≤◌, ◌<◌, ltb, length, take, drop}
+use Rattle.std.specs.Prelude.{Bool, true, false, List, ◌≡◌, refl, ℕ, Option, Some, None, ◌-◌, ◌≤◌, ◌<◌, ltb, length, take, drop}
 use Rattle.std.proofs.Common.{ap, ◌∙◌, arith, lt-ltb, le-ltb, length-take}
 use Rattle.rules.specs.Counting.{Set, listed}
 use Rattle.rules.specs.Game.{Player, Even, Odd}
@@ -8,8 +8,6 @@ use Rattle.rules.specs.Outcome.{Outcome, Verdict, none, refused, outcome, answer
 use Rattle.rules.specs.Solver.{Lent, solver_checks, Leaves, Solves, cleared}
 use Rattle.rules.specs.Tables.{Tables, vertices, edges_in, words, work_words, Accepted}
 use Rattle.rules.specs.Words.{Holds}
-use Rattle.solver.specs.declared.ran.Ran.{Ran}
-use Rattle.solver.specs.declared.ran.Ran.TheVariants.{Needed, OverBudget}
 use Rattle.lent_checks.specs.Checks.{Passed}
 
 -- what `run` asks for: accepted tables, outputs of the right sizes, and W words
@@ -52,12 +50,12 @@ pub record Halted (budget needed : ℕ) (before after : Outputs) : Type 0 where
   pub same : after ≡ before
 
 -- by cases on what the run gave
-abbrev pub Runs : ℕ → Tables → ℕ → (Player → Set) → (ℕ → ℕ) → Outputs → Outputs → Ran → Type 0
-Runs budget t needed won entries before after (Needed made) = AnsweredWithin budget t needed won entries made after
-Runs budget t needed won entries before after OverBudget = Halted budget needed before after
+abbrev pub Runs : ℕ → Tables → ℕ → (Player → Set) → (ℕ → ℕ) → Outputs → Outputs → Option ℕ → Type 0
+Runs budget t needed won entries before after (Some made) = AnsweredWithin budget t needed won entries made after
+Runs budget t needed won entries before after None = Halted budget needed before after
 
 -- a refusal is given as it is, and nothing is written
-leaves_refused :
+pub leaves_refused :
     (v : Verdict) (over : Bool) (t : Tables) (won : Player → Set) (entries : ℕ → ℕ) (l : Lent) →
     (v ≡ none → ⊥) →
     Leaves v over t won entries l l
@@ -122,19 +120,19 @@ solves_stopped budget t needed won entries before after passed h work =
     }
 
 -- what a solver gives after its run
-abbrev pub ran_outcome : ℕ → Ran → Outcome
-ran_outcome budget (Needed made) = answered made
-ran_outcome budget OverBudget = record { number = 13; place = 0; count = budget }
+abbrev pub ran_outcome : ℕ → Option ℕ → Outcome
+ran_outcome budget (Some made) = answered made
+ran_outcome budget None = record { number = 13; place = 0; count = budget }
 
 -- **past the checks a solver gives and leaves what its run makes of it**
 pub solves_ran :
-    (budget : ℕ) (t : Tables) (needed : ℕ) (won : Player → Set) (entries : ℕ → ℕ) (before after : Lent) (r : Ran) →
+    (budget : ℕ) (t : Tables) (needed : ℕ) (won : Player → Set) (entries : ℕ → ℕ) (before after : Lent) (r : Option ℕ) →
     solver_checks t before ≡ none →
     Runs budget t needed won entries (outputs_of before) (outputs_of after) r →
     after.work ≡ cleared t before.work →
     Solves budget t needed won entries before after (ran_outcome budget r)
-solves_ran budget t needed won entries before after (Needed made) = solves_answered budget t needed won entries before after made
-solves_ran budget t needed won entries before after OverBudget = solves_stopped budget t needed won entries before after
+solves_ran budget t needed won entries before after (Some made) = solves_answered budget t needed won entries before after made
+solves_ran budget t needed won entries before after None = solves_stopped budget t needed won entries before after
 
 -- past the checks the first W words are what the run asks for
 pub run_ready :

@@ -2,11 +2,24 @@
 // put into a line.
 #![tactic(auto)]
 
-ghost use Rattle.std.specs.Prelude.{◌≤◌, length, take};
+ghost use Rattle.std.specs.Prelude.{◌≡◌, ◌≤◌, length, take};
 ghost use Rattle.rules.specs.Printing.{PrintsText};
+ghost use Rattle.parity_game.specs.Said.{said};
+
+use parity_game::Answer;
 
 // A1's limit of a text's bytes, 16 KiB.
 const MOST_BYTES: u64 = 16384;
+
+// The number of an answer, 0 where it is a count, and its place.
+fn told(answer: Answer) -> (u64, u64)
+    ensures { (result.0 ≡ (said answer).number) × (result.1 ≡ (said answer).place) }
+{
+    match answer {
+        Ok(_) => (0, 0),
+        Err(refusal) => (refusal.number(), refusal.place()),
+    }
+}
 
 // In rooms for A1's limits: 16,384 bytes, 128 vertices and 512 edges.
 pub fn solve_text(text: &[u8], budget: u64, out: &mut [u8]) -> usize
@@ -31,8 +44,9 @@ pub fn solve_text(text: &[u8], budget: u64, out: &mut [u8]) -> usize
         &mut vertices,
         &mut edges,
     );
-    if read.number() != 0 {
-        return printing::refused_line(read.number(), read.place(), out);
+    let (number, place) = told(read);
+    if number != 0 {
+        return printing::refused_line(number, place, out);
     }
     let n = vertices as usize;
     let m = edges as usize;

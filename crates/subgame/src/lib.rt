@@ -1,16 +1,16 @@
 // The subgame view, after the Rust's Subgame: a game's target table with the highest priority that is let in. It is
-// thin: it carries the two through the search for parts, which works on plain tables. Solitaire and the checker go by
-// it.
+// thin: it carries the two through the search for parts, which works on a Graph. Solitaire and the checker go by it.
 #![tactic(auto)]
 
 mod parity;
 
 ghost use Rattle.std.specs.Prelude.{◌≡◌, ◌<◌};
-ghost use Rattle.search_links.specs.Graph.{graph};
+ghost use Rattle.search_links.specs.Graph.{graph, graph_of};
 ghost use Rattle.parts.specs.Whole.{PartsMarkable, PartsMarked};
 
 pub use parity::{mark_parity, mark_used};
 use parity_game::Priority;
+use search_links::Graph;
 
 // The game restricted to the vertices of priority at most top.
 #[derive(Clone, Copy)]
@@ -41,33 +41,22 @@ impl<'a> Subgame<'a> {
             entries.now self.entry.top.0)
             base work.old work.new }
     {
-        parts::mark_within(
+        let graph = Graph {
             priorities,
             offsets,
-            self.targets,
+            targets: self.targets,
             entries,
-            self.top,
-            work,
-            base,
-        )
+            p: self.top.0 as u16,
+        };
+        parts::mark_within(&graph, work, base)
     }
 }
 
-// The same from plain tables, by a view that is made of them.
-pub fn mark_parts(
-    priorities: &[u16],
-    offsets: &[u16],
-    targets: &[u16],
-    entries: &[u16],
-    top: Priority,
-    work: &mut [u64],
-    base: usize,
-)
-    requires { PartsMarkable (graph priorities.now offsets.now targets.now entries.now top.0) work.old
-        base × (top.0 < 256) }
-    ensures { PartsMarked (graph priorities.now offsets.now targets.now
-        entries.now top.0)
-        base work.old work.new }
+// The same for a graph, by a view that is made of it.
+pub fn mark_parts(graph: &Graph, work: &mut [u64], base: usize)
+    requires { PartsMarkable (graph_of graph.now) work.old base × (graph.now.p < 256) }
+    ensures { PartsMarked (graph_of graph.now) base work.old work.new }
 {
-    Subgame::new(targets, top).mark_parts(priorities, offsets, entries, work, base)
+    let view = Subgame::new(graph.targets, Priority(graph.p as usize));
+    view.mark_parts(graph.priorities, graph.offsets, graph.entries, work, base)
 }

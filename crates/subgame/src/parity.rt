@@ -1,39 +1,20 @@
 // All priorities of one parity, one subgame after another.
 ghost use Rattle.std.specs.Prelude.{◌≡◌, ◌<◌};
 ghost use Rattle.rules.specs.Record.{fresh_count};
-ghost use Rattle.search_links.specs.Graph.{graph};
+ghost use Rattle.search_links.specs.Graph.{graph_of};
 ghost use Rattle.parts.specs.Whole.{PartsMarkable, PartsMarked};
 ghost use Rattle.subgame.specs.Parity.{Sweepable, Swept};
 
-use parity_game::Priority;
+use search_links::Graph;
 
 // A priority that no vertex has, by the kept numbers, has no part, and no search.
-pub fn mark_used(
-    priorities: &[u16],
-    offsets: &[u16],
-    targets: &[u16],
-    kept: &[u64],
-    entries: &[u16],
-    p: u16,
-    work: &mut [u64],
-    base: usize,
-)
-    requires { PartsMarkable (graph priorities.now offsets.now targets.now entries.now p) work.old base ×
-        (kept.now ≡ fresh_count priorities.now) × (p < 256) }
-    ensures { PartsMarked (graph priorities.now offsets.now targets.now
-        entries.now p)
-        base work.old work.new }
+pub fn mark_used(graph: &Graph, kept: &[u64], work: &mut [u64], base: usize)
+    requires { PartsMarkable (graph_of graph.now) work.old base ×
+        (kept.now ≡ fresh_count graph.now.priorities.now) × (graph.now.p < 256) }
+    ensures { PartsMarked (graph_of graph.now) base work.old work.new }
 {
-    if kept[p as usize] != 0 {
-        crate::mark_parts(
-            priorities,
-            offsets,
-            targets,
-            entries,
-            Priority(p as usize),
-            work,
-            base,
-        );
+    if kept[graph.p as usize] != 0 {
+        crate::mark_parts(graph, work, base);
     }
 }
 
@@ -55,15 +36,13 @@ pub fn mark_parity(
         work.old work.new }
 {
     for k in 0..128u16 {
-        mark_used(
+        let graph = Graph {
             priorities,
             offsets,
             targets,
-            kept,
             entries,
-            2 * k + parity,
-            work,
-            base,
-        );
+            p: 2 * k + parity,
+        };
+        mark_used(&graph, kept, work, base);
     }
 }

@@ -6,32 +6,21 @@
 mod scan;
 
 ghost use Rattle.std.specs.Prelude.{◌≡◌};
-ghost use Rattle.rules.specs.Outcome.{outcome, answered};
 ghost use Rattle.rules.specs.Tables.{table_checks, tables_of};
-ghost use Rattle.parity_game.specs.Said.{said};
+ghost use Rattle.parity_game.specs.Said.{verdict};
 
-use parity_game::Answer;
+use parity_game::Checked;
 use scan::are_well;
 
 // 1 to 8, for any four slices whatever they hold.
-pub fn check_tables(owners: &[u8], priorities: &[u16], offsets: &[u16], targets: &[u16]) -> Answer
-    ensures { said result
-        ≡ outcome
-        (table_checks
-        (tables_of owners.now priorities.now offsets.now targets.now))
-        (answered 0) }
+#[tactic(auto, using(parity_game::specs::Laws::tables_grouped))]
+pub fn check_tables(owners: &[u8], priorities: &[u16], offsets: &[u16], targets: &[u16]) -> Checked
+    ensures { verdict result ≡ table_checks
+        (tables_of owners.now priorities.now offsets.now targets.now) }
 {
-    let r = checks_in_order::check_lengths(
-        owners.len(),
-        priorities.len(),
-        offsets.len(),
-        targets.len(),
-    );
-    if r.number() != 0 {
-        return r;
-    }
+    checks_in_order::check_lengths(owners.len(), priorities.len(), offsets.len(), targets.len())?;
     if are_well(owners, priorities, offsets, targets) {
-        return Answer::Answered(0);
+        return Ok(());
     }
     checks_in_order::first_refusal(owners, priorities, offsets, targets)
 }

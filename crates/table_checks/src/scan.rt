@@ -9,42 +9,26 @@ use parity_game::HIGHEST_PRIORITY;
 fn highest_byte(bytes: &[u8]) -> u8
     ensures { NoneAbove (length bytes.now) bytes.now result }
 {
-    let mut highest: u8 = 0;
-    for i in 0..bytes.len() {
-        let byte = bytes[i];
-        if highest < byte {
-            highest = byte;
-        }
-    }
-    highest
+    bytes.iter().copied().max().unwrap_or(0)
 }
 
 // No number is above what this gives.
 fn highest(numbers: &[u16]) -> u16
     ensures { NoneAbove (length numbers.now) numbers.now result }
 {
-    let mut highest: u16 = 0;
-    for i in 0..numbers.len() {
-        let number = numbers[i];
-        if highest < number {
-            highest = number;
-        }
-    }
-    highest
+    numbers.iter().copied().max().unwrap_or(0)
 }
 
-// 0 says that each offset is below the next, so that none falls and every vertex has an edge.
-fn stays(offsets: &[u16], n: usize) -> u16
+// Whether each offset is below the next, so that none falls and every vertex has an edge.
+fn rise(offsets: &[u16], n: usize) -> bool
     requires { length offsets.now ≡ n + 1 }
-    ensures { result ≡ 0 → Rises n offsets.now }
+    ensures { result ≡ true → Rises n offsets.now }
 {
-    let mut some: u16 = 0;
+    let mut rise = true;
     for v in 0..n {
-        if offsets[v + 1] <= offsets[v] {
-            some = 1;
-        }
+        rise &= offsets[v] < offsets[v + 1];
     }
-    some
+    rise
 }
 
 // True says that 4 to 8 refuse nothing.
@@ -55,23 +39,10 @@ pub fn are_well(owners: &[u8], priorities: &[u16], offsets: &[u16], targets: &[u
         (tables_of owners.now priorities.now offsets.now targets.now) }
 {
     let n = owners.len();
-    if 1 < highest_byte(owners) {
-        return false;
-    }
-    if HIGHEST_PRIORITY < highest(priorities) {
-        return false;
-    }
-    if offsets[0] != 0 {
-        return false;
-    }
-    if offsets[n] as usize != targets.len() {
-        return false;
-    }
-    if stays(offsets, n) != 0 {
-        return false;
-    }
-    if n <= highest(targets) as usize {
-        return false;
-    }
-    true
+    highest_byte(owners) <= 1
+        && highest(priorities) <= HIGHEST_PRIORITY
+        && offsets[0] == 0
+        && offsets[n] as usize == targets.len()
+        && rise(offsets, n)
+        && usize::from(highest(targets)) < n
 }

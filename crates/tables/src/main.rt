@@ -12,14 +12,16 @@ fn report(
     offsets: &[u16],
     targets: &[u16],
 ) -> io::Result<()> {
-    let r = table_checks::check_tables(owners, priorities, offsets, targets);
-    println!(rt; "{name} {} {}", r.number(), r.place())
+    match table_checks::check_tables(owners, priorities, offsets, targets) {
+        Ok(()) => println!(rt; "{name} 0 0"),
+        Err(e) => println!(rt; "{name} {} {}", e.number(), e.place()),
+    }
 }
 
 // 0, 1, 2, ..: the offsets and the targets of a game of self loops.
 fn number(a: &mut [u16]) {
-    for i in 0..a.len() {
-        a[i] = (i % 65536) as u16;
+    for (i, entry) in a.iter_mut().enumerate() {
+        *entry = (i % 65536) as u16;
     }
 }
 

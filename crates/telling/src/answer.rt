@@ -6,10 +6,14 @@ ghost use Rattle.telling.specs.Doors.{told};
 use parity_game::Answer;
 
 // Writes the place and the count of an answer and gives its number.
-pub fn tell(r: Answer, place: &mut u64, count: &mut u64) -> u64
-    ensures { said r ≡ told result place.new count.new }
+pub fn tell(answer: Answer, place: &mut u64, count: &mut u64) -> u64
+    ensures { said answer ≡ told result place.new count.new }
 {
-    *place = r.place();
-    *count = r.count();
-    r.number()
+    let (number, at, k) = match answer {
+        Ok(k) => (0, 0, k),
+        Err(refused) => (refused.number(), refused.place(), 0),
+    };
+    *place = at;
+    *count = k;
+    number
 }

@@ -4,31 +4,29 @@
 
 ghost use Rattle.std.specs.Prelude.{◌≡◌, length};
 ghost use Rattle.rules.specs.Tables.{check4, check5};
-ghost use Rattle.rules.specs.Outcome.{outcome, answered};
-ghost use Rattle.parity_game.specs.Said.{said};
+ghost use Rattle.parity_game.specs.Said.{verdict};
 
-use parity_game::{Answer, BAD_OWNER, BAD_PRIORITY, HIGHEST_PRIORITY, VertexIndex};
+use parity_game::{Checked, HIGHEST_PRIORITY, Refusal, VertexIndex};
 
 // 4: every owner is 0 or 1.
-pub fn check_owners(owners: &[u8]) -> Answer
-    ensures { said result ≡ outcome (check4 (length owners.now) owners.now) (answered 0) }
+pub fn check_owners(owners: &[u8]) -> Checked
+    ensures { verdict result ≡ check4 (length owners.now) owners.now }
 {
-    for v in 0..owners.len() {
-        if 1 < owners[v] {
-            return Answer::AtVertex(BAD_OWNER, VertexIndex(v));
-        }
+    match owners.iter().position(|owner| 1 < *owner) {
+        Some(v) => Err(Refusal::BadOwner(VertexIndex(v))),
+        None => Ok(()),
     }
-    Answer::Answered(0)
 }
 
 // 5: no priority is above 255.
-pub fn check_priorities(priorities: &[u16]) -> Answer
-    ensures { said result ≡ outcome (check5 (length priorities.now) priorities.now) (answered 0) }
+pub fn check_priorities(priorities: &[u16]) -> Checked
+    ensures { verdict result ≡ check5 (length priorities.now) priorities.now }
 {
-    for v in 0..priorities.len() {
-        if HIGHEST_PRIORITY < priorities[v] {
-            return Answer::AtVertex(BAD_PRIORITY, VertexIndex(v));
-        }
+    match priorities
+        .iter()
+        .position(|priority| HIGHEST_PRIORITY < *priority)
+    {
+        Some(v) => Err(Refusal::BadPriority(VertexIndex(v))),
+        None => Ok(()),
     }
-    Answer::Answered(0)
 }

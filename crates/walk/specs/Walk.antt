@@ -1,9 +1,8 @@
 -- The members of a set in order, and what is left of them during a walk by words.
-use Rattle.std.specs.Prelude.{cond, List, [], ◌∷◌, ◌++◌, ◌≡◌, ℕ, zero, suc, ◌+◌, ◌*◌, ◌≤◌, eqb, take, drop}
+use Rattle.std.specs.Prelude.{cond, List, [], ◌∷◌, ◌++◌, ◌≡◌, ℕ, zero, suc, ◌+◌, ◌*◌, ◌≤◌, eqb, take, drop, Option, Some, None}
 use Rattle.rules.specs.Words.{digit}
+use Rattle.parity_game.specs.declared.player.VertexIndex.{VertexIndex}
 use Rattle.walk.specs.declared.members.Members.{Members}
-use Rattle.walk.specs.declared.members.Next.{Next}
-use Rattle.walk.specs.declared.members.Next.TheVariants.{Member, Done}
 
 -- the words that a walk goes through: s of the work area, from a base on
 abbrev pub words_from : ℕ → ℕ → List ℕ → List ℕ
@@ -32,7 +31,7 @@ left xs c = of_word (64 * c.at) c.word 0 64 ++ of_words (suc c.at) (drop (suc c.
 abbrev pub Begins : List ℕ → Members → Type 0
 Begins xs c = (left xs c ≡ members xs) × (c.at ≡ 0)
 
--- a step of the walk: the next member and what is left after it, or nothing was left
-abbrev pub Walks : List ℕ → Members → Next → Type 0
-Walks xs c (Member v d) = (left xs c ≡ v.0 ∷ left xs d) × (d.at ≤ 64)
-Walks xs c Done = left xs c ≡ []
+-- a step of the walk: the next member and what is left after it, or nothing was left and the walk stays as it was
+abbrev pub Walks : List ℕ → Members → Option VertexIndex → Members → Type 0
+Walks xs c (Some v) d = (left xs c ≡ v.0 ∷ left xs d) × (d.at ≤ 64)
+Walks xs c None d = (left xs c ≡ []) × (d ≡ c)

@@ -3,4 +3,4 @@
 
 mod members;
 
-pub use members::{Members, Next};
+pub use members::Members;

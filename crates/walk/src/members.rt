@@ -11,12 +11,6 @@ pub struct Members {
     pub word: u64,
 }
 
-#[derive(Clone, Copy)]
-pub enum Next {
-    Member(VertexIndex, Members),
-    Done,
-}
-
 // Passes over words of 0, four at a time: no bit is left in a word, nor in those after it up to the one given.
 fn pass_over(work: &[u64], base: usize, s: usize, from: usize) -> usize
     requires { (base + s ≤ length work.now) × (s ≤ 64) × (from ≤ 64) }
@@ -50,10 +44,10 @@ impl Members {
         }
     }
 
-    // The next member and what is left after it, or Done where nothing is left.
-    pub fn next(self, work: &[u64], base: usize, s: usize) -> Next
-        requires { (base + s ≤ length work.now) × (s ≤ 64) × (self.at ≤ 64) }
-        ensures { Walks (words_from s base work.now) self result }
+    // The next member, or None where nothing is left.
+    pub fn next(&mut self, work: &[u64], base: usize, s: usize) -> Option<VertexIndex>
+        requires { (base + s ≤ length work.now) × (s ≤ 64) × (self.old.at ≤ 64) }
+        ensures { Walks (words_from s base work.now) self.old result self.new }
     {
         let mut at = self.at;
         let mut word = self.word;
@@ -63,17 +57,15 @@ impl Members {
         while word == 0 {
             at += 1;
             if s <= at {
-                return Next::Done;
+                return None;
             }
             word = work[base + at];
         }
         let v = 64 * at + u64::trailing_zeros(word) as usize;
-        Next::Member(
-            VertexIndex(v),
-            Members {
-                at,
-                word: word & (word - 1),
-            },
-        )
+        *self = Members {
+            at,
+            word: word & (word - 1),
+        };
+        Some(VertexIndex(v))
     }
 }

@@ -14,41 +14,15 @@ fn print_winners(rt: &impl Print, n: usize, odd: u64) -> io::Result<()> {
     Ok(())
 }
 
-// The calls that Zielonka needs; the word of Odd's set is written.
-fn calls(
-    owners: &[u8],
-    priorities: &[u16],
-    offsets: &[u16],
-    targets: &[u16],
-    kept: &[u64],
-    odd: &mut [u64],
-    strategy: &mut [u16],
-) -> u64 {
-    let mut even = [0u64; 1];
-    let mut work = [0u64; 344];
-    let mut place = 0;
-    let mut count = 0;
-    reckonbough_solvers::recursion::reckonbough_zielonka(
-        owners.len() as u64,
-        targets.len() as u64,
-        owners,
-        priorities,
-        offsets,
-        targets,
-        kept,
-        1000000,
-        &mut even,
-        odd,
-        strategy,
-        &mut work,
-        &mut place,
-        &mut count,
-    );
-    count
+#[derive(Clone, Copy)]
+enum Solver {
+    Zielonka,
+    Promotion,
 }
 
-// The rounds that priority promotion needs.
-fn rounds(
+// The calls or rounds that a solver needs; the word of Odd's set is written.
+fn needed(
+    solver: Solver,
     owners: &[u8],
     priorities: &[u16],
     offsets: &[u16],
@@ -57,26 +31,22 @@ fn rounds(
     odd: &mut [u64],
     strategy: &mut [u16],
 ) -> u64 {
+    let n = owners.len() as u64;
+    let m = targets.len() as u64;
     let mut even = [0u64; 1];
     let mut work = [0u64; 344];
     let mut place = 0;
     let mut count = 0;
-    reckonbough_solvers::promotion::reckonbough_priority_promotion(
-        owners.len() as u64,
-        targets.len() as u64,
-        owners,
-        priorities,
-        offsets,
-        targets,
-        kept,
-        1000000,
-        &mut even,
-        odd,
-        strategy,
-        &mut work,
-        &mut place,
-        &mut count,
-    );
+    match solver {
+        Solver::Zielonka => reckonbough_solvers::recursion::reckonbough_zielonka(
+            n, m, owners, priorities, offsets, targets, kept, 1000000, &mut even, odd, strategy,
+            &mut work, &mut place, &mut count,
+        ),
+        Solver::Promotion => reckonbough_solvers::promotion::reckonbough_priority_promotion(
+            n, m, owners, priorities, offsets, targets, kept, 1000000, &mut even, odd, strategy,
+            &mut work, &mut place, &mut count,
+        ),
+    };
     count
 }
 
@@ -92,7 +62,8 @@ fn report(
     let mut kept = [0u64; KEPT];
     let mut odd = [0u64; 1];
     let n = owners.len();
-    record::fresh_count(
+    // tables that this refuses are refused by each solver too
+    let _ = record::fresh_count(
         n,
         targets.len(),
         owners,
@@ -101,14 +72,28 @@ fn report(
         targets,
         &mut kept,
     );
-    let made = calls(
-        owners, priorities, offsets, targets, &kept, &mut odd, strategy,
+    let made = needed(
+        Solver::Zielonka,
+        owners,
+        priorities,
+        offsets,
+        targets,
+        &kept,
+        &mut odd,
+        strategy,
     );
     print!(rt; "{name} ")?;
     print_winners(rt, n, odd[0])?;
     print!(rt; " {made}")?;
-    let made = rounds(
-        owners, priorities, offsets, targets, &kept, &mut odd, strategy,
+    let made = needed(
+        Solver::Promotion,
+        owners,
+        priorities,
+        offsets,
+        targets,
+        &kept,
+        &mut odd,
+        strategy,
     );
     println!(rt; " {made}")
 }

@@ -4,15 +4,15 @@ ghost use Rattle.std.specs.Prelude.{◌≡◌, length, replicate};
 ghost use Rattle.rules.specs.Solver.{Solves};
 ghost use Rattle.rules.specs.Tables.{game_of, tables_of};
 ghost use Rattle.rules.specs.Zielonka.{zielonka};
-ghost use Rattle.parity_game.specs.Said.{said};
+ghost use Rattle.solver.specs.Unsolved.{said};
 ghost use Rattle.kept_numbers.specs.Reading.{FreshlyCounted};
 ghost use Rattle.solver.specs.Running.{Runnable, Runs};
 ghost use Rattle.zielonka_recursion.specs.Ending.{Under};
 
 use area::Area;
 use kept_numbers::HIGHEST;
-use parity_game::{Answer, Priority};
-use solver::Ran;
+use parity_game::Priority;
+use solver::{Engine, Unsolved};
 use zielonka_level::{levels_at, odd_at};
 use zielonka_recursion::zielonka_rec;
 
@@ -28,7 +28,7 @@ fn run(
     odd: &mut [u64],
     strategy: &mut [u16],
     work: &mut [u64],
-) -> Ran
+) -> Option<u64>
     requires { Runnable (tables_of owners.now priorities.now offsets.now targets.now)
         even.old odd.old strategy.old work.old ×
         Under (tables_of owners.now priorities.now offsets.now targets.now) top.0 }
@@ -52,17 +52,54 @@ fn run(
     solver::prepare(offsets, targets, n, s, work, base);
     priority_sets::make(priorities, s, work, first);
     sets::clear(work, odd_won, s);
-    let calls = zielonka_rec(
+    let Some(calls) = zielonka_rec(
         owners, priorities, offsets, targets, work, base, top, 0, budget,
-    );
-    if calls == 0 {
+    ) else {
         sets::clear(work, 0, work.len());
-        return Ran::OverBudget;
-    }
+        return None;
+    };
     set_difference::without(s, work, even_won, base, odd_won);
     solver::write_out(owners, s, entries, even_won, work, even, odd, strategy);
     sets::clear(work, 0, work.len());
-    Ran::Needed(calls)
+    Some(calls)
+}
+
+// Zielonka's recursion as a solver.
+pub struct Zielonka;
+
+impl Engine for Zielonka {
+    ghost needed = { λ t. (zielonka (game_of t)).calls };
+
+    ghost won = { λ t. (zielonka (game_of t)).won };
+
+    ghost entries = { λ t. (zielonka (game_of t)).entries };
+
+    fn run(
+        owners: &[u8],
+        priorities: &[u16],
+        offsets: &[u16],
+        targets: &[u16],
+        kept: &[u64],
+        budget: u64,
+        even: &mut [u64],
+        odd: &mut [u64],
+        strategy: &mut [u16],
+        work: &mut [u64],
+    ) -> Option<u64> {
+        let top = kept[HIGHEST] as usize;
+        run(
+            owners,
+            priorities,
+            offsets,
+            targets,
+            Priority(top),
+            budget,
+            even,
+            odd,
+            strategy,
+            work,
+        )
+    }
 }
 
 pub fn solve_zielonka(
@@ -76,7 +113,7 @@ pub fn solve_zielonka(
     odd: &mut [u64],
     strategy: &mut [u16],
     work: &mut [u64],
-) -> Answer
+) -> Result<u64, Unsolved>
     requires { FreshlyCounted (tables_of owners.now priorities.now offsets.now targets.now) kept.now }
     ensures { let t =
         tables_of owners.now priorities.now offsets.now targets.now in
@@ -95,35 +132,7 @@ pub fn solve_zielonka(
         })
         (said result) }
 {
-    let n = owners.len();
-    let m = targets.len();
-    let r = lent_checks::checks::check_lent(
-        n,
-        m,
-        even.len(),
-        odd.len(),
-        strategy.len(),
-        work.len(),
-    );
-    if r.number() != 0 {
-        return r;
-    }
-    let w = parity_game::work_words(n, m);
-    let top = kept[HIGHEST] as usize;
-    let ran = run(
-        owners,
-        priorities,
-        offsets,
-        targets,
-        Priority(top),
-        budget,
-        even,
-        odd,
-        strategy,
-        &mut work[0..w],
-    );
-    let Ran::Needed(calls) = ran else {
-        return Answer::OverBudget(budget);
-    };
-    Answer::Answered(calls)
+    solver::solve::<Zielonka>(
+        owners, priorities, offsets, targets, kept, budget, even, odd, strategy, work,
+    )
 }

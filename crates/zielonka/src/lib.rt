@@ -4,4 +4,4 @@
 
 mod door;
 
-pub use door::solve_zielonka;
+pub use door::{Zielonka, solve_zielonka};

@@ -1,6 +1,6 @@
 -- How far a call has come, from piece to piece: what each piece needs of those before it, and what the call leaves by each way
 -- out.
-use Rattle.std.specs.Prelude.{Bool, false, ◌&&◌, not, List, ◌≡◌, refl, ℕ, ◌+◌, ◌-◌, ◌*◌, ◌≤◌, ◌<◌, length, get_or, take, drop}
+use Rattle.std.specs.Prelude.{Bool, false, ◌&&◌, not, List, ◌≡◌, refl, ℕ, ◌+◌, ◌-◌, ◌*◌, ◌≤◌, ◌<◌, length, get_or, take, drop, Option, Some, None}
 use Rattle.std.proofs.Math.Bool.{true}
 use Rattle.std.proofs.Common.{⊎_elim, sym, ap, subst₂, ◌∙◌, mul-le-mul_left, mul-add, mul-one, arith, eq-eqb}
 use Rattle.std.proofs.Math.Path.{subst, fun_ext}
@@ -119,14 +119,14 @@ module _ {t : Tables} {base : ℕ} {w₀ : List ℕ} (called : Called t base w�
 
 -- a call on an empty set ends as `count_call` says
 pub empty_ends :
-    {t : Tables} {base calls budget made : ℕ} {w : List ℕ} →
+    {t : Tables} {base calls budget : ℕ} {made : Option ℕ} {w : List ℕ} →
     Called t base w →
     ((v : ℕ) → on_level t base w v ≡ false) →
-    (budget ≤ calls → made ≡ 0) × (calls < budget → made ≡ calls + 1) →
+    (budget ≤ calls → made ≡ None) × (calls < budget → made ≡ Some (calls + 1)) →
     Ends t base calls budget w w made
 empty_ends {calls} {budget} called none (over, counted) =
     ⊎_elim
-    (λ l. rw (counted l) (ends_done (omega arith) (done_empty called none l)))
+    (λ l. rw (counted l) (ends_done (done_empty called none l)))
     (λ l. rw (over l) (ends_over (over_first called l)))
     (lt_or_ge calls budget)
 
@@ -203,6 +203,32 @@ pub record Lost (t : Tables) (s base p calls budget made : ℕ) (w₀ w₁ w₂ 
   pub lost : lost_there t base p w₁ w₂ vertex ≡ true
   pub by : LostBy t (opponent (parity p)) base (on_level t base w₀) (lost_there t base p w₁ w₂) w₃ w₄
 
+-- V has a member, and the attractor of its vertices of the highest priority is cut off
+pub begun_cut :
+    {t : Tables} {s base p : ℕ} {w₀ w₁ : List ℕ} →
+    Called t base w₀ →
+    s ≡ words (vertices t) →
+    {r : Bool} →
+    r ≡ not (some (64 * length (take ((base + s) - base) (drop base w₀))) (set_of (take ((base + s) - base) (drop base w₀)))) →
+    r ≡ false →
+    p ≡ highest_of t.priorities (set_at (length t.priorities) base w₀) →
+    (CallReady t s base w₀ →
+    CutBy t (parity p) base (on_level t base w₀) (with_priority (game_of t) (on_level t base w₀) p) w₀ w₁) →
+    FirstCut t s base p w₀ w₁
+begun_cut called size told some' highest cut =
+    let (v, q) = level_some called size told some' in
+    let ready = member_ready called size v q in
+    record { called = called; ready = ready; top = member_top called size v q highest; cut = cut ready }
+
+-- `count_call` counts one more
+pub counted_one :
+    {calls budget used : ℕ} {r : Option ℕ} →
+    (budget ≤ calls → r ≡ None) × (calls < budget → r ≡ Some (calls + 1)) →
+    r ≡ Some used →
+    (calls < budget) × (used ≡ calls + 1)
+counted_one {calls} {budget} (over, counted) is =
+    ⊎_elim (λ l. (l, let more = counted l in cc)) (λ l. let none = over l in cc) (lt_or_ge calls budget)
+
 module _ {t : Tables} {s base p : ℕ} {w₀ w₁ : List ℕ} (b : FirstCut t s base p w₀ w₁) where
   -- no priority there is above p − 1: every vertex of priority p was drawn
   first_under : (v : ℕ) → on_level t (next_level (words (vertices t)) base) w₁ v ≡ true → get_or t.priorities v 0 ≤ p - 1
@@ -250,6 +276,18 @@ module _ {t : Tables} {s base p : ℕ} {w₀ w₁ : List ℕ} (b : FirstCut t s 
     -- it needs more calls than are left
     pub begun_over : (calls budget : ℕ) → Over t up (calls + 1) budget w₁ → Over t base calls budget w₀
     begun_over calls budget over = over_nested b.called calls budget b.top b.cut (rw (next, b.ready.size) at over)
+
+    -- this call was counted
+    module _
+        {calls budget used : ℕ} {r : Option ℕ}
+        (counts : (budget ≤ calls → r ≡ None) × (calls < budget → r ≡ Some (calls + 1)))
+        (is : r ≡ Some used)
+      where
+        pub begun_made : {made : ℕ} {w₂ : List ℕ} → Done t up used budget made w₁ w₂ → Came t s base p calls budget made w₀ w₁ w₂
+        begun_made {made} {w₂} d = begun_came (subst (λ (k : ℕ). Done t up k budget made w₁ w₂) (counted_one counts is).1 d)
+
+        pub begun_beyond : Over t up used budget w₁ → Over t base calls budget w₀
+        begun_beyond over = begun_over calls budget (subst (λ (k : ℕ). Over t up k budget w₁) (counted_one counts is).1 over)
 
 module _ {t : Tables} {s base p calls budget made : ℕ} {w₀ w₁ w₂ : List ℕ} (c : Came t s base p calls budget made w₀ w₁ w₂) where
   sized : s ≡ words (vertices t)
@@ -415,7 +453,7 @@ module _ {t : Tables} {s base p calls budget made : ℕ} {w₀ w₁ w₂ w₃ w�
 
       -- the call ends as the second nested call does
       pub lost_ends :
-          {made₂ : ℕ} {w₅ : List ℕ} →
+          {made₂ : Option ℕ} {w₅ : List ℕ} →
           Ends t up made budget w₄ w₅ made₂ →
           Ends t base calls budget w₀ w₅ made₂
-      lost_ends e = record { over = λ none. lost_over (e.over none); done = λ some. lost_done (e.done some) }
+      lost_ends e = record { over = λ none. lost_over (e.over none); done = λ made some. lost_done (e.done made some) }

@@ -1,79 +1,61 @@
 -- `check` meets its contract: after a refusal nothing was touched, and else the work area is cleared.
-use mathlib.Core.Path.{◌≡◌, ◌∙◌}
-use Rattle.rules.specs.Outcome.{Verdict, none, answered}
-use Rattle.rules.specs.Checker.{certificate_checks}
-use Rattle.rules.specs.Tables.{Tables, game_of, tables_of}
-use Rattle.parity_game.proofs.Matched.{went_on, stopped, refusal_not_zero}
-use Rattle.lent_checks.specs.Checks.{numbered_by, past_tables, sizes_few}
-use Rattle.checker.specs.Checks.{Certifiable, refusals, checks_refused, certify_given, work_fits, checks_done}
+use mathlib.Core.Path.{◌≡◌, refl, sym, ◌∙◌}
+use Prim.Native.Nat.{ℕ}
+use lib.ListN.{length}
 use native.Mathlib.Omega.{arith}
-use Rattle.checker.proofs.check.Lts as lts
-use Rattle.checker.proofs.check.Reads as reads
-use Rattle.checker.proofs.check.Tie as tie
+use Rattle.std.proofs.lemmas.Result.{err_from_is_err_and}
+use Rattle.rules.specs.Outcome.{none, answered}
+use Rattle.rules.specs.Tables.{Tables, Accepted, vertices, edges_in, tables_of}
+use Rattle.parity_game.specs.Laws.{refused_outcome}
+use Rattle.lent_checks.specs.Checks.{lent_by, checks_by, sizes_few}
+use Rattle.checker.specs.Checks.{certify_given, checks_done}
+use Rattle.checker.proofs.check.Goals.{In_ok-check_lent}
 use Rattle.checker.proofs.check.Goals as goal
 
-abbrev AtElse1 : Type 0
-AtElse1 = lts.Else1 tie.the-claims reads.Pre reads.Post
+-- of accepted tables, what is checked of what is lent is all that is refused before the kinds
+all_checks :
+    (t : Tables) (even odd strategy work : ℕ) → Accepted t →
+    lent_by (vertices t) (edges_in t) even odd strategy work ≡ checks_by t even odd strategy work
+unfolding Accepted
+all_checks t even odd strategy work accepted = rw accepted
 
-abbrev AtStart : Type 0
-AtStart = lts.Start tie.the-claims reads.Pre reads.Post
+ok :
+    (c : In_ok-check_lent) →
+    checks_by (tables_of c.args.owners.now c.args.priorities.now c.args.offsets.now c.args.targets.now) (length c.args.even.now)
+    (length c.args.odd.now) (length c.args.strategy.now) (length c.args.work.now) ≡
+    none
+ok c = sym (c.in_ok-check_lent.ensures ∙ all_checks _ _ _ _ _ c.requires.0)
 
-abbrev tables : AtStart → Tables
-tables s = tables_of s.args.owners.now s.args.priorities.now s.args.offsets.now s.args.targets.now
+pub check_lent-requires : goal.check_lent-requires
+check_lent-requires c = sizes_few _ c.requires.0
 
--- the checks before the kinds
-abbrev first : AtStart → Verdict
-first s = refusals (tables s) s.args.even.now s.args.odd.now s.args.strategy.now s.args.work.now
+pub returns-in_err-check_lent : goal.returns-in_err-check_lent
+returns-in_err-check_lent c =
+    let p = err_from_is_err_and c.from_residual.result c.from_residual.ensures.1 in
+    let e =
+    c.in_err-check_lent.ensures ∙
+    all_checks _ (length c.args.even.now) (length c.args.odd.now) (length c.args.strategy.now) (length c.args.work.now) c.requires.0 in
+    rw (p.1, p.2)
+    (record { gives = rw (sym e) (refused_outcome c.in_err-check_lent.field-0.0 _ (answered 0) refl); work = rw (sym e) refl })
 
--- where the function begins, from past them
-abbrev start : AtElse1 → AtStart
-start d = d.before.before.before.before.before.before.before.before.before.before.before.before
-
--- there they gave nothing
-ok : (d : AtElse1) → first (start d) ≡ none
-ok d =
-    let f = d.check_lent-r in
-    went_on f.result (first (start d)) d.if-number-ne0.false d.number.ensures (numbered_by _ _ _ _ _)
-    (f.ensures ∙ past_tables (tables (start d)) (start d).requires.0 _ _ _ _ (answered 0))
-
--- so the kinds may be checked
-certifiable :
-    (d : AtElse1) →
-    let a = (start d).args in
-    Certifiable (tables (start d)) a.even.now a.odd.now a.strategy.now a.work.now
-certifiable d = certify_given (ok d)
-
-pub check_lent-r-requires : goal.check_lent-r-requires
-check_lent-r-requires c =
-    let s = c.before.before.before.before.before.before.before.before.before.before in sizes_few (tables s) s.requires.0
-
-pub returns-then-number-ne0 : goal.returns-then-number-ne0
-returns-then-number-ne0 c =
-    let s = c.before.before.before.before.before.before.before.before.before.before.before.before.before in
-    let a = s.args in
-    let f = c.check_lent-r in
-    let gave = f.ensures ∙ past_tables (tables s) s.requires.0 _ _ _ _ (answered 0) in
-    checks_refused
-    (stopped f.result (first s) (certificate_checks (game_of (tables s)) a.even.now a.odd.now a.strategy.now)
-    (answered 0) c.if-number-ne0.true c.number.ensures gave)
-    gave
-    (refusal_not_zero f.result c.if-number-ne0.true c.number.ensures)
-
-pub certify-r-requires : goal.certify-r-requires
-certify-r-requires c = (certifiable c.before.before, (start c.before.before).requires.1)
+pub certify-checked-requires : goal.certify-checked-requires
+certify-checked-requires c = (certify_given (ok (goal.at.certify-checked-requires c).In_ok-check_lent), c.requires.1)
 
 pub work_words-requires : goal.work_words-requires
-work_words-requires c = work_fits (certifiable c.before.before.before.before.before.before)
+work_words-requires c = sizes_few _ c.requires.0
 
 pub clear-requires : goal.clear-requires
 clear-requires c =
-    let f = c.certify-r in
-    let d = c.before.before.before.before.before.before.before in
-    let room = (certifiable d).room in
-    (omega arith, omega (arith, f.ensures.long, c.work_words.ensures))
+    let room = (certify_given (ok (goal.at.clear-requires c).In_ok-check_lent)).room in
+    (omega arith, omega (arith, c.certify-checked.ensures.long, c.work_words.ensures))
+
+pub returns-in_err-checked : goal.returns-in_err-checked
+returns-in_err-checked c =
+    let p = err_from_is_err_and c.from_residual-in_err-checked.result c.from_residual-in_err-checked.ensures.1 in
+    rw (p.1, p.2)
+    (checks_done (ok (goal.at.returns-in_err-checked c).In_ok-check_lent) c.in_err-checked.ensures
+    (refused_outcome c.in_err-checked.field-0.0 _ (answered 0) refl) c.work_words.ensures c.clear.ensures)
 
 pub returns : goal.returns
 returns c =
-    let z = c.before.before.before in
-    let e = z.before.before.before.before.before in
-    checks_done (ok e.before.before) e.certify-r.ensures z.work_words.ensures z.clear.ensures
+    checks_done (ok (goal.at.returns c).In_ok-check_lent) c.in_ok-checked.ensures refl c.work_words.ensures c.clear.ensures

@@ -1,30 +1,18 @@
 -- `next_number` meets its contract, which is the rule.
-use native.Mathlib.Omega.{arith}
-use borrow.Author.Tests.{eq-eqb, ne_eqb}
+use Rattle.std.proofs.Common.{◌≡◌, sym, arith, eq-eqb, ne_eqb}
 use Rattle.rules.specs.Compaction.{next_number}
 use Rattle.compaction_numbers.proofs.next_number.Goals as goal
-use Rattle.compaction_numbers.proofs.next_number.Goals.{then-last-p, else-last-p}
 
-pub returns-then-not-any : goal.returns-then-not-any
+pub returns-in-None : goal.returns-in-None
 unfolding next_number
-returns-then-not-any c = rw c.if-not-any.true
+returns-in-None c = rw c.in-None.is
 
-pub overflow_add-result : goal.overflow_add-result
-overflow_add-result c = elim c.if-last-p.branch [
-  | then-last-p w ↦
-      omega (arith, w.step-is)
-  | else-last-p w ↦
-      omega (arith, w.step-is)
-]
-
-pub returns : goal.returns
+pub returns-in-Some : goal.returns-in-Some
 unfolding next_number
-returns c =
-    let any = c.args.any in
-    let given = c.if-not-any.false in
-    elim c.if-last-p.branch [
-      | then-last-p w ↦
-          rw (given, eq-eqb _ _ w.if-last-p.true, w.step-is)
-      | else-last-p w ↦
-          rw (given, ne_eqb _ _ w.if-last-p.false, w.step-is)
-    ]
+returns-in-Some c = rw (c.in-Some.is, eq-eqb _ _ c.if-last-p.true) (omega arith)
+
+pub returns-in-Some-2 : goal.returns-in-Some-2
+unfolding next_number
+returns-in-Some-2 c =
+    let same : c.in-Some.last ≡ c.in-Some-2.last = cc (c.in-Some.is, c.in-Some-2.is) in
+    rw (c.in-Some-2.is, sym same, ne_eqb _ _ c.if-last-p.false)

@@ -3,7 +3,7 @@
 use mathlib.Core.Bool.{Bool}
 use mathlib.Core.List.{List}
 use mathlib.Core.Path.{◌≡◌}
-use Prim.Native.Nat.{ℕ, ◌≤◌, ◌-◌}
+use Prim.Native.Nat.{ℕ, ◌≤◌}
 use lib.Dec.{eqb}
 use Rattle.rules.specs.Tables.{degree}
 use Rattle.parity_game.specs.Search.{FailsBelow}
@@ -17,6 +17,3 @@ invariant-loop-e l = (l.v ≡ l.initial.v) × (l._e ≡ l.initial._e)
 
 abbrev pub invariant-vertices : goal.invariant-vertices
 invariant-vertices l = (l.v ≤ l.n) × FailsBelow l.v (dead_end l.offsets)
-
-abbrev pub decreases-vertices : goal.decreases-vertices
-decreases-vertices l = l.n - l.v

@@ -1,6 +1,5 @@
 -- `sum_up` meets its contract. The loop's invariant: the counts passed are looked at.
 use mathlib.Core.Path.{◌≡◌}
-use Prim.Native.Nat.{◌-◌}
 use native.Mathlib.Omega.{arith}
 use Rattle.kept_numbers.specs.Steps.{summed_none, summed_some, summed_zero, summed_all}
 use borrow.Author.Rules.{rules}

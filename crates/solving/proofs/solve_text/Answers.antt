@@ -1,44 +1,20 @@
 -- `solve_text` meets its contract: a refusal is put into its line, and else the rooms hold the game whose line is the text's.
 use mathlib.Core.List.{List}
-use mathlib.Core.Path.{◌≡◌, sym, ap, subst, ◌∙◌}
-use Prim.Native.Nat.{ℕ, ◌≤◌}
+use mathlib.Core.Path.{sym, ap, subst, ◌∙◌}
+use Prim.Native.Nat.{ℕ}
 use native.Mathlib.Omega.{arith}
-use lib.ListN.{length, take}
+use lib.ListN.{take}
 use Rattle.rules.specs.Outcome.{Outcome}
 use Rattle.rules.specs.Printing.{refused_line, PrintsText}
 use Rattle.rules.specs.Reading.{Written}
 use Rattle.parity_game.specs.Said.{said}
 use Rattle.putting.specs.Puts.{puts_front, puts_within}
 use Rattle.solving.specs.Texts.{prints_refused, few, short, game_given, prints_solved}
-use Rattle.solving.proofs.solve_text.Lts as lts
-use Rattle.solving.proofs.solve_text.Reads as reads
-use Rattle.solving.proofs.solve_text.Tie as tie
 use Rattle.solving.proofs.solve_text.Goals as goal
+use Rattle.solving.proofs.solve_text.Goals.{After-told-number}
 
-abbrev AtAfterNumber : Type 0
-AtAfterNumber = lts.After-number tie.the-claims reads.Pre reads.Post
-
-abbrev AtAfterRead : Type 0
-AtAfterRead = lts.After-read tie.the-claims reads.Pre reads.Post
-
-abbrev AtElse1 : Type 0
-AtElse1 = lts.Else1 tie.the-claims reads.Pre reads.Post
-
-abbrev AtStart : Type 0
-AtStart = lts.Start tie.the-claims reads.Pre reads.Post
-
--- where the function begins, and after the reading
-abbrev start : AtAfterRead → AtStart
-start c = c.before.before.before.before.before.before.before.before.before.before
-
-abbrev reading : AtAfterNumber → AtAfterRead
-reading c = c.before.before.before.before.before.before
-
-abbrev text : AtAfterRead → List ℕ
-text c = (start c).args.text.now
-
--- what it left and gave
-abbrev after : AtAfterRead → Written
+-- what the reader left and gave
+abbrev after : After-told-number → Written
 after c =
     let last = c.read-read.new in
     record {
@@ -54,75 +30,57 @@ after c =
       m = last.m;
     }
 
-abbrev gave : AtAfterRead → Outcome
+abbrev gave : After-told-number → Outcome
 gave c = said c.read-read.result
-
-owners_kept : (c : AtAfterRead) → length (after c).rooms.owners ≡ 128
-owners_kept c = c.read-read.auto.owners
-
-targets_kept : (c : AtAfterRead) → length (after c).rooms.targets ≡ 512
-targets_kept c = c.read-read.auto.targets
-
-zero : (c : AtElse1) → (gave (reading c.before)).number ≡ 0
-zero c = sym c.number.ensures ∙ c.if-number-ne0.false
-
--- the sizes keep the rooms
-n_few : (c : AtElse1) → (after (reading c.before)).n ≤ 128
-n_few c =
-    let at = reading c.before in few (text at) (after at) (gave at) at.read-read.ensures (zero c) (owners_kept at)
-
-m_few : (c : AtElse1) → (after (reading c.before)).m ≤ 512
-m_few c =
-    let at = reading c.before in short (text at) (after at) (gave at) at.read-read.ensures (zero c) (targets_kept at)
 
 pub returns-then-number-ne0 : goal.returns-then-number-ne0
 returns-then-number-ne0 c =
-    let line = c.before in
-    let at_place = line in
-    let at-number = at_place in
-    let test = at-number in
-    let at = reading test.before.before.before.before.before.before.before in
+    let at = (goal.at.returns-then-number-ne0 c).After-told-number in
     let is =
-    puts_front line.refused_line.ensures ∙
-    ap (λ (k : ℕ). refused_line k at_place.place.result) at-number.number-then-number-ne0.ensures ∙
-    ap (λ (p : ℕ). refused_line (gave at).number p) at_place.place.ensures in (
-      subst (λ (bytes : List ℕ). PrintsText (start at).args.budget (text at) bytes) (sym is)
-          (prints_refused (text at) (after at) (gave at) at.read-read.ensures (start at).args.budget
-          (λ e. test.if-number-ne0.true (test.number.ensures ∙ e))),
-      puts_within line.refused_line.ensures,
+    puts_front c.refused_line.ensures ∙
+    ap (λ (k : ℕ). refused_line k c.told-number.result.1) c.told-number.ensures.0 ∙
+    ap (λ (p : ℕ). refused_line (gave at).number p) c.told-number.ensures.1 in (
+      subst (λ (bytes : List ℕ). PrintsText c.args.budget c.args.text.now bytes) (sym is)
+          (prints_refused c.args.text.now (after at) (gave at) c.read-read.ensures c.args.budget
+          (λ e. c.if-number-ne0.true (c.told-number.ensures.0 ∙ e))),
+      puts_within c.refused_line.ensures,
     )
 
 pub slice_bounds-solve_tables-end : goal.slice_bounds-solve_tables-end
-slice_bounds-solve_tables-end c = omega (arith, n_few c.before)
+slice_bounds-solve_tables-end c =
+    let at = (goal.at.slice_bounds-solve_tables-end c).After-told-number in
+    omega (arith, few c.args.text.now (after at) (gave at) c.read-read.ensures (sym c.told-number.ensures.0 ∙ c.if-number-ne0.false) c.read-read.auto.owners)
 
 pub slice_bounds-solve_tables-end-2 : goal.slice_bounds-solve_tables-end-2
-slice_bounds-solve_tables-end-2 c = omega (arith, n_few c.before.before)
+slice_bounds-solve_tables-end-2 c =
+    let at = (goal.at.slice_bounds-solve_tables-end-2 c).After-told-number in
+    omega (arith, few c.args.text.now (after at) (gave at) c.read-read.ensures (sym c.told-number.ensures.0 ∙ c.if-number-ne0.false) c.read-read.auto.owners)
 
 pub overflow_add-n : goal.overflow_add-n
-overflow_add-n c = omega (arith, n_few c.before.before.before)
+overflow_add-n c =
+    let at = (goal.at.overflow_add-n c).After-told-number in
+    omega (arith, few c.args.text.now (after at) (gave at) c.read-read.ensures (sym c.told-number.ensures.0 ∙ c.if-number-ne0.false) c.read-read.auto.owners)
 
 pub slice_bounds-solve_tables-end-3 : goal.slice_bounds-solve_tables-end-3
-slice_bounds-solve_tables-end-3 c = omega (arith, n_few c.before.before.before)
+slice_bounds-solve_tables-end-3 c =
+    let at = (goal.at.slice_bounds-solve_tables-end-3 c).After-told-number in
+    omega (arith, few c.args.text.now (after at) (gave at) c.read-read.ensures (sym c.told-number.ensures.0 ∙ c.if-number-ne0.false) c.read-read.auto.owners)
 
 pub slice_bounds-solve_tables-end-4 : goal.slice_bounds-solve_tables-end-4
 slice_bounds-solve_tables-end-4 c =
-    let test = c.before.before.before.before in
-    omega (arith, m_few test)
+    let at = (goal.at.slice_bounds-solve_tables-end-4 c).After-told-number in
+    omega (arith, short c.args.text.now (after at) (gave at) c.read-read.ensures (sym c.told-number.ensures.0 ∙ c.if-number-ne0.false) c.read-read.auto.targets)
 
 pub solve_tables-requires : goal.solve_tables-requires
 solve_tables-requires c =
-    let test = c.before.before.before.before.before.before in
-    let at = reading test.before in
-    game_given (text at) (after at) (gave at) at.read-read.ensures (zero test) (start at).args.out.now (start at).requires
-    (owners_kept at) (targets_kept at)
+    let at = (goal.at.solve_tables-requires c).After-told-number in
+    game_given c.args.text.now (after at) (gave at) c.read-read.ensures (sym c.told-number.ensures.0 ∙ c.if-number-ne0.false)
+    c.args.out.now c.requires c.read-read.auto.owners c.read-read.auto.targets
 
 pub returns : goal.returns
 returns c =
-    let solved = c.before in
-    let test = solved.before.before.before.before.before.before.before.before in
-    let at = reading test.before in (
-      prints_solved (text at) (after at) (gave at) at.read-read.ensures (zero test) (start at).args.budget
-          (take solved.solve_tables.result solved.solve_tables.new.out)
-          (puts_front solved.solve_tables.ensures),
-      puts_within solved.solve_tables.ensures,
+    let at = (goal.at.returns c).After-told-number in (
+      prints_solved c.args.text.now (after at) (gave at) c.read-read.ensures (sym c.told-number.ensures.0 ∙ c.if-number-ne0.false)
+          c.args.budget (take c.solve_tables.result c.solve_tables.new.out) (puts_front c.solve_tables.ensures),
+      puts_within c.solve_tables.ensures,
     )

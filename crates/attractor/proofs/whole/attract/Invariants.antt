@@ -2,14 +2,14 @@
 use Prim.Native.Nat.{◌-◌}
 use lib.ListN.{length}
 use Rattle.rules.specs.Counting.{count}
+use Rattle.attractor_drawing.specs.Drawn.{drawn}
 use Rattle.attractor_word.specs.Going.{taken_at}
 use Rattle.attractor.specs.Running.{Running}
 use Rattle.attractor.proofs.whole.attract.Given as goal
 
 abbrev pub invariant-loop-work : goal.invariant-loop-work
-invariant-loop-work l =
-    Running l.owners l.offsets l.targets l.alpha l.within l.set l.initial.work l.this l.next l.far l.looks l.work
+invariant-loop-work l = Running (drawn l.drawing) l.initial.work l.this l.next l.far l.looks l.work
 
 abbrev pub decreases-loop-work : goal.decreases-loop-work
 decreases-loop-work l =
-    length l.owners - count (length l.owners) (taken_at (length l.owners) l.set l.this l.next l.work)
+    let n = length l.drawing.owners.now in n - count n (taken_at n l.drawing.set l.this l.next l.work)

@@ -1,5 +1,5 @@
 -- `inside_edges` meets its contract: the count is that of the edges of v before edge e that end inside.
-use Prim.Native.Nat.{◌+◌, ◌-◌, ◌≤◌}
+use Prim.Native.Nat.{◌+◌, ◌≤◌}
 use mathlib.Core.Path.{◌≡◌}
 use lib.ListN.{get_or}
 use Rattle.rules.specs.Words.{set_of}

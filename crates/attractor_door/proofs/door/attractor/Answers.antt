@@ -1,131 +1,71 @@
 -- `attractor` meets its contract: a refusal is returned with nothing written; past the checks the work is done in the first W words.
-use mathlib.Core.Path.{◌≡◌, ap, subst, ◌∙◌}
-use native.Mathlib.Omega.{arith}
-use lib.ListN.{length}
+use Rattle.std.proofs.Common.{rules, arith, ℕ, List, sym, subst, ◌≡◌, ◌∙◌, length}
 use Rattle.rules.specs.Game.{Player}
-use Rattle.rules.specs.Outcome.{Verdict, none, outcome, answered}
-use Rattle.rules.specs.Tables.{Tables}
+use Rattle.rules.specs.Outcome.{none}
+use Rattle.rules.specs.Tables.{Tables, tables_of, vertices, edges_in, Accepted}
+use Rattle.attractor_checks.specs.Door.{lent_checks, checks_by}
 use Rattle.parity_game.specs.Laws.{accepted_sound}
-use Rattle.parity_game.specs.Said.{said, is}
-use Rattle.parity_game.proofs.Matched.{went_on, refusal_not_zero}
-use Rattle.rules.specs.Attracts.{LentResult, attractor_checks}
+use Rattle.parity_game.specs.Said.{is}
 use Rattle.attractor_run.specs.Work.{AttractorRan}
-use Rattle.attractor_door.specs.Answered.{AttractorPassed, accepted_checks, numbered_checks, checks_passed, run_ready, attracts_refused, attracts_answered}
+use Rattle.attractor_door.specs.Answered.{accepted_checks, checks_passed, run_ready, attracts_stopped, attracts_answered}
 use Rattle.area.specs.Lent.{work_cleared}
-use Rattle.attractor_door.proofs.door.attractor.Lts as lts
-use Rattle.attractor_door.proofs.door.attractor.Reads as reads
-use Rattle.attractor_door.proofs.door.attractor.Tie as tie
 use Rattle.attractor_door.proofs.door.attractor.Goals as goal
 
-abbrev AtAfterCheckLent : Type 0
-AtAfterCheckLent = lts.After-check_lent tie.the-claims reads.Pre reads.Post
+-- past 9, 10 and 12 of accepted tables all checks are passed
+past :
+    (t : Tables) (V' T : List ℕ) (result strategy distances work : ℕ) → Accepted t →
+    none ≡ lent_checks (vertices t) (edges_in t) V' T result strategy distances work →
+    none ≡ checks_by t V' T result strategy distances work
+past t V' T result strategy distances work ok e = e ∙ accepted_checks t V' T result strategy distances work ok
 
-abbrev AtElse1 : Type 0
-AtElse1 = lts.Else1 tie.the-claims reads.Pre reads.Post
+pub check_lent-requires : goal.check_lent-requires
+check_lent-requires c = let f = accepted_sound _ c.requires in (f.few_vertices, f.few_edges)
 
-abbrev AtStart : Type 0
-AtStart = lts.Start tie.the-claims reads.Pre reads.Post
-
--- the tables and what is lent, where the function begins
-abbrev tables : AtStart → Tables
-tables c =
-    record {
-      owners = c.args.owners.now;
-      priorities = c.args.priorities.now;
-      offsets = c.args.offsets.now;
-      targets = c.args.targets.now;
-    }
-
-abbrev lent : AtStart → LentResult
-lent c = record { result = c.args.res.now; strategy = c.args.strategy.now; distances = c.args.distances.now; work = c.args.work.now }
-
-abbrev at1 : AtAfterCheckLent → AtStart
-at1 c = c.before.before.before.before.before.before.before.before.before.before.before
-
--- 9, 10 and 12 of accepted tables are all the checks
-told :
-    (c : AtAfterCheckLent) →
-    let g = at1 c in
-    said c.check_lent-verdict.result ≡
-    outcome (attractor_checks (tables g) g.args.within.now g.args.target.now (lent g)) (answered 0)
-told c =
-    let g = at1 c in
-    let a = g.args in
-    c.check_lent-verdict.ensures ∙
-    ap (λ (v : Verdict). outcome v (answered 0))
-    (accepted_checks (tables g) a.within.now a.target.now (length a.res.now) (length a.strategy.now)
-    (length a.distances.now) (length a.work.now) g.requires)
-
-abbrev at2 : AtElse1 → AtStart
-at2 c = at1 c.before.before
-
--- past the checks
-no_refusal : (c : AtElse1) → let g = at2 c in attractor_checks (tables g) g.args.within.now g.args.target.now (lent g) ≡ none
-no_refusal c =
-    let g = at2 c in
-    let called = c.check_lent-verdict in
-    went_on called.result (attractor_checks (tables g) g.args.within.now g.args.target.now (lent g)) c.if-number-ne0.false c.number.ensures
-    (numbered_checks (tables g) g.args.within.now g.args.target.now (lent g)) (told c.before.before)
-
-passed :
-    (c : AtElse1) →
-    let g = at2 c in
-    AttractorPassed (tables g) g.args.within.now g.args.target.now (length g.args.res.now)
-    (length g.args.strategy.now) (length g.args.distances.now)
-    (length g.args.work.now)
-passed c =
-    let g = at2 c in
-    checks_passed (tables g) g.args.within.now g.args.target.now (length g.args.res.now)
-    (length g.args.strategy.now) (length g.args.distances.now)
-    (length g.args.work.now) (no_refusal c)
-
-pub check_lent-verdict-requires : goal.check_lent-verdict-requires
-check_lent-verdict-requires c =
-    let g = c.before.before.before.before.before.before.before.before.before.before.before in
-    let f = accepted_sound (tables g) g.requires in
-    (f.few_vertices, f.few_edges)
-
-pub returns-then-number-ne0 : goal.returns-then-number-ne0
-returns-then-number-ne0 c =
-    let g = at1 c.before.before.before in
-    attracts_refused (tables g) (is g.args.player) g.args.within.now g.args.target.now (lent g) _ (told c.before.before.before)
-    (refusal_not_zero c.check_lent-verdict.result c.if-number-ne0.true c.number.ensures)
+pub returns-in_err-check_lent : goal.returns-in_err-check_lent
+returns-in_err-check_lent c =
+    let a = c.args in
+    let t = tables_of a.owners.now a.priorities.now a.offsets.now a.targets.now in
+    attracts_stopped c.from_residual.result c.in_err-check_lent.field-0.0 (search rules)
+    (c.in_err-check_lent.ensures ∙
+    accepted_checks t a.within.now a.target.now (length a.res.now) (length a.strategy.now) (length a.distances.now) (length a.work.now) c.requires)
 
 pub work_words-w-requires : goal.work_words-w-requires
-work_words-w-requires c =
-    let f = accepted_sound (tables (at2 c.before)) (passed c.before).accepted in
-    (f.few_vertices, f.few_edges)
+work_words-w-requires c = let f = accepted_sound _ c.requires in (f.few_vertices, f.few_edges)
 
 pub slice_bounds-run-end : goal.slice_bounds-run-end
 slice_bounds-run-end c =
-    let w = c.before.before.before.before.before in
-    omega (arith, (passed w.before).sizes.work_size, w.work_words-w.ensures)
+    let a = c.args in
+    let t = tables_of a.owners.now a.priorities.now a.offsets.now a.targets.now in
+    let passed =
+    checks_passed t a.within.now a.target.now (length a.res.now) (length a.strategy.now) (length a.distances.now) (length a.work.now)
+    (sym (past t _ _ _ _ _ _ c.requires c.in_ok-check_lent.ensures)) in
+    omega (arith, passed.sizes.work_size, c.work_words-w.ensures)
 
 pub run-requires : goal.run-requires
 run-requires c =
-    let d = c.before.before.before.before.before in
-    let w = d.before in
-    let g = at2 w.before in
-    let a = g.args in
-    run_ready (tables g) d.index-alpha.result w.work_words-w.result a.within.now a.target.now a.res.now
-    a.strategy.now a.distances.now a.work.now
-    d.index-alpha.ensures.1 w.work_words-w.ensures (passed w.before)
+    let a = c.args in
+    let t = tables_of a.owners.now a.priorities.now a.offsets.now a.targets.now in
+    let passed =
+    checks_passed t a.within.now a.target.now (length a.res.now) (length a.strategy.now) (length a.distances.now) (length a.work.now)
+    (sym (past t _ _ _ _ _ _ c.requires c.in_ok-check_lent.ensures)) in
+    run_ready t c.index-alpha.result c.work_words-w.result a.within.now a.target.now a.res.now a.strategy.now a.distances.now a.work.now
+    c.index-alpha.ensures.1 c.work_words-w.ensures passed
 
 pub returns : goal.returns
 returns c =
-    let r = c.before.before.before.before.before.before.before.before.before in
-    let d = r.before.before.before.before.before in
-    let w = d.before in
-    let e = w.before in
-    let g = at2 e in
-    let a = g.args in
-    attracts_answered (tables g) (is a.player) a.within.now a.target.now (lent g)
+    let a = c.args in
+    let t = tables_of a.owners.now a.priorities.now a.offsets.now a.targets.now in
+    let all =
+    sym (past t a.within.now a.target.now (length a.res.now) (length a.strategy.now) (length a.distances.now) (length a.work.now) c.requires c.in_ok-check_lent.ensures) in
+    let passed =
+    checks_passed t a.within.now a.target.now (length a.res.now) (length a.strategy.now) (length a.distances.now) (length a.work.now) all in
+    attracts_answered t (is a.player) a.within.now a.target.now
+    (record { result = a.res.now; strategy = a.strategy.now; distances = a.distances.now; work = a.work.now })
     (record { result = _; strategy = _; distances = _; work = _ })
-    r.run.result
-    (no_refusal e)
+    c.run.result
+    all
     (subst
-    (λ (p : Player). AttractorRan (tables g) p a.within.now a.target.now r.run.new.res
-    r.run.new.strategy r.run.new.distances r.run.result)
-    d.index-alpha.ensures.0
-    (r.run.ensures.1 a.priorities.now (passed e).accepted))
-    (work_cleared (tables g) w.work_words-w.result a.work.now _ w.work_words-w.ensures (passed e).sizes.work_size r.run.ensures.0)
+    (λ (p : Player). AttractorRan t p a.within.now a.target.now c.run.new.res c.run.new.strategy c.run.new.distances c.run.result)
+    c.index-alpha.ensures.0
+    (c.run.ensures.1 a.priorities.now c.requires))
+    (work_cleared t c.work_words-w.result a.work.now _ c.work_words-w.ensures passed.sizes.work_size c.run.ensures.0)

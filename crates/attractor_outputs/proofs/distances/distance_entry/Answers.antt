@@ -4,7 +4,7 @@ use mathlib.Core.Path.{ap}
 use mathlib.Core.Path.{◌≡◌, sym, ◌∙◌}
 use mathlib.Core.Bool.{true, false}
 use native.Mathlib.Omega.{arith}
-use borrow.Author.Tests.{not-true, not-false}
+use borrow.Author.Tests.{not-false}
 use Rattle.rules.specs.Words.{set_of}
 use Rattle.attractor_outputs.specs.Outputs.{word_of, measure_out, measure_target, measure_drawn}
 use Rattle.attractor_outputs.proofs.distances.distance_entry.Lts as lts

@@ -1,12 +1,7 @@
 -- `write_distances` meets its contract: the distances passed are written.
-use mathlib.Core.Path.{◌≡◌}
-use Prim.Native.Nat.{ℕ, ◌-◌, ◌≤◌, ◌<◌}
-use lib.ListN.{length, get_or}
+use Rattle.std.proofs.Common.{◌≡◌, ℕ, ◌<◌, get_or}
 use Rattle.attractor_outputs.specs.Outputs.{word_of, measure}
 use Rattle.attractor_outputs.proofs.distances.write_distances.Given as goal
 
 abbrev pub invariant-loop-v : goal.invariant-loop-v
-invariant-loop-v l =
-    (l.v ≤ length l.initial.distances) ×
-    (length l.distances ≡ length l.initial.distances) ×
-    ((k : ℕ) → k < l.v → get_or l.distances k 0 ≡ measure l.target l.res (word_of l.work l.far) k)
+invariant-loop-v l = (k : ℕ) → k < l.v → get_or l.distances k 0 ≡ measure l.target l.res (word_of l.work l.far) k

@@ -4,7 +4,7 @@ use mathlib.Core.Path.{ap}
 use mathlib.Core.Path.{◌≡◌, sym, ◌∙◌}
 use mathlib.Core.Bool.{true, false}
 use native.Mathlib.Omega.{arith}
-use borrow.Author.Tests.{not-true, not-false, eq-eqb, ne_eqb}
+use borrow.Author.Tests.{not-false, eq-eqb, ne_eqb}
 use Rattle.rules.specs.Words.{set_of}
 use Rattle.attractor_outputs.specs.Outputs.{word_of, chosen_out, chosen_target, chosen_other, chosen_own, drawn_so}
 use Rattle.attractor_outputs.proofs.strategy.strategy_entry.Lts as lts

@@ -1,9 +1,8 @@
 -- `look_back` meets its contract. The loop's invariant: the entries before e were looked at.
-use Prim.Native.Nat.{◌-◌}
-use Rattle.search_links.specs.Graph.{graph}
+use Rattle.search_links.specs.Graph.{graph_of}
 use Rattle.backward_look.specs.Seeking.{LookingBack}
 use Rattle.backward_look.proofs.look.look_back.Given as goal
 
 abbrev pub invariant-loop-e : goal.invariant-loop-e
 invariant-loop-e l =
-    LookingBack (graph l.priorities l.offsets l.targets l.entries l.p) l.initial.work l.w l.r l.tail l.e-end l.e l.work l.end
+    LookingBack (graph_of l.graph) l.initial.work l.w l.r l.tail l.e-end l.e l.work l.end

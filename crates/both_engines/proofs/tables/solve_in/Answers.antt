@@ -8,7 +8,7 @@ use Rattle.rules.specs.Solver.{Lent}
 use Rattle.rules.specs.Tables.{Tables, tables_of, vertices, edges_in, work_words, game_of}
 use Rattle.rules.specs.Words.{set_of}
 use Rattle.rules.specs.Zielonka.{zielonka}
-use Rattle.printing.specs.declared.line.Counted.{Counted}
+use Rattle.std.specs.declared.option.Option.{Option}
 use Rattle.printing.specs.Line.{line_bytes}
 use Rattle.putting.specs.Puts.{Puts}
 use Rattle.both_engines.specs.Solved.{EnginesReady, ready_passes, words_cover, counted_for}
@@ -129,9 +129,9 @@ returns c =
     let passes-again = ready_passes (again at1) in
     let S = set_of (odd_after at2) in
     let is =
-    ap (λ (k : Counted). line_bytes (vertices t) S k at4.counted-2.result)
+    ap (λ (k : Option ℕ). line_bytes (vertices t) S k at4.counted-2.result)
     (at3.counted.ensures ∙ solves_counted at2.solve_zielonka-zielonka.ensures passes-again) ∙
-    ap (λ (k : Counted). line_bytes (vertices t) S (counted_for budget (zielonka (game_of t)).calls) k)
+    ap (λ (k : Option ℕ). line_bytes (vertices t) S (counted_for budget (zielonka (game_of t)).calls) k)
     (at4.counted-2.ensures ∙ solves_counted at1.solve_priority_promotion-promotion.ensures passes) ∙
     line_solved budget t at.args.odd.now (between at1).odd (odd_after at2)
     (solves_kept at1.solve_priority_promotion-promotion.ensures passes)

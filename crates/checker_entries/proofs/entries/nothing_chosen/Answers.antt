@@ -1,22 +1,24 @@
--- `nothing_chosen` meets its contract. The loop's invariant: every entry passed is none.
-use Prim.Native.Nat.{◌-◌}
-use borrow.Author.Count.{below_none, below_more}
-use Rattle.checker_entries.specs.Entries.{chosen_somewhere, chosen_nowhere}
+-- `nothing_chosen` meets its contract.
+use Rattle.std.specs.Prelude.{Bool, true, false, List, ◌≡◌, ◌≢◌, ℕ, ◌<◌, length}
+use Rattle.std.specs.Bool.{MatchBool}
+use Rattle.std.specs.List.{AllWithin, HoldsAt}
+use Rattle.std.proofs.lemmas.Iterator.{cases_from_all, YieldsList-from_slice}
 use native.Mathlib.Omega.{arith}
 use borrow.Author.Rules.{rules}
+use borrow.Author.Tests.{tests}
+use Rattle.checker_entries.specs.Entries.{unchosen, chosen_somewhere, chosen_nowhere}
 use Rattle.checker_entries.proofs.entries.nothing_chosen.Goals as goal
 
-pub loop-u-init : goal.loop-u-init
-loop-u-init c = (search rules, search rules, below_none _)
-
-pub returns-then-strategy-u : goal.returns-then-strategy-u
-returns-then-strategy-u c =
-    let at = c.before.before.before.before in
-    chosen_somewhere at.args.strategy.now at.loop-u.u (omega arith) c.if-strategy-u.true
-
-pub loop-u-preserved : goal.loop-u-preserved
-loop-u-preserved c = (search rules, search rules, below_more _ _ c.loop-u.invariant.2 c.if-strategy-u.false)
+told :
+    (entries : List ℕ) (r : Bool) →
+    MatchBool r (AllWithin (λ x. x ≡ 65535) entries 0 (length entries))
+    ((k : ℕ) × (k < length entries) × HoldsAt (λ x. x ≢ 65535) entries k) →
+    r ≡ unchosen entries
+told entries true h = chosen_nowhere entries (λ u l. h u 0 (omega arith) l)
+told entries false (k, l, h) = chosen_somewhere entries k l (h 0)
 
 pub returns : goal.returns
 returns c =
-    chosen_nowhere c.args.strategy.now (λ k l. c.loop-u.invariant.2 k (omega arith))
+    told _ _
+    (cases_from_all _ _ _ (λ x. x ≡ 65535) (λ x. x ≢ 65535) c.all.ensures.ran (YieldsList-from_slice c.args.strategy.now cc)
+    (λ x q k. search (rules, tests)) (λ x q k. search (rules, tests)))

@@ -5,8 +5,8 @@ use Rattle.area.specs.Area.{words_at}
 use Rattle.highest_priority.specs.Collecting.{CollectingTo}
 use Rattle.highest_priority.proofs.highest.collect.Given as goal
 
-abbrev pub invariant-loop-member : goal.invariant-loop-member
-invariant-loop-member l = CollectingTo l.priorities l.p.0 l.within l.into l.initial.work l.walk l.work
+abbrev pub invariant-loop-v : goal.invariant-loop-v
+invariant-loop-v l = CollectingTo l.priorities l.p.0 l.within l.into l.initial.work l.walk l.work
 
-abbrev pub decreases-loop-member : goal.decreases-loop-member
-decreases-loop-member l = length (left (words_at (length l.priorities) l.within l.initial.work) l.walk)
+abbrev pub decreases-loop-v : goal.decreases-loop-v
+decreases-loop-v l = length (left (words_at (length l.priorities) l.within l.initial.work) l.walk)

@@ -6,10 +6,10 @@ use Rattle.area.specs.Area.{words_at}
 use Rattle.highest_priority.specs.Extending.{ExtendingTo}
 use Rattle.highest_priority.proofs.highest.extend_lowest.Given as goal
 
-abbrev pub invariant-loop-member : goal.invariant-loop-member
-invariant-loop-member l =
+abbrev pub invariant-loop-v : goal.invariant-loop-v
+invariant-loop-v l =
     ExtendingTo l.owners l.offsets l.targets l.alpha l.base l.from l.initial.work l.walk l.work
 
-abbrev pub decreases-loop-member : goal.decreases-loop-member
-decreases-loop-member l =
+abbrev pub decreases-loop-v : goal.decreases-loop-v
+decreases-loop-v l =
     length (left (words_at (length l.owners) l.from l.initial.work) l.walk)

@@ -1,6 +1,5 @@
 -- `altered_vertices` meets its contract. The loop's invariant: the vertices passed that keep no edge are counted.
 use mathlib.Core.Path.{◌≡◌, refl, sym}
-use Prim.Native.Nat.{◌-◌}
 use native.Mathlib.Omega.{arith}
 use lib.ListN.{length}
 use Rattle.rules.specs.Counting.{count}

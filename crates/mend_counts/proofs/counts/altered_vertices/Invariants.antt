@@ -1,6 +1,6 @@
 -- `altered_vertices` meets its contract. The loop's invariant: the vertices passed that keep no edge are counted.
 use mathlib.Core.Path.{◌≡◌}
-use Prim.Native.Nat.{◌≤◌, ◌-◌}
+use Prim.Native.Nat.{◌≤◌}
 use lib.ListN.{length}
 use Rattle.rules.specs.Counting.{count}
 use Rattle.rules.specs.Mending.{altered}

@@ -1,6 +1,6 @@
 -- `kept_edges` meets its contract. The loop's invariant: of the edges passed those that lead to a vertex are counted.
 use mathlib.Core.Path.{◌≡◌}
-use Prim.Native.Nat.{◌≤◌, ◌+◌, ◌-◌}
+use Prim.Native.Nat.{◌≤◌, ◌+◌}
 use lib.ListN.{length, get_or}
 use Rattle.mend_counts.specs.Bare.{bare}
 use Rattle.mend_counts.specs.Steps.{kept_from}

@@ -1,6 +1,6 @@
 -- `write_priorities` meets its contract. The loop's invariant: the new priorities of the vertices passed are written.
 use mathlib.Core.Path.{◌≡◌, sym}
-use Prim.Native.Nat.{◌<◌, ◌-◌}
+use Prim.Native.Nat.{◌<◌}
 use native.Mathlib.Omega.{arith}
 use lib.ListN.{length}
 use Rattle.rules.specs.Counting.{listed}

@@ -1,7 +1,7 @@
 -- `write_altered` meets its contract. The loop's invariant: the altered vertices passed are written, each with its old priority.
 use mathlib.Core.Bool.{true}
 use mathlib.Core.Path.{◌≡◌, sym, ◌∙◌}
-use Prim.Native.Nat.{◌<◌, ◌+◌, ◌-◌}
+use Prim.Native.Nat.{◌<◌, ◌+◌}
 use native.Mathlib.Omega.{arith}
 use lib.ListN.{length, get_or, length-set}
 use Rattle.rules.specs.Mending.{altered, altered_up_to}

@@ -1,6 +1,6 @@
 -- `write_altered` meets its contract. The loop's invariant: the altered vertices passed are written, each with its old priority.
 use mathlib.Core.Path.{◌≡◌}
-use Prim.Native.Nat.{◌≤◌, ◌-◌}
+use Prim.Native.Nat.{◌≤◌}
 use lib.ListN.{length}
 use Rattle.rules.specs.Mending.{altered_up_to}
 use Rattle.rules.specs.Tables.{tables_of}

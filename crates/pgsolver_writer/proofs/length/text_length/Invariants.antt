@@ -1,6 +1,6 @@
 -- `text_length` meets its contract. The loop's invariant: the sum is what the header and the records passed need.
 use mathlib.Core.Path.{◌≡◌}
-use Prim.Native.Nat.{◌+◌, ◌-◌, ◌≤◌}
+use Prim.Native.Nat.{◌+◌, ◌≤◌}
 use lib.ListN.{length}
 use Rattle.rules.specs.Tables.{tables_of}
 use Rattle.rules.specs.Writing.{records_text, header_text}

@@ -1,5 +1,4 @@
 -- `best_of` meets its contract: no edge before place e leads higher than level `highest` - 1.
-use Prim.Native.Nat.{◌-◌}
 use Rattle.promotion_escape.specs.Escapes.{sets_from}
 use Rattle.promotion_escape.specs.Highest.{HighestTo}
 use Rattle.promotion_escape.proofs.escape.best_of.Given as goal

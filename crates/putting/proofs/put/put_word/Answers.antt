@@ -1,20 +1,20 @@
--- `put_word` meets its contract. The loop's invariant: the entries passed are put.
-use mathlib.Core.Path.{refl}
-use Prim.Native.Nat.{◌-◌}
-use native.Mathlib.Omega.{arith}
-use lib.ListN.{get_or}
-use Rattle.putting.specs.Puts.{putting_none, putting_more, putting_all}
-use borrow.Author.Rules.{rules}
+-- `put_word` meets its contract: the part that is written becomes the word, and the rest stays.
+use Rattle.std.proofs.Common.{◌+◌, ◌-◌, refl, ap, ◌∙◌, ◌++◌, arith, length, take, le_refl}
+use Rattle.std.proofs.Math.Seq.{take-length}
+use Rattle.std.proofs.lemmas.List.Edits.{length-paste, drop-paste, take-paste}
+use Rattle.std.proofs.lemmas.Slice.{put_mid-paste}
 use Rattle.putting.proofs.put.put_word.Goals as goal
 
-pub loop-i-init : goal.loop-i-init
-loop-i-init c = (search rules, putting_none c.args.at c.args.word.now c.args.out.now c.requires)
-
-pub loop-i-preserved : goal.loop-i-preserved
-loop-i-preserved c =
-    let at = c.before.before.before in
-    let b = get_or at.args.word.now at.loop-i.i 0 in
-    (search rules, putting_more b at.loop-i.invariant.1 (omega arith) refl)
-
 pub returns : goal.returns
-returns c = putting_all c.loop-i.invariant.1 (omega arith)
+returns c =
+    let out = c.args.out.now in
+    let word = c.args.word.now in
+    let at = c.args.at in
+    let n = length word in
+    rw (put_mid-paste at (at + n - at) out c.copy_from_slice.new.self word n c.copy_from_slice.ensures.after (omega arith) refl)
+    (record {
+      place = refl;
+      front = take-paste out at word n (omega arith) (le_refl n) ∙ ap (λ w. take at out ++ w) (take-length word);
+      rest = drop-paste out at word n (omega arith) (le_refl n);
+      long = length-paste out at word n (omega arith) (le_refl n);
+    })

@@ -9,6 +9,4 @@ difference_with-requires c =
     record { into_fits = search rules; from_fits = search rules; apart = inl (search rules) }
 
 pub returns : goal.returns
-returns c =
-    let reduced = c.before.before.before in
-    record { reduced = rw reduced.next_level-up.ensures at reduced.difference_with.ensures; keeps = refl; drops = refl }
+returns c = record { reduced = rw c.next_level-up.ensures at c.difference_with.ensures; keeps = refl; drops = refl }

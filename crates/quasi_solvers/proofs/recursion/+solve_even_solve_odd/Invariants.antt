@@ -12,18 +12,18 @@ decreases-solve_even l = l.height
 abbrev pub decreases-solve_odd : goal.decreases-solve_odd
 decreases-solve_odd l = l.height
 
-abbrev pub invariant-solve_even-loop-passes : goal.invariant-solve_even-loop-passes
-invariant-solve_even-loop-passes l =
+abbrev pub invariant-solve_even-loop-p : goal.invariant-solve_even-loop-p
+invariant-solve_even-loop-p l =
     PassesGoing (tables_of l.owners l.priorities l.offsets l.targets) Even l.base l.e l.o l.half l.initial.work l.passes l.work
 
-abbrev pub decreases-solve_even-loop-passes : goal.decreases-solve_even-loop-passes
-decreases-solve_even-loop-passes l =
+abbrev pub decreases-solve_even-loop-p : goal.decreases-solve_even-loop-p
+decreases-solve_even-loop-p l =
     to_go (length l.owners) l.base l.work l.passes
 
-abbrev pub invariant-solve_odd-loop-passes : goal.invariant-solve_odd-loop-passes
-invariant-solve_odd-loop-passes l =
+abbrev pub invariant-solve_odd-loop-p : goal.invariant-solve_odd-loop-p
+invariant-solve_odd-loop-p l =
     PassesGoing (tables_of l.owners l.priorities l.offsets l.targets) Odd l.base l.o l.e l.half l.initial.work l.passes l.work
 
-abbrev pub decreases-solve_odd-loop-passes : goal.decreases-solve_odd-loop-passes
-decreases-solve_odd-loop-passes l =
+abbrev pub decreases-solve_odd-loop-p : goal.decreases-solve_odd-loop-p
+decreases-solve_odd-loop-p l =
     to_go (length l.owners) l.base l.work l.passes

@@ -1,7 +1,7 @@
 -- `check_identifiers` meets its contract. The loop's invariant: each identifier passed was seen once.
 use mathlib.Core.Bool.{Bool, not}
 use mathlib.Core.List.{List}
-use Prim.Native.Nat.{ℕ, ◌≤◌, ◌-◌}
+use Prim.Native.Nat.{ℕ}
 use lib.Dec.{eqb}
 use lib.ListN.{get_or}
 use Rattle.grammar.specs.Waiting.{seen}
@@ -12,7 +12,4 @@ abbrev pub wrong : List ℕ → ℕ → Bool
 wrong offsets i = not (eqb (seen (get_or offsets i 0)) 1)
 
 abbrev pub invariant-loop-i : goal.invariant-loop-i
-invariant-loop-i l = (l.i ≤ l.n) × FailsBelow l.i (wrong l.offsets)
-
-abbrev pub decreases-loop-i : goal.decreases-loop-i
-decreases-loop-i l = l.n - l.i
+invariant-loop-i l = FailsBelow l.i (wrong l.offsets)

@@ -3,6 +3,4 @@ use Rattle.reading_rooms.specs.Cleared.{cleared_front}
 use Rattle.reading_rooms.proofs.clear.clear_work.Goals as goal
 
 pub returns : goal.returns
-returns c =
-    let start = c.before.before.before.before.before.before in
-    cleared_front start.args.used start.args.work.now _ start.requires c.clear.ensures
+returns c = cleared_front c.args.used c.args.work.now _ c.requires c.clear.ensures

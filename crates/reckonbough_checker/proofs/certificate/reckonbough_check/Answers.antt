@@ -1,89 +1,30 @@
 -- `reckonbough_check` meets its contract: the record is checked first, and past that what is told and left is what `check`
 -- answers and leaves for the entries that count.
-use mathlib.Core.Path.{◌≡◌}
+use mathlib.Core.Path.{sym}
+use Prim.Native.Nat.{◌+◌}
 use native.Mathlib.Omega.{arith}
-use mathlib.Core.List.{List}
-use Prim.Native.Nat.{ℕ}
-use Rattle.rules.specs.Checker.{Checks}
-use Rattle.rules.specs.Outcome.{Outcome, none}
-use Rattle.rules.specs.Record.{Record, record_of, record_checks}
-use Rattle.rules.specs.Tables.{Tables}
-use Rattle.theory.specs.Edits.{Roomy}
-use Rattle.record.specs.ByRecord.{refused_first, passed, passed_room, passed_accepted, passed_kept, done_past}
-use Rattle.reckonbough_checker.proofs.certificate.reckonbough_check.Lts as lts
-use Rattle.reckonbough_checker.proofs.certificate.reckonbough_check.Reads as reads
-use Rattle.reckonbough_checker.proofs.certificate.reckonbough_check.Tie as tie
+use Rattle.std.proofs.Common.{length-take}
+use Rattle.theory.specs.Edits.{passing}
 use Rattle.reckonbough_checker.proofs.certificate.reckonbough_check.Goals as goal
 
-abbrev AtAfterNumber : Type 0
-AtAfterNumber = lts.After-number tie.the-claims reads.Pre reads.Post
-
-abbrev AtElse1 : Type 0
-AtElse1 = lts.Else1 tie.the-claims reads.Pre reads.Post
-
-abbrev AtStart : Type 0
-AtStart = lts.Start tie.the-claims reads.Pre reads.Post
-
-abbrev start : AtAfterNumber → AtStart
-start c = c.before.before.before.before.before.before.before.before.before.before.before
-
--- the record, and the work area
-abbrev game : AtStart → Record
-game c =
-    record_of c.args.n c.args.m c.args.owners.now c.args.priorities.now c.args.offsets.now
-    c.args.targets.now
-    c.args.kept.now
-
-abbrev lent : AtStart → List ℕ
-lent c = c.args.work.now
-
--- what it does with tables
-abbrev Does : AtStart → List ℕ → Outcome → Tables → Type 0
-Does c after o t = Checks t c.args.even.now c.args.odd.now c.args.strategy.now (lent c) after o
-
--- past the test the record passes
-ok : (c : AtElse1) → record_checks (game (start c.before)) ≡ none
-ok c =
-    let called = c.check_record-r in
-    passed (game (start c.before)) called.result c.if-number-ne0.false c.number.ensures called.ensures
-
-room : (c : AtElse1) → Roomy (game (start c.before))
-room c = passed_room (game (start c.before)) (ok c)
-
-pub returns-then-number-ne0 : goal.returns-then-number-ne0
-returns-then-number-ne0 c =
-    let test = c.before.before.before.before in
-    let called = test.check_record-r in
-    let at = start test.before in
-    refused_first (game at) (lent at) (Does at (lent at)) called.result test.if-number-ne0.true test.number.ensures
-    called.ensures
-    c.tell.ensures
-
 pub slice_bounds-check-end : goal.slice_bounds-check-end
-slice_bounds-check-end c = (room c.before).owner_room
+slice_bounds-check-end c =
+    omega (arith, length-take c.args.n c.args.owners.now, (passing _ (sym c.in-Ok.ensures)).room.owner_room)
 
-pub slice_bounds-check-end-2 : goal.slice_bounds-check-end-2
-slice_bounds-check-end-2 c = (room c.before.before).priority_room
+pub slice_bounds-check-end-in-Ok : goal.slice_bounds-check-end-in-Ok
+slice_bounds-check-end-in-Ok c =
+    omega (arith, length-take c.args.n c.args.priorities.now, (passing _ (sym c.in-Ok.ensures)).room.priority_room)
 
 pub overflow_add-n : goal.overflow_add-n
-overflow_add-n c = record { fits = omega (arith, (room c.before.before.before).few_vertices) }
+overflow_add-n c = omega (arith, (passing _ (sym c.in-Ok.ensures)).room.few_vertices)
 
-pub slice_bounds-check-end-3 : goal.slice_bounds-check-end-3
-slice_bounds-check-end-3 c = (room c.before.before.before).offset_room
+pub slice_bounds-check-end-in-Ok-2 : goal.slice_bounds-check-end-in-Ok-2
+slice_bounds-check-end-in-Ok-2 c =
+    omega (arith, length-take (c.args.n + 1) c.args.offsets.now, (passing _ (sym c.in-Ok.ensures)).room.offset_room)
 
-pub slice_bounds-check-end-4 : goal.slice_bounds-check-end-4
-slice_bounds-check-end-4 c = (room c.before.before.before.before).target_room
+pub slice_bounds-check-end-in-Ok-3 : goal.slice_bounds-check-end-in-Ok-3
+slice_bounds-check-end-in-Ok-3 c =
+    omega (arith, length-take c.args.m c.args.targets.now, (passing _ (sym c.in-Ok.ensures)).room.target_room)
 
 pub check-done-requires : goal.check-done-requires
-check-done-requires c =
-    let test = c.before.before.before.before.before.before in
-    let g = game (start test.before) in (passed_accepted g (ok test), passed_kept g (ok test))
-
-pub returns : goal.returns
-returns c =
-    let did = c.before.before.before.before.before.before in
-    let test = did.before.before.before.before.before.before in
-    let at = start test.before in
-    let after : List ℕ = did.check-done.new.work in
-    done_past (game at) (lent at) after (Does at after) did.check-done.result (ok test) did.check-done.ensures
-    c.tell-2.ensures
+check-done-requires c = let p = passing _ (sym c.in-Ok.ensures) in (p.accepted, p.fresh)

@@ -1,19 +1,21 @@
--- `fill_words` meets its contract. The invariant: the first i words are full.
-use mathlib.Core.Path.{◌≡◌}
-use native.Mathlib.Omega.{arith}
-use Prim.Native.Nat.{◌-◌}
+-- `fill_words` meets its contract: one full word after another.
+use Rattle.std.specs.Prelude.{List, ◌++◌, ℕ, zero, suc, ◌*◌, ◌≤◌, ◌<◌, length, drop, replicate}
+use Rattle.std.proofs.Common.{add-one, arith, rules, length-append, length-drop}
+use Rattle.std.proofs.lemmas.List.{length-replicate, length-take-le}
+use Rattle.std.proofs.lemmas.List.Edits.{fill_more}
+use Rattle.set_bits.specs.After.{Filled}
 use Rattle.set_filling.specs.Filling.{filled_none, filled_word}
-use borrow.Author.Rules.{rules}
 use Rattle.set_filling.proofs.filling.fill_words.Goals as goal
 
-pub loop-i-init : goal.loop-i-init
-loop-i-init c = (search rules, filled_none _)
-
-pub loop-i-preserved : goal.loop-i-preserved
-loop-i-preserved c = (search rules, filled_word (omega arith) c.loop-i.invariant.1)
+words_filled : (n : ℕ) (xs : List ℕ) → n ≤ length xs → Filled (64 * n) xs (replicate n 18446744073709551615 ++ drop n xs)
+words_filled zero xs l = filled_none xs
+words_filled (suc n) xs l =
+    let long : n < length (replicate n 18446744073709551615 ++ drop n xs) =
+    grind (arith, length-append, length-replicate, length-drop) in
+    let more = filled_word long (words_filled n xs (omega arith)) in
+    rw (fill_more n 18446744073709551615 xs (omega arith), add-one n) at more
 
 pub returns : goal.returns
 returns c =
-    let l = c.loop-i in
-    let all : l.i ≡ c.args.full = omega arith in
-    rw all at l.invariant.1
+    let long = length-take-le c.args.full c.args.set.now c.requires in
+    rw (c.fill.ensures.after (λ y e. search rules), long) (words_filled c.args.full c.args.set.now c.requires)

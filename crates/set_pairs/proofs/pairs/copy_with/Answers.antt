@@ -1,16 +1,17 @@
--- `copy_with` takes each bit of the other part. The invariant: so far the first i words of the part.
-use mathlib.Core.Path.{refl}
-use Prim.Native.Nat.{◌-◌}
-use Rattle.set_pairs.specs.Wordwise.{upto_none, upto_more, upto_all}
+-- `copy_with` takes each bit of the other part.
+use Rattle.std.proofs.Common.{◌+◌, arith, ap, ◌∙◌, ⊎_elim, get_or}
+use Rattle.rules.specs.Words.{digit}
+use Rattle.set_pairs.specs.Wordwise.{upto_all}
 use Rattle.set_pairs.proofs.pairs.copy_with.Goals as goal
 
-pub loop-i-init : goal.loop-i-init
-loop-i-init c = upto_none
-
-pub loop-i-preserved : goal.loop-i-preserved
-loop-i-preserved c =
-    upto_more _ c.requires c.loop-i-test.true c.loop-i.invariant
-    (λ k m. refl)
-
 pub returns : goal.returns
-returns c = upto_all c.loop-i-test.false c.loop-i.invariant
+returns c =
+    let (copied, below, behind) = c.copy_within.ensures.by_index in
+    upto_all {i = c.args.s} (omega arith) (record {
+      within = omega arith;
+      long = c.copy_within.ensures.len;
+      done = λ k l j m.
+          ap (λ x. digit x j)
+          (copied (c.args.into + k) 0 (omega arith) (omega arith) ∙ ap (λ i. get_or c.args.words.now i 0) (omega arith));
+      rest = λ k o. ⊎_elim (λ h. below k 0 h) (λ h. behind k 0 (omega arith)) o;
+    })

@@ -1,16 +1,10 @@
--- `union_with` takes each bit to the greater of the two. The invariant: so far the first i words of the part.
-use Prim.Native.Nat.{◌-◌}
+-- `union_with` takes each bit to the greater of the two.
+use Rattle.std.specs.Prelude.{◌≡◌, max}
+use Rattle.std.specs.Int.Bits.{bit_or}
+use Rattle.std.proofs.Common.{rules}
 use Rattle.set_bits.specs.Digits.{digit_or}
-use Rattle.set_pairs.specs.Wordwise.{upto_none, upto_more, upto_all}
 use Rattle.set_pairs.proofs.pairs.union_with.Goals as goal
 
-pub loop-i-init : goal.loop-i-init
-loop-i-init c = upto_none
-
-pub loop-i-preserved : goal.loop-i-preserved
-loop-i-preserved c =
-    upto_more _ c.requires c.loop-i-test.true c.loop-i.invariant
-    (λ k m. digit_or _ _ k)
-
 pub returns : goal.returns
-returns c = upto_all c.loop-i-test.false c.loop-i.invariant
+returns c =
+    c.combine.ensures max (λ x y w h l is k m. let word : w ≡ bit_or x y = search rules in rw word (digit_or x y k))

@@ -1,89 +1,57 @@
 -- `solve_solitaire_game` meets its contract: a refusal is returned with nothing written; past the checks the run is done in the first
 -- W words.
-use mathlib.Core.Path.{◌≡◌, ◌∙◌}
+use mathlib.Core.Path.{◌≡◌, refl, sym, ◌∙◌}
 use native.Mathlib.Omega.{arith}
+use Prim.Native.Nat.{ℕ}
 use lib.ListN.{length}
-use Rattle.rules.specs.Outcome.{Outcome, none, outcome, answered}
-use Rattle.rules.specs.Solitaire.{LentSet, solitaire_checks}
-use Rattle.rules.specs.Tables.{Tables, tables_of}
+use Rattle.std.proofs.lemmas.Result.{err_from_is_err_and}
+use Rattle.rules.specs.Outcome.{none}
+use Rattle.rules.specs.Tables.{Tables, Accepted, edges_in, tables_of}
 use Rattle.accepted.specs.Tables.{accepted_sound}
-use Rattle.parity_game.proofs.Matched.{went_on, refusal_not_zero}
+use Rattle.parity_game.specs.Laws.{refused_outcome}
 use Rattle.area.specs.Lent.{work_cleared}
-use Rattle.solitaire_game.specs.Checks.{lent_by, past_tables, numbered_checks, SolitairePassed, checks_passed}
-use Rattle.solitaire_game.specs.Running.{run_ready, solves_refused, solves_answered}
-use Rattle.solitaire_game.proofs.door.solve_solitaire_game.Lts as lts
-use Rattle.solitaire_game.proofs.door.solve_solitaire_game.Reads as reads
-use Rattle.solitaire_game.proofs.door.solve_solitaire_game.Tie as tie
+use Rattle.solitaire_game.specs.Checks.{lent_by, checks_by, checks_passed}
+use Rattle.solitaire_game.specs.Running.{run_ready, solves_answered}
+use Rattle.solitaire_game.proofs.door.solve_solitaire_game.Goals.{In_ok-check_lent}
 use Rattle.solitaire_game.proofs.door.solve_solitaire_game.Goals as goal
 
-abbrev AtElse1 : Type 0
-AtElse1 = lts.Else1 tie.the-claims reads.Pre reads.Post
-
-abbrev AtStart : Type 0
-AtStart = lts.Start tie.the-claims reads.Pre reads.Post
-
--- the tables and what is lent
-abbrev tables : AtStart → Tables
-tables g = tables_of g.args.owners.now g.args.priorities.now g.args.offsets.now g.args.targets.now
-
-abbrev lent : AtStart → LentSet
-lent g = record { set = g.args.set.now; work = g.args.work.now }
-
-abbrev start : AtElse1 → AtStart
-start d = d.before.before.before.before.before.before.before.before.before.before
-
 -- of accepted tables, what is checked is all that is refused
-gave :
-    {o : Outcome} (g : AtStart) →
-    o ≡
-    outcome
-    (lent_by g.args.owners.now (length g.args.targets.now) (length g.args.set.now) (length g.args.work.now))
-    (answered 0) →
-    o ≡ outcome (solitaire_checks (tables g) (lent g)) (answered 0)
-gave g e = e ∙ past_tables (tables g) (length g.args.set.now) (length g.args.work.now) (answered 0) g.requires.0
+all_checks : (t : Tables) (set work : ℕ) → Accepted t → lent_by t.owners (edges_in t) set work ≡ checks_by t set work
+unfolding Accepted
+all_checks t set work accepted = rw accepted
 
--- past the checks
-no_refusal : (d : AtElse1) → solitaire_checks (tables (start d)) (lent (start d)) ≡ none
-no_refusal d =
-    let g = start d in
-    went_on d.check_lent-r.result (solitaire_checks (tables g) (lent g)) d.if-number-ne0.false
-    d.number.ensures (numbered_checks (tables g) (lent g))
-    (gave g d.check_lent-r.ensures)
+no_refusal :
+    (c : In_ok-check_lent) →
+    checks_by (tables_of c.args.owners.now c.args.priorities.now c.args.offsets.now c.args.targets.now) (length c.args.set.now)
+    (length c.args.work.now) ≡
+    none
+no_refusal c = sym (c.in_ok-check_lent.ensures ∙ all_checks _ _ _ c.requires.0)
 
-passed : (d : AtElse1) → let g = start d in SolitairePassed (tables g) (length g.args.set.now) (length g.args.work.now)
-passed d =
-    let g = start d in
-    checks_passed (tables g) (length g.args.set.now) (length g.args.work.now) (no_refusal d)
+pub check_lent-requires : goal.check_lent-requires
+check_lent-requires c = let f = accepted_sound _ c.requires.0 in (f.few_vertices, f.few_edges)
 
-pub check_lent-r-requires : goal.check_lent-r-requires
-check_lent-r-requires c =
-    let g = c.before.before.before.before.before.before.before.before in
-    let f = accepted_sound (tables g) g.requires.0 in (f.few_vertices, f.few_edges)
-
-pub returns-then-number-ne0 : goal.returns-then-number-ne0
-returns-then-number-ne0 c =
-    let g = c.before.before.before.before.before.before.before.before.before.before.before in
-    solves_refused (tables g) (lent g) _ (gave g c.check_lent-r.ensures)
-    (refusal_not_zero c.check_lent-r.result c.if-number-ne0.true c.number.ensures)
+pub returns-in_err-check_lent : goal.returns-in_err-check_lent
+returns-in_err-check_lent c =
+    let e = c.in_err-check_lent.ensures ∙ all_checks _ (length c.args.set.now) (length c.args.work.now) c.requires.0 in
+    let p = err_from_is_err_and c.from_residual.result c.from_residual.ensures.1 in
+    rw (p.1, p.2) (record { gives = refused_outcome c.in_err-check_lent.field-0.0 _ _ e; leaves = rw (sym e) refl })
 
 pub work_words-w-requires : goal.work_words-w-requires
-work_words-w-requires c =
-    let f = accepted_sound (tables (start c.before)) (passed c.before).accepted in (f.few_vertices, f.few_edges)
+work_words-w-requires c = let f = accepted_sound _ c.requires.0 in (f.few_vertices, f.few_edges)
 
 pub slice_bounds-run-end : goal.slice_bounds-run-end
-slice_bounds-run-end c = omega (arith, (passed c.before.before.before).work_size, c.work_words-w.ensures)
+slice_bounds-run-end c =
+    omega (arith, c.work_words-w.ensures, (checks_passed _ _ _ (no_refusal (goal.at.slice_bounds-run-end c).In_ok-check_lent)).work_size)
 
 pub run-requires : goal.run-requires
-run-requires c =
-    let g = c.before.before.before.before.before.before.before.before.before.before.before.before.before.before in
-    let w = c.work_words-w in
-    (run_ready (tables g) w.result g.args.set.now g.args.work.now w.ensures (passed c.before.before.before.before), g.requires.1)
+run-requires c = (
+  run_ready _ _ _ _ c.work_words-w.ensures (checks_passed _ _ _ (no_refusal (goal.at.run-requires c).In_ok-check_lent)),
+  c.requires.1,
+)
 
 pub returns : goal.returns
 returns c =
-    let g = c.before.before.before.before.before.before.before.before.before.before.before.before.before.before.before.before.before.before.before in
-    let d = c.before.before.before.before.before.before.before.before.before in
-    let w = c.work_words-w in
-    let ran = c.run in
-    solves_answered (tables g) (lent g) (record { set = ran.new.set; work = _ }) (no_refusal d) ran.ensures.1
-    (work_cleared (tables g) w.result g.args.work.now _ w.ensures (passed d).work_size ran.ensures.0)
+    let passed = no_refusal (goal.at.returns c).In_ok-check_lent in
+    let t = tables_of c.args.owners.now c.args.priorities.now c.args.offsets.now c.args.targets.now in
+    solves_answered t _ _ passed c.run.ensures.1
+    (work_cleared t _ _ _ c.work_words-w.ensures (checks_passed _ _ _ passed).work_size c.run.ensures.0)

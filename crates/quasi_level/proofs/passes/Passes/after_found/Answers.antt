@@ -1,38 +1,34 @@
 -- `after_found` meets its contract: the stage by its tests, and both answers kept all or not.
-use mathlib.Core.Bool.{Bool, ◌&&◌}
-use mathlib.Core.Path.{◌≡◌, refl, sym, ap, ◌∙◌}
-use Rattle.quasi_level.specs.Standing.{found_first, found_ends, found_later}
-use Rattle.quasi_level.proofs.passes.Passes.after_found.Lts as lts
-use Rattle.quasi_level.proofs.passes.Passes.after_found.Reads as reads
+use mathlib.Core.Bool.{◌&&◌}
+use mathlib.Core.Path.{◌≡◌, refl, ap, ◌∙◌}
+use Rattle.quasi_level.specs.Standing.{stage_number, not_half, found_first, found_ends, found_later}
 use Rattle.quasi_level.proofs.passes.Passes.after_found.Goals as goal
-use Rattle.quasi_level.proofs.passes.Passes.after_found.Goals.{then-self, else-self}
-
-abbrev AtJoined1 : Type 0
-AtJoined1 = lts.Joined1 reads.Pre reads.Post
+use Rattle.quasi_level.proofs.passes.Passes.after_found.Goals.{then-self, else-self, Joined-self}
 
 -- what is kept where the two meet
-kept : (c : AtJoined1) → c.if-self.keeps ≡ (c.args.self.keeps && c.args.sub.drops)
+kept : (c : Joined-self) → c.if-self.keeps ≡ (c.args.self.keeps && c.args.sub.drops)
 kept c =
     elim c.if-self.branch [
-      | then-self w ↦ w.keeps-is ∙ sym (ap (λ (b : Bool). b && c.args.sub.drops) w.if-self.true)
-      | else-self w ↦ w.keeps-is ∙ w.if-self.false ∙ sym (ap (λ (b : Bool). b && c.args.sub.drops) w.if-self.false)
+      | then-self w ↦ w.keeps-is ∙ rw w.if-self.true refl
+      | else-self w ↦ w.keeps-is ∙ rw w.if-self.false refl
     ]
 
-pub returns-then-self-eq0 : goal.returns-then-self-eq0
-returns-then-self-eq0 c = record { stage = found_first _ _ _ c.if-self-eq0.true; keeps = kept c.before.before; drops = refl }
+pub returns-in-Half : goal.returns-in-Half
+returns-in-Half c =
+    record { stage = found_first _ _ _ (ap stage_number c.in-Half.is); keeps = kept c.before; drops = refl }
 
-pub returns-then-half-eq0 : goal.returns-then-half-eq0
-returns-then-half-eq0 c =
+pub returns-in_default : goal.returns-in_default
+returns-in_default c =
     record {
-      stage = found_ends _ _ _ c.if-self-eq0.false c.if-half-eq0.true;
-      keeps = kept c.before.before.before;
+      stage = found_ends _ _ _ (not_half _ c.in_default.not-Half) c.if-half-eq0.true;
+      keeps = kept c.before.before;
       drops = refl;
     }
 
-pub returns : goal.returns
-returns c =
+pub returns-in_default-2 : goal.returns-in_default-2
+returns-in_default-2 c =
     record {
-      stage = found_later _ _ _ c.if-self-eq0.false c.if-half-eq0.false;
+      stage = found_later _ _ _ (not_half _ c.in_default.not-Half) c.if-half-eq0.false;
       keeps = kept c.before.before.before;
       drops = refl;
     }

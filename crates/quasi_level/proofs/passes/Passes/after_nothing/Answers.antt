@@ -1,17 +1,14 @@
--- `after_nothing` meets its contract: the stage by its tests.
-use mathlib.Core.Path.{refl, sym}
-use Rattle.quasi_level.specs.Standing.{nothing_sharp, nothing_first, nothing_later}
+-- `after_nothing` meets its contract, by the stage.
+use mathlib.Core.Path.{refl, ap}
+use Rattle.quasi_level.specs.Standing.{stage_number, not_half, nothing_sharp, nothing_first, nothing_later}
 use Rattle.quasi_level.proofs.passes.Passes.after_nothing.Goals as goal
 
 pub returns-then-sub : goal.returns-then-sub
-returns-then-sub c = record { stage = nothing_sharp _ _ _ c.if-sub.true; keeps = refl; drops = sym c.if-sub.true }
+returns-then-sub c = record { stage = nothing_sharp _ _ _ c.if-sub.true; keeps = refl; drops = refl }
 
-pub returns-then-self-eq0 : goal.returns-then-self-eq0
-returns-then-self-eq0 c =
-    let e = c.if-sub.false in
-    record { stage = nothing_first _ _ _ e c.if-self-eq0.true; keeps = refl; drops = sym e }
+pub returns-in-Half : goal.returns-in-Half
+returns-in-Half c = record { stage = nothing_first _ _ _ c.if-sub.false (ap stage_number c.in-Half.is); keeps = refl; drops = refl }
 
-pub returns : goal.returns
-returns c =
-    let e = c.if-sub.false in
-    record { stage = nothing_later _ _ _ e c.if-self-eq0.false; keeps = refl; drops = sym e }
+pub returns-in_default-2 : goal.returns-in_default-2
+returns-in_default-2 c =
+    record { stage = nothing_later _ _ _ c.if-sub.false (not_half _ c.in_default-2.not-Half); keeps = refl; drops = refl }

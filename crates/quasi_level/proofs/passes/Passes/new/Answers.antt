@@ -6,5 +6,5 @@ use Rattle.quasi_level.proofs.passes.Passes.new.Goals as goal
 pub returns-then-half-eq0 : goal.returns-then-half-eq0
 returns-then-half-eq0 c = record { stage = first_full c.if-half-eq0.true; keeps = refl; drops = refl }
 
-pub returns : goal.returns
-returns c = record { stage = first_half c.if-half-eq0.false; keeps = refl; drops = refl }
+pub returns-else-half-eq0 : goal.returns-else-half-eq0
+returns-else-half-eq0 c = record { stage = first_half c.if-half-eq0.false; keeps = refl; drops = refl }

@@ -5,13 +5,7 @@ use Rattle.walk.specs.Steps.{left_first, left_none}
 use Rattle.walk.proofs.members.Members.new.Goals as goal
 
 pub returns-then-s-eq0 : goal.returns-then-s-eq0
-returns-then-s-eq0 c =
-    let g = c.before in
-    let a = g.args in
-    (left_none a.s a.base a.work.now g.requires c.if-s-eq0.true, refl)
+returns-then-s-eq0 c = (left_none c.args.s c.args.base c.args.work.now c.requires c.if-s-eq0.true, refl)
 
 pub returns : goal.returns
-returns c =
-    let g = c.before.before.before in
-    let a = g.args in
-    (left_first a.s a.base a.work.now g.requires (omega (arith, c.if-s-eq0.false)), refl)
+returns c = (left_first c.args.s c.args.base c.args.work.now c.requires (omega arith), refl)

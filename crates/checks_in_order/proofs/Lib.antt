@@ -1,0 +1,2 @@
+-- What the check of the lengths leaves of them.
+pub mod Lengths

@@ -1,7 +1,0 @@
--- `reckonbough_read_portion` meets its contract: what is told and written is what `read_portion` answers and writes.
-use Rattle.reckonbough_portions.proofs.portions.reckonbough_read_portion.Goals as goal
-
-pub returns : goal.returns
-returns c =
-    let called = c.before.before.before.before.before.before.before.before.before.before.before.before.before.before in
-    rw (← c.tell.ensures) called.read_portion.ensures
