@@ -17,7 +17,8 @@ fn count_call(calls: u64, cap: u64) -> Option<u64>
 }
 
 // No priority in V is above `top`; at most `cap` calls are made in all. It gives the calls made so far, or None where
-// the cap does not allow them. A nested call on an empty set is counted and not made, which would cost more than its work.
+// the cap does not allow them. A nested call on an empty set is counted and not made, which would cost more than its
+// work.
 pub fn zielonka_rec(
     owners: &[u8],
     priorities: &[u16],
