@@ -47,6 +47,13 @@ module _ (t : Tables) (accepted : Accepted t) where
   unfolding Accepted
   past_tables even odd strategy work o = rw accepted
 
+  -- so what is checked of what is lent is all that 1 to 10 refuse
+  pub all_checks :
+      (even odd strategy work : ℕ) →
+      lent_by (vertices t) (edges_in t) even odd strategy work ≡ checks_by t even odd strategy work
+  unfolding Accepted
+  all_checks even odd strategy work = rw accepted
+
   -- whose sizes are what the work area's size is worked out for
   pub sizes_few : (vertices t ≤ 4096) × (edges_in t ≤ 16384)
   sizes_few = let s = accepted_sound t accepted in (s.few_vertices, s.few_edges)

@@ -6,22 +6,13 @@ use Rattle.rules.specs.Counting.{Set}
 use Rattle.rules.specs.Game.{Player}
 use Rattle.rules.specs.Outcome.{budgeted}
 use Rattle.rules.specs.Solver.{Lent, solver_checks, Solves}
-use Rattle.rules.specs.Tables.{Tables, vertices, edges_in, Accepted}
+use Rattle.rules.specs.Tables.{Tables}
 use Rattle.parity_game.specs.declared.refusal.Refusal.{Refusal}
-use Rattle.parity_game.specs.Laws.{refused_is_some}
 use Rattle.parity_game.specs.Said.{verdict, refusal_of}
-use Rattle.parity_game.specs.Laws.{refused_outcome}
-use Rattle.lent_checks.specs.Checks.{lent_by, checks_by}
+use Rattle.parity_game.specs.Laws.{refused_is_some, refused_outcome}
 use Rattle.solver.specs.declared.unsolved.Unsolved.TheVariants.{OverBudget}
 use Rattle.solver.specs.Running.{leaves_refused, ran_outcome}
 use Rattle.solver.specs.Unsolved.{said}
-
--- of accepted tables 9 and 10 are all the checks
-pub all_checks :
-    (t : Tables) (even odd strategy work : ℕ) → Accepted t →
-    lent_by (vertices t) (edges_in t) even odd strategy work ≡ checks_by t even odd strategy work
-unfolding Accepted
-all_checks t even odd strategy work accepted = rw accepted
 
 -- what the checks refuse is given, and nothing is written
 pub refused_before :

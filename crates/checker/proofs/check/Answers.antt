@@ -7,24 +7,17 @@ use Rattle.std.proofs.lemmas.Result.{err_from_is_err_and}
 use Rattle.rules.specs.Outcome.{none, answered}
 use Rattle.rules.specs.Tables.{Tables, Accepted, vertices, edges_in, tables_of}
 use Rattle.parity_game.specs.Laws.{refused_outcome}
-use Rattle.lent_checks.specs.Checks.{lent_by, checks_by, sizes_few}
+use Rattle.lent_checks.specs.Checks.{checks_by, all_checks, sizes_few}
 use Rattle.checker.specs.Checks.{certify_given, checks_done}
 use Rattle.checker.proofs.check.Goals.{In_ok-check_lent}
 use Rattle.checker.proofs.check.Goals as goal
-
--- of accepted tables, what is checked of what is lent is all that is refused before the kinds
-all_checks :
-    (t : Tables) (even odd strategy work : ℕ) → Accepted t →
-    lent_by (vertices t) (edges_in t) even odd strategy work ≡ checks_by t even odd strategy work
-unfolding Accepted
-all_checks t even odd strategy work accepted = rw accepted
 
 ok :
     (c : In_ok-check_lent) →
     checks_by (tables_of c.args.owners.now c.args.priorities.now c.args.offsets.now c.args.targets.now) (length c.args.even.now)
     (length c.args.odd.now) (length c.args.strategy.now) (length c.args.work.now) ≡
     none
-ok c = sym (c.in_ok-check_lent.ensures ∙ all_checks _ _ _ _ _ c.requires.0)
+ok c = sym (c.in_ok-check_lent.ensures ∙ all_checks _ c.requires.0 _ _ _ _)
 
 pub check_lent-requires : goal.check_lent-requires
 check_lent-requires c = sizes_few _ c.requires.0
@@ -34,7 +27,7 @@ returns-in_err-check_lent c =
     let p = err_from_is_err_and c.from_residual.result c.from_residual.ensures.1 in
     let e =
     c.in_err-check_lent.ensures ∙
-    all_checks _ (length c.args.even.now) (length c.args.odd.now) (length c.args.strategy.now) (length c.args.work.now) c.requires.0 in
+    all_checks _ c.requires.0 (length c.args.even.now) (length c.args.odd.now) (length c.args.strategy.now) (length c.args.work.now) in
     rw (p.1, p.2)
     (record { gives = rw (sym e) (refused_outcome c.in_err-check_lent.field-0.0 _ (answered 0) refl); work = rw (sym e) refl })
 
