@@ -3,7 +3,7 @@ use Rattle.std.specs.Prelude.{Bool, true, false, ◌&&◌, cond, List, ◌≡◌
 use Rattle.std.proofs.Math.Bool.{not}
 use Rattle.std.proofs.Common.{inr, ◌∙◌, mul-suc, arith, ne_eqb, lt-ltb, length-append, length-drop, ext_get_or, get_or-drop, get_or-append-add}
 use Rattle.std.proofs.Math.Logic.{⊎_elim}
-use Rattle.std.proofs.Math.Path.{refl, sym, ap, subst, fun_ext}
+use Rattle.std.proofs.Math.Path.{refl, sym, ap, ap₂, subst, fun_ext}
 use Rattle.std.proofs.lemmas.List.{length-replicate, get_or-replicate}
 use Rattle.std.proofs.Math.ListN.{get_or-append}
 use Rattle.rules.specs.Counting.{Set, some}
@@ -22,7 +22,7 @@ use Rattle.theory.specs.Dominion.{owner_cases}
 use Rattle.basics.specs.Greatest.{greatest_le}
 use Rattle.basics.specs.Frame.{Behind, Unchanged}
 use Rattle.accepted.specs.Tables.{accepted_total, accepted_priority}
-use Rattle.parity_game.specs.Laws.{accepted_sound, outcome_pass}
+use Rattle.parity_game.specs.Laws.{accepted_sound, outcome_pass, refused_is_some}
 use Rattle.parity_game.specs.Laws.{Numbered, numbered_given_at}
 use Rattle.predecessors.specs.Whole.{accepted_edges}
 use Rattle.lent_checks.specs.Checks.{checks_by, checks_passed}
@@ -56,6 +56,20 @@ pub record Certifies (t : Tables) (even odd strategy before after : List ℕ) (v
   pub gives : v ≡ certificate_checks (game_of t) even odd strategy
   pub long : length after ≡ length before
   pub beyond : Unchanged (Behind (work_words (vertices t) (edges_in t))) before after
+
+-- 21, 22 or 25, and 23 as the code makes them, and what they ask for
+abbrev pub kinds : List ℕ → List ℕ → List ℕ → List ℕ → List ℕ → List ℕ → Verdict
+kinds owners offsets targets even odd strategy =
+    check21 (length owners) even odd then
+    (given_at (entry_number strategy) (length owners) (wrong_entry owners offsets targets even strategy) then
+    given_at 23 (length owners) (leaves_set owners offsets targets even strategy))
+
+pub record KindsReady (owners offsets targets even odd strategy : List ℕ) : Type 0 where
+  pub sets : Sets (length owners) even odd
+  pub entries : EntriesGiven owners offsets targets even strategy
+  pub sides :
+      none ≡ given_at (entry_number strategy) (length owners) (wrong_entry owners offsets targets even strategy) →
+      Sided owners offsets targets even strategy
 
 -- ---- 24
 
@@ -203,6 +217,17 @@ words_few : (n : ℕ) → n ≤ 4096 → words n ≤ 64
 unfolding words
 words_few n l = omega arith
 
+stopped : (a b c w v : Verdict) → (v ≡ none → ⊥) → v ≡ (a then (b then c)) → v ≡ (a then (b then (c then w)))
+stopped none none none w v h e = absurd (h e)
+stopped none none (refused k p) w v h e = e
+stopped none (refused k p) c w v h e = e
+stopped (refused k p) b c w v h e = e
+
+passed : (a b c : Verdict) → none ≡ (a then (b then c)) → (a ≡ none) × (b ≡ none) × (c ≡ none)
+passed none none c e = (refl, refl, sym e)
+passed none (refused k p) c e = absurd (refused_is_some (sym e))
+passed (refused k p) b c e = absurd (refused_is_some (sym e))
+
 module _ {t : Tables} {even odd strategy before : List ℕ} (given : Certifiable t even odd strategy before) where
   abbrev vs : ℕ
   vs = vertices t
@@ -246,6 +271,10 @@ module _ {t : Tables} {even odd strategy before : List ℕ} (given : Certifiable
             ((accepted_total t given.accepted).ends v (entry strategy v) edge);
       }
 
+  -- all of that is so of what is lent
+  pub kinds_ready : KindsReady t.owners t.offsets t.targets even odd strategy
+  kinds_ready = record { sets = partition_ready; entries = entries_ready; sides = λ ok. sides_ready (sym (ok ∙ check22_is)) }
+
   pub cycles_given :
       check22 (game_of t) even strategy ≡ none → check23 (game_of t) even strategy ≡ none → CyclesReady t even strategy before
   cycles_given ok22 ok23 =
@@ -269,6 +298,26 @@ module _ {t : Tables} {even odd strategy before : List ℕ} (given : Certifiable
   pub certify_stops : {v : Verdict} → v ≡ in_order → Certifies t even odd strategy before before v
   unfolding certificate_checks game_of
   certify_stops e = record { gives = e; long = refl; beyond = λ i l. refl }
+
+  -- the kinds before 24, in the words of the rule
+  kinds_are :
+      kinds t.owners t.offsets t.targets even odd strategy ≡
+      check21 vs even odd then (check22 (game_of t) even strategy then check23 (game_of t) even strategy)
+  kinds_are = ap₂ (λ (v w : Verdict). check21 vs even odd then (v then w)) check22_is check23_is
+
+  -- one of those applies
+  pub kinds_stop :
+      {v : Verdict} → (v ≡ none → ⊥) → v ≡ kinds t.owners t.offsets t.targets even odd strategy → Certifies t even odd strategy before before v
+  kinds_stop h e =
+      certify_stops
+      (stopped (check21 vs even odd) (check22 (game_of t) even strategy) (check23 (game_of t) even strategy) (check24 (game_of t) even strategy) _ h
+      (e ∙ kinds_are))
+
+  -- none applies
+  pub kinds_pass :
+      none ≡ kinds t.owners t.offsets t.targets even odd strategy →
+      (check21 vs even odd ≡ none) × (check22 (game_of t) even strategy ≡ none) × (check23 (game_of t) even strategy ≡ none)
+  kinds_pass e = passed (check21 vs even odd) (check22 (game_of t) even strategy) (check23 (game_of t) even strategy) (e ∙ kinds_are)
 
 -- ---- the whole
 

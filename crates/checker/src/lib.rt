@@ -7,13 +7,30 @@ mod cycles;
 ghost use Rattle.std.specs.Prelude.{◌≡◌};
 ghost use Rattle.parity_game.specs.Said.{said, verdict};
 ghost use Rattle.rules.specs.Checker.{Checks};
-ghost use Rattle.checker.specs.Checks.{Certifiable, Certifies};
+ghost use Rattle.checker.specs.Checks.{Certifiable, Certifies, KindsReady, kinds};
 ghost use Rattle.rules.specs.Record.{fresh_count};
 ghost use Rattle.rules.specs.Tables.{tables_of, Accepted};
 
 use parity_game::{Answer, Checked};
 
-// The kinds 21, 22 or 25, 23 and 24, in this order.
+// The kinds 21, 22 or 25, and 23, in this order: those that need no work area.
+fn check_kinds(
+    owners: &[u8],
+    offsets: &[u16],
+    targets: &[u16],
+    even: &[u64],
+    odd: &[u64],
+    strategy: &[u16],
+) -> Checked
+    requires { KindsReady owners.now offsets.now targets.now even.now odd.now strategy.now }
+    ensures { verdict result ≡ kinds owners.now offsets.now targets.now even.now odd.now strategy.now }
+{
+    checker_partition::check_partition(owners.len(), even, odd)?;
+    checker_entries::check_entries(owners, offsets, targets, even, strategy)?;
+    checker_sides::check_sides(owners, offsets, targets, even, strategy)
+}
+
+// Those, and 24 behind them.
 fn certify(
     owners: &[u8],
     priorities: &[u16],
@@ -31,9 +48,7 @@ fn certify(
         targets.now) even.now odd.now
         strategy.now work.old work.new (verdict result) }
 {
-    checker_partition::check_partition(owners.len(), even, odd)?;
-    checker_entries::check_entries(owners, offsets, targets, even, strategy)?;
-    checker_sides::check_sides(owners, offsets, targets, even, strategy)?;
+    check_kinds(owners, offsets, targets, even, odd, strategy)?;
     cycles::check_cycles(
         owners, priorities, offsets, targets, kept, even, strategy, work,
     )

@@ -62,6 +62,9 @@ pub fn fresh(priorities: &[u16]) -> [u64; KEPT]
 pub fn check_kept(priorities: &[u16], kept: &[u64]) -> Checked
     ensures { verdict result ≡ kept_check priorities.now kept.now }
 {
+    if kept.len() != KEPT {
+        return Err(Refusal::KeptDiffer);
+    }
     let count = fresh(priorities);
     if kept != count.as_slice() {
         return Err(Refusal::KeptDiffer);

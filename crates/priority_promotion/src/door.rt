@@ -15,7 +15,7 @@ use promotion_begin::begin;
 use promotion_levels::{depth_at, held_at, levels_at, won_at};
 use promotion_rounds::round::State;
 use promotion_rounds::solve::solve;
-use solver::{Engine, Unsolved};
+use solver::{Engine, Solver, Unsolved};
 
 // Priority promotion as a solver.
 pub struct PriorityPromotion;
@@ -62,6 +62,25 @@ impl Engine for PriorityPromotion {
         solver::write_out(owners, s, entries, won, work, even, odd, strategy);
         sets::clear(work, 0, work.len());
         Some(end.rounds)
+    }
+}
+
+impl Solver for PriorityPromotion {
+    fn solve(
+        owners: &[u8],
+        priorities: &[u16],
+        offsets: &[u16],
+        targets: &[u16],
+        kept: &[u64],
+        budget: u64,
+        even: &mut [u64],
+        odd: &mut [u64],
+        strategy: &mut [u16],
+        work: &mut [u64],
+    ) -> Result<u64, Unsolved> {
+        solve_priority_promotion(
+            owners, priorities, offsets, targets, kept, budget, even, odd, strategy, work,
+        )
     }
 }
 

@@ -5,10 +5,10 @@ ghost use Rattle.rules.specs.Solver.{Lent, Solves};
 ghost use Rattle.solver.specs.Unsolved.{said};
 ghost use Rattle.telling.specs.Doors.{told};
 
-use solver::{Engine, Unsolved};
+use solver::{Solver, Unsolved};
 
 // The record is checked, and past that its first entries are solved.
-pub fn solve<E: Engine>(
+pub fn solve<E: Solver>(
     n: usize,
     m: usize,
     owners: &[u8],
@@ -45,7 +45,7 @@ pub fn solve<E: Engine>(
         (said result))) }
 {
     record::check_record(n, m, owners, priorities, offsets, targets, kept)?;
-    solver::solve::<E>(
+    E::solve(
         &owners[..n],
         &priorities[..n],
         &offsets[..n + 1],

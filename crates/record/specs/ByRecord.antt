@@ -1,13 +1,13 @@
 -- What a door that takes a record goes by. It calls `check_record` first and tells its refusal; past that it lends its own
 -- function the first n, n, n + 1 and m entries, which are accepted tables, with kept numbers that are a fresh count of them.
-use Rattle.std.specs.Prelude.{◌≡◌, refl, ℕ, Result, ◌+◌, ◌-◌, take, drop}
-use Rattle.std.proofs.Common.{sym, ap, subst, ◌∙◌}
+use Rattle.std.specs.Prelude.{◌≡◌, refl, ℕ, Err, ◌+◌, ◌-◌, take, drop}
+use Rattle.std.proofs.Common.{sym, ap, subst, ◌∙◌, arith}
 use Rattle.rules.specs.Outcome.{Outcome, Verdict, none, refused, outcome, answered, Unless}
 use Rattle.rules.specs.Record.{Record, record_checks, tables_in, fresh_count, ByRecord}
 use Rattle.rules.specs.Tables.{Tables, tables_of, Accepted}
 use Rattle.parity_game.specs.declared.refusal.Refusal.{Refusal}
-use Rattle.parity_game.specs.Said.{said}
-use Rattle.parity_game.specs.Laws.{zero_none}
+use Rattle.parity_game.specs.Said.{refusal_of, verdict}
+use Rattle.parity_game.specs.Laws.{Numbered, zero_none, refused_outcome}
 use Rattle.theory.specs.Edits.{Roomy, passing}
 use Rattle.record.specs.Laws.{numbered_record, part_front, part_fronts}
 
@@ -29,24 +29,37 @@ unless_refused (refused k p) x Else h = (refl, refl)
 
 -- what `check_record` refuses is told, and nothing was written
 pub refused_first :
-    {A : Type 0} {k : ℕ} {o : Outcome} (r : Record) (x : A) (Does : Outcome → Tables → Type 0) (a : Result ℕ Refusal) →
+    {A : Type 0} {k : ℕ} {o : Outcome} (r : Record) (x : A) (Does : Outcome → Tables → Type 0) (a : Outcome) →
     (k ≡ 0 → ⊥) →
-    k ≡ (said a).number →
-    said a ≡ outcome (record_checks r) (answered 0) →
-    said a ≡ o →
+    k ≡ a.number →
+    a ≡ outcome (record_checks r) (answered 0) →
+    a ≡ o →
     ByRecord r o x x (Does o)
 refused_first {o = o} r x Does a h number e tells =
     subst (λ (y : Outcome). ByRecord r y x x (Does o)) (sym e ∙ tells)
     (unless_refused (record_checks r) x (Does o (tables_in r)) (λ z. h (number ∙ ap (λ (y : Outcome). y.number) e ∙ z)))
 
+-- the same of the refusal that it hands over
+pub refusal_first :
+    {A : Type 0} {o : Outcome} (r : Record) (x : A) (Does : Outcome → Tables → Type 0) (e : Refusal) →
+    verdict (Err e) ≡ record_checks r →
+    refusal_of e ≡ o →
+    ByRecord r o x x (Does o)
+refusal_first r x Does e h tells =
+    refused_first r x Does (refusal_of e) some refl (refused_outcome e (record_checks r) (answered 0) h) tells
+  where
+    some : (refusal_of e).number ≡ 0 → ⊥
+    some z =
+        let above : Numbered (verdict (Err e)) = subst Numbered (sym h) (numbered_record r) in absurd (omega (arith))
+
 -- ---- passed
 
 -- past that test the record passes
 pub passed :
-    {k : ℕ} (r : Record) (a : Result ℕ Refusal) →
+    {k : ℕ} (r : Record) (a : Outcome) →
     k ≡ 0 →
-    k ≡ (said a).number →
-    said a ≡ outcome (record_checks r) (answered 0) →
+    k ≡ a.number →
+    a ≡ outcome (record_checks r) (answered 0) →
     record_checks r ≡ none
 passed r a z number e =
     zero_none (record_checks r) (answered 0) (numbered_record r) (sym (ap (λ (o : Outcome). o.number) e) ∙ sym number ∙ z)
@@ -63,10 +76,20 @@ passed_kept r ok = rw (part_front r.n r.priorities) (passing r ok).fresh
 
 -- and what the door's function does with the tables lent, the door does with the record's
 pub done_past :
-    {A : Type 0} {o : Outcome} (r : Record) (before after : A) (Does : Outcome → Tables → Type 0) (a : Result ℕ Refusal) →
+    {A : Type 0} {o : Outcome} (r : Record) (before after : A) (Does : Outcome → Tables → Type 0) (a : Outcome) →
     record_checks r ≡ none →
-    Does (said a) (lent_tables r) →
-    said a ≡ o →
+    Does a (lent_tables r) →
+    a ≡ o →
     ByRecord r o before after (Does o)
 done_past {o = o} r before after Does a ok does tells =
-    rw ok (subst (λ (x : Outcome). Does x (tables_in r)) tells (subst (Does (said a)) (part_fronts r) does))
+    rw ok (subst (λ (x : Outcome). Does x (tables_in r)) tells (subst (Does a) (part_fronts r) does))
+
+-- the same of the first entries as they stand
+pub done_first :
+    {A : Type 0} {o : Outcome} (r : Record) (before after : A) (Does : Outcome → Tables → Type 0) (a : Outcome) →
+    record_checks r ≡ none →
+    Does a (tables_in r) →
+    a ≡ o →
+    ByRecord r o before after (Does o)
+done_first r before after Does a ok does tells =
+    done_past r before after Does a ok (subst (Does a) (sym (part_fronts r)) does) tells

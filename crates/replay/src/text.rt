@@ -12,11 +12,12 @@ pub struct Read {
 pub fn number(list: &[u8], from: usize) -> Read
     ensures { result.value < 65536 }
 {
+    let rest = list.get(from..).unwrap_or(&[]);
     let mut low: u16 = 0;
     let mut next = from.max(list.len());
-    for (i, &c) in list.iter().enumerate().skip(from) {
+    for (i, &c) in rest.iter().enumerate() {
         if !c.is_ascii_digit() {
-            next = i + 1;
+            next = from + i + 1;
             break;
         }
         low = low.wrapping_mul(10).wrapping_add((c - b'0') as u16);
@@ -79,12 +80,11 @@ pub fn is_dash(list: &[u8], at: usize) -> bool {
 
 // Where the next line begins.
 pub fn line_end(list: &[u8], from: usize) -> usize {
-    for (i, &c) in list.iter().enumerate().skip(from) {
-        if c == b'\n' {
-            return i + 1;
-        }
+    let rest = list.get(from..).unwrap_or(&[]);
+    match rest.iter().position(|&c| c == b'\n') {
+        Some(i) => from + i + 1,
+        None => from.max(list.len()),
     }
-    from.max(list.len())
 }
 
 // How many lines there are.

@@ -32,5 +32,5 @@ pub fn copy_with(words: &mut [u64], into: usize, from: usize, s: usize)
     requires { Parts into from s words.old }
     ensures { Combined other into from s words.old words.new }
 {
-    words.copy_within(from..from + s, into);
+    combine(words, into, from, s, |_, y| y);
 }

@@ -93,3 +93,36 @@ pub fn solve<E: Engine>(
     )
     .ok_or(Unsolved::OverBudget(budget))
 }
+
+// A solver by the function that its crate gives for it.
+pub trait Solver: Engine {
+    fn solve(
+        owners: &[u8],
+        priorities: &[u16],
+        offsets: &[u16],
+        targets: &[u16],
+        kept: &[u64],
+        budget: u64,
+        even: &mut [u64],
+        odd: &mut [u64],
+        strategy: &mut [u16],
+        work: &mut [u64],
+    ) -> Result<u64, Unsolved>
+        requires { FreshlyCounted (tables_of owners.now priorities.now offsets.now targets.now) kept.now }
+        ensures { let t =
+            tables_of owners.now priorities.now offsets.now targets.now in
+            Solves budget t (Self.needed t) (Self.won t) (Self.entries t)
+            (record {
+              even = even.old;
+              odd = odd.old;
+              strategy = strategy.old;
+              work = work.old;
+            })
+            (record {
+              even = even.new;
+              odd = odd.new;
+              strategy = strategy.new;
+              work = work.new;
+            })
+            (said result) };
+}

@@ -6,7 +6,7 @@ mod engine;
 mod outputs;
 mod unsolved;
 
-pub use engine::{Engine, solve};
+pub use engine::{Engine, Solver, solve};
 pub use outputs::write_out;
 pub use solver_start::prepare;
 pub use unsolved::Unsolved;

@@ -12,7 +12,7 @@ ghost use Rattle.zielonka_recursion.specs.Ending.{Under};
 use area::Area;
 use kept_numbers::HIGHEST;
 use parity_game::Priority;
-use solver::{Engine, Unsolved};
+use solver::{Engine, Solver, Unsolved};
 use zielonka_level::{levels_at, odd_at};
 use zielonka_recursion::zielonka_rec;
 
@@ -98,6 +98,25 @@ impl Engine for Zielonka {
             odd,
             strategy,
             work,
+        )
+    }
+}
+
+impl Solver for Zielonka {
+    fn solve(
+        owners: &[u8],
+        priorities: &[u16],
+        offsets: &[u16],
+        targets: &[u16],
+        kept: &[u64],
+        budget: u64,
+        even: &mut [u64],
+        odd: &mut [u64],
+        strategy: &mut [u16],
+        work: &mut [u64],
+    ) -> Result<u64, Unsolved> {
+        solve_zielonka(
+            owners, priorities, offsets, targets, kept, budget, even, odd, strategy, work,
         )
     }
 }

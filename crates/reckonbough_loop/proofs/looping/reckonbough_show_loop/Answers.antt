@@ -4,7 +4,11 @@ use mathlib.Core.Path.{sym}
 use Prim.Native.Nat.{◌+◌}
 use native.Mathlib.Omega.{arith}
 use Rattle.std.proofs.Common.{length-take}
+use Rattle.parity_game.specs.Said.{said}
+use Rattle.rules.specs.Loop.{LentRun, ShowsLoop}
+use Rattle.show_loop.specs.Running.{lent_of}
 use Rattle.theory.specs.Edits.{passing}
+use Rattle.record.specs.ByRecord.{refusal_first, done_first}
 use Rattle.reckonbough_loop.proofs.looping.reckonbough_show_loop.Goals as goal
 
 pub slice_bounds-show_loop-end : goal.slice_bounds-show_loop-end
@@ -28,3 +32,21 @@ slice_bounds-show_loop-end-in-Ok-3 c =
 
 pub show_loop-done-requires : goal.show_loop-done-requires
 show_loop-done-requires c = let p = passing _ (sym c.in-Ok.ensures) in (p.accepted, p.fresh)
+
+-- what is told and left past the check of the record
+pub returns-in-Ok : goal.returns-in-Ok
+returns-in-Ok c =
+    let at = c.args in
+    let did = c.show_loop-done.new in
+    let before : LentRun = lent_of at.path.now at.cycle.now at.work.now 0 in
+    let after : LentRun = lent_of did.path did.cycle did.work did.path_length in
+    done_first _ before after (λ o t. ShowsLoop t at.vertex before after o) (said c.show_loop-done.result) (sym c.in-Ok.ensures)
+    c.show_loop-done.ensures
+    c.tell.ensures
+
+pub returns-in-Err : goal.returns-in-Err
+returns-in-Err c =
+    let at = c.args in
+    let lent : LentRun = lent_of at.path.now at.cycle.now at.work.now 0 in
+    refusal_first _ lent (λ o t. ShowsLoop t at.vertex lent lent o) c.in-Err.refused c.in-Err.ensures
+    c.tell-in-Err.ensures

@@ -4,7 +4,10 @@ use mathlib.Core.Path.{sym}
 use Prim.Native.Nat.{◌+◌}
 use native.Mathlib.Omega.{arith}
 use Rattle.std.proofs.Common.{length-take}
+use Rattle.parity_game.specs.Said.{said}
+use Rattle.rules.specs.SecondOpinion.{LentSets, GivesOpinion}
 use Rattle.theory.specs.Edits.{passing}
+use Rattle.record.specs.ByRecord.{refusal_first, done_first}
 use Rattle.reckonbough_opinion.proofs.opinion.reckonbough_quasi_polynomial.Goals as goal
 
 pub slice_bounds-solve_quasi_polynomial-end : goal.slice_bounds-solve_quasi_polynomial-end
@@ -28,3 +31,21 @@ slice_bounds-solve_quasi_polynomial-end-in-Ok-3 c =
 
 pub solve_quasi_polynomial-done-requires : goal.solve_quasi_polynomial-done-requires
 solve_quasi_polynomial-done-requires c = let p = passing _ (sym c.in-Ok.ensures) in record { accepted = p.accepted; fresh = p.fresh }
+
+-- what is told and left past the check of the record
+pub returns-in-Ok : goal.returns-in-Ok
+returns-in-Ok c =
+    let at = c.args in
+    let did = c.solve_quasi_polynomial-done.new in
+    let before : LentSets = record { even = at.even.now; odd = at.odd.now; work = at.work.now } in
+    let after : LentSets = record { even = did.even; odd = did.odd; work = did.work } in
+    done_first _ before after (λ o t. GivesOpinion t before after o) (said c.solve_quasi_polynomial-done.result) (sym c.in-Ok.ensures)
+    c.solve_quasi_polynomial-done.ensures
+    c.tell.ensures
+
+pub returns-in-Err : goal.returns-in-Err
+returns-in-Err c =
+    let at = c.args in
+    let lent : LentSets = record { even = at.even.now; odd = at.odd.now; work = at.work.now } in
+    refusal_first _ lent (λ o t. GivesOpinion t lent lent o) c.in-Err.refused c.in-Err.ensures
+    c.tell-in-Err.ensures

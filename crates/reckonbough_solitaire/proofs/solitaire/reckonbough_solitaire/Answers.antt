@@ -4,7 +4,11 @@ use mathlib.Core.Path.{sym}
 use Prim.Native.Nat.{◌+◌}
 use native.Mathlib.Omega.{arith}
 use Rattle.std.proofs.Common.{length-take}
+use Rattle.parity_game.specs.Said.{said}
+use Rattle.rules.specs.Solitaire.{LentSet, SolvesSolitaire}
+use Rattle.solitaire_game.specs.Running.{lent_of}
 use Rattle.theory.specs.Edits.{passing}
+use Rattle.record.specs.ByRecord.{refusal_first, done_first}
 use Rattle.reckonbough_solitaire.proofs.solitaire.reckonbough_solitaire.Goals as goal
 
 pub slice_bounds-solve_solitaire_game-end : goal.slice_bounds-solve_solitaire_game-end
@@ -28,3 +32,21 @@ slice_bounds-solve_solitaire_game-end-in-Ok-3 c =
 
 pub solve_solitaire_game-done-requires : goal.solve_solitaire_game-done-requires
 solve_solitaire_game-done-requires c = let p = passing _ (sym c.in-Ok.ensures) in (p.accepted, p.fresh)
+
+-- what is told and left past the check of the record
+pub returns-in-Ok : goal.returns-in-Ok
+returns-in-Ok c =
+    let at = c.args in
+    let did = c.solve_solitaire_game-done.new in
+    let before : LentSet = lent_of at.set.now at.work.now in
+    let after : LentSet = lent_of did.set did.work in
+    done_first _ before after (λ o t. SolvesSolitaire t before after o) (said c.solve_solitaire_game-done.result) (sym c.in-Ok.ensures)
+    c.solve_solitaire_game-done.ensures
+    c.tell.ensures
+
+pub returns-in-Err : goal.returns-in-Err
+returns-in-Err c =
+    let at = c.args in
+    let lent : LentSet = lent_of at.set.now at.work.now in
+    refusal_first _ lent (λ o t. SolvesSolitaire t lent lent o) c.in-Err.refused c.in-Err.ensures
+    c.tell-in-Err.ensures
