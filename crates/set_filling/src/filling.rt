@@ -12,12 +12,15 @@ pub fn clear(words: &mut [u64], at: usize, s: usize)
     words[at..at + s].fill(0);
 }
 
-// A set becomes another, of as many words.
+// A set becomes another, of as many words. A loop, since `copy_from_slice` calls `memmove`, which nothing else of the
+// library for C needs.
 pub fn copy_from(set: &mut [u64], from: &[u64])
     requires { length set.old ≡ length from.now }
     ensures { set.new ≡ from.now }
 {
-    set.copy_from_slice(from);
+    for i in 0..from.len() {
+        set[i] = from[i];
+    }
 }
 
 // All bits of the first words become 1.

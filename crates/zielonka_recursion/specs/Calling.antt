@@ -229,6 +229,13 @@ pub counted_one :
 counted_one {calls} {budget} (over, counted) is =
     ⊎_elim (λ l. (l, let more = counted l in cc)) (λ l. let none = over l in cc) (lt_or_ge calls budget)
 
+pub counted_more :
+    {calls budget used : ℕ} {r : Option ℕ} →
+    (budget ≤ calls → r ≡ None) × (calls < budget → r ≡ Some (calls + 1)) →
+    r ≡ Some used →
+    used ≡ calls + 1
+counted_more counts is = (counted_one counts is).1
+
 module _ {t : Tables} {s base p : ℕ} {w₀ w₁ : List ℕ} (b : FirstCut t s base p w₀ w₁) where
   -- no priority there is above p − 1: every vertex of priority p was drawn
   first_under : (v : ℕ) → on_level t (next_level (words (vertices t)) base) w₁ v ≡ true → get_or t.priorities v 0 ≤ p - 1
@@ -278,16 +285,16 @@ module _ {t : Tables} {s base p : ℕ} {w₀ w₁ : List ℕ} (b : FirstCut t s 
     begun_over calls budget over = over_nested b.called calls budget b.top b.cut (rw (next, b.ready.size) at over)
 
     -- this call was counted
-    module _
-        {calls budget used : ℕ} {r : Option ℕ}
-        (counts : (budget ≤ calls → r ≡ None) × (calls < budget → r ≡ Some (calls + 1)))
-        (is : r ≡ Some used)
-      where
-        pub begun_made : {made : ℕ} {w₂ : List ℕ} → Done t up used budget made w₁ w₂ → Came t s base p calls budget made w₀ w₁ w₂
-        begun_made {made} {w₂} d = begun_came (subst (λ (k : ℕ). Done t up k budget made w₁ w₂) (counted_one counts is).1 d)
+    pub begun_made :
+        {calls budget used made : ℕ} {w₂ : List ℕ} →
+        used ≡ calls + 1 →
+        Done t up used budget made w₁ w₂ →
+        Came t s base p calls budget made w₀ w₁ w₂
+    begun_made {calls} {budget} {used} {made} {w₂} counted d =
+        begun_came (subst (λ (k : ℕ). Done t up k budget made w₁ w₂) counted d)
 
-        pub begun_beyond : Over t up used budget w₁ → Over t base calls budget w₀
-        begun_beyond over = begun_over calls budget (subst (λ (k : ℕ). Over t up k budget w₁) (counted_one counts is).1 over)
+    pub begun_beyond : {used : ℕ} (calls budget : ℕ) → used ≡ calls + 1 → Over t up used budget w₁ → Over t base calls budget w₀
+    begun_beyond calls budget counted over = begun_over calls budget (subst (λ (k : ℕ). Over t up k budget w₁) counted over)
 
 module _ {t : Tables} {s base p calls budget made : ℕ} {w₀ w₁ w₂ : List ℕ} (c : Came t s base p calls budget made w₀ w₁ w₂) where
   sized : s ≡ words (vertices t)

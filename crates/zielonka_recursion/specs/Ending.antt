@@ -1,5 +1,5 @@
 -- What a call asks for, and how it ends, by what it gives.
-use Rattle.std.specs.Prelude.{true, List, ◌≡◌, ℕ, ◌≤◌, ◌<◌, get_or, Option, Some, None}
+use Rattle.std.specs.Prelude.{true, List, ◌≡◌, ℕ, ◌+◌, ◌≤◌, ◌<◌, get_or, Option, Some, None}
 use Rattle.std.proofs.Common.{subst}
 use Rattle.rules.specs.Tables.{Tables, vertices}
 use Rattle.zielonka_level.specs.Level.{on_level, Called, Done, Over}
@@ -35,3 +35,11 @@ ends_done {t} {base} {calls} {budget} {made} {before} {after} d =
       over = λ e. cc;
       done = λ k e. let same : made ≡ k = cc in subst (λ (x : ℕ). Done t base calls budget x before after) same d;
     }
+
+-- it has ended with one call more, its own
+pub ends_one :
+    {t : Tables} {base calls budget made : ℕ} {before after : List ℕ} →
+    made ≡ calls + 1 →
+    Done t base calls budget (calls + 1) before after →
+    Ends t base calls budget before after (Some made)
+ends_one more d = rw more (ends_done d)
